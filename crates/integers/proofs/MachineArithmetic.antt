@@ -1,0 +1,203 @@
+-- What code computes in signed numbers of fixed width, against the same expression over `ℤ`: by computation.
+use Rattle.std.proofs.Common.{◌≡◌, refl, sym, ◌∙◌, ap, ap₂, subst, ℕ, zero, suc, ◌+◌, ◌*◌, ◌^◌, ℤ, pos, negsuc, ◌+ℤ◌, ◌*ℤ◌, neg_ℤ, arith, List, [], ◌∷◌, Bool, true, false, T, ltb, ltb→lt, leb, zero-le, FitsSigned, to_z, of_z, to_z-of_z}
+use Rattle.std.proofs.lemmas.Int.{ints, fits_signed_from_abs}
+use mir.Syntax.{Width}
+use mir.Val.{hbits}
+use Rattle.integers.specs.Size.{Size}
+use Rattle.integers.proofs.Sizes.{size_add, size_mul, size_neg, size_more}
+use Rattle.integers.proofs.Polynomials.{Expr, var, lit, ◌⊕◌, ◌⊗◌, neg, ring, eval, Same, nth}
+
+-- an expression of code: `back w e` is e as it comes back from its bits
+pub data Code : Type 0 where
+  input : ℕ → Code
+  numeral : ℕ → Code
+  plus : Code → Code → Code
+  times : Code → Code → Code
+  minus : Code → Code
+  back : Width → Code → Code
+
+-- its expression over `ℤ`
+abbrev pub meant : Code → Expr
+meant (input i) = var i
+meant (numeral n) = lit n
+meant (plus e f) = meant e ⊕ meant f
+meant (times e f) = meant e ⊗ meant f
+meant (minus e) = neg (meant e)
+meant (back w e) = meant e
+
+abbrev pub result_of : List ℤ → Code → ℤ
+result_of xs (input i) = nth xs i
+result_of xs (numeral n) = pos n
+result_of xs (plus e f) = result_of xs e +ℤ result_of xs f
+result_of xs (times e f) = result_of xs e *ℤ result_of xs f
+result_of xs (minus e) = neg_ℤ (result_of xs e)
+result_of xs (back w e) = to_z w (of_z w (result_of xs e))
+
+abbrev pub bound_at : List ℕ → ℕ → ℕ
+bound_at [] i = 0
+bound_at (n ∷ ns) zero = n
+bound_at (n ∷ ns) (suc i) = bound_at ns i
+
+abbrev pub bound : List ℕ → Code → ℕ
+bound ns (input i) = bound_at ns i
+bound ns (numeral n) = n
+bound ns (plus e f) = bound ns e + bound ns f
+bound ns (times e f) = bound ns e * bound ns f
+bound ns (minus e) = bound ns e
+bound ns (back w e) = bound ns e
+
+abbrev pub both : Bool → Bool → Bool
+both true b = b
+both false b = false
+
+-- each number that goes to its bits fits them
+abbrev pub fits_all : List ℕ → Code → Bool
+fits_all ns (input i) = true
+fits_all ns (numeral n) = true
+fits_all ns (plus e f) = both (fits_all ns e) (fits_all ns f)
+fits_all ns (times e f) = both (fits_all ns e) (fits_all ns f)
+fits_all ns (minus e) = fits_all ns e
+fits_all ns (back w e) = both (fits_all ns e) (ltb (bound ns e) (2 ^ hbits w))
+
+-- the inputs' sizes
+pub record Sizes (ns : List ℕ) (xs : List ℤ) : Type 0 where
+  pub each : (i : ℕ) → Size (bound_at ns i) (nth xs i)
+
+both_first : (a b : Bool) → T (both a b) → T a
+both_first true b t = tt
+both_first false b t = t
+
+both_second : (a b : Bool) → T (both a b) → T b
+both_second true b t = t
+both_second false b t = absurd t
+
+record Exact (ns : List ℕ) (xs : List ℤ) (e : Code) : Type 0 where
+  is : result_of xs e ≡ eval xs (meant e)
+  size : Size (bound ns e) (eval xs (meant e))
+
+size_numeral : (n : ℕ) → Size n (pos n)
+size_numeral n = record { abs = omega (arith, ints) }
+
+fits_size : (w : Width) {z : ℤ} {n : ℕ} → Size n z → T (ltb n (2 ^ hbits w)) → FitsSigned w z
+fits_size w {z} {n} h t = let below = ltb→lt n (2 ^ hbits w) t in fits_signed_from_abs w z (omega (arith, h.abs))
+
+exact : (ns : List ℕ) (xs : List ℤ) → Sizes ns xs → (e : Code) → T (fits_all ns e) → Exact ns xs e
+exact ns xs h (input i) t = record { is = refl; size = h.each i }
+exact ns xs h (numeral n) t = record { is = refl; size = size_numeral n }
+exact ns xs h (plus e f) t =
+    let a = exact ns xs h e (both_first (fits_all ns e) (fits_all ns f) t) in
+    let b = exact ns xs h f (both_second (fits_all ns e) (fits_all ns f) t) in
+    record { is = ap₂ (λ v w. v +ℤ w) a.is b.is; size = size_add a.size b.size }
+exact ns xs h (times e f) t =
+    let a = exact ns xs h e (both_first (fits_all ns e) (fits_all ns f) t) in
+    let b = exact ns xs h f (both_second (fits_all ns e) (fits_all ns f) t) in
+    record { is = ap₂ (λ v w. v *ℤ w) a.is b.is; size = size_mul a.size b.size }
+exact ns xs h (minus e) t =
+    let a = exact ns xs h e t in
+    record { is = ap neg_ℤ a.is; size = size_neg a.size }
+exact ns xs h (back w e) t =
+    let a = exact ns xs h e (both_first (fits_all ns e) (ltb (bound ns e) (2 ^ hbits w)) t) in
+    record { is = ap (λ z. to_z w (of_z w z)) a.is ∙ to_z-of_z (fits_size w a.size (both_second (fits_all ns e) (ltb (bound ns e) (2 ^ hbits w)) t)); size = a.size }
+
+-- ---- read off a goal
+
+unfoldable pub res : List ℤ → Code → ℤ
+res xs e = result_of xs e
+
+pub res-plus : (xs : List ℤ) (e f : Code) → res xs e +ℤ res xs f ≡ res xs (plus e f)
+unfolding res
+res-plus xs e f = refl
+
+pub res-times : (xs : List ℤ) (e f : Code) → res xs e *ℤ res xs f ≡ res xs (times e f)
+unfolding res
+res-times xs e f = refl
+
+pub res-minus : (xs : List ℤ) (e : Code) → neg_ℤ (res xs e) ≡ res xs (minus e)
+unfolding res
+res-minus xs e = refl
+
+pub res-back : (xs : List ℤ) (w : Width) (e : Code) → to_z w (of_z w (res xs e)) ≡ res xs (back w e)
+unfolding res
+res-back xs w e = refl
+
+pub ruleset codes = (res-plus, res-times, res-minus, res-back)
+
+-- for each numeral of the goal, as `number xs 2`, and `number_below xs 6` for -7: a rule for every n would also fit inside `to_z`
+pub number : (xs : List ℤ) (n : ℕ) → pos n ≡ res xs (numeral n)
+unfolding res
+number xs n = refl
+
+pub number_below : (xs : List ℤ) (n : ℕ) → negsuc n ≡ res xs (minus (numeral (suc n)))
+unfolding res
+number_below xs n = refl
+
+-- the code's value is the same polynomial as the other side
+pub computes : {ns : List ℕ} (xs : List ℤ) → Sizes ns xs → (e f : Code) → T (both (fits_all ns e) (fits_all ns f)) → Same (meant e) (meant f) → res xs e ≡ res xs f
+unfolding res
+computes {ns} xs h e f t s =
+    (exact ns xs h e (both_first (fits_all ns e) (fits_all ns f) t)).is
+    ∙ ring xs (meant e) (meant f) s
+    ∙ sym (exact ns xs h f (both_second (fits_all ns e) (fits_all ns f) t)).is
+
+-- the code's value fits
+pub fits : {ns : List ℕ} (xs : List ℤ) → Sizes ns xs → (w : Width) (e : Code) → T (both (fits_all ns e) (ltb (bound ns e) (2 ^ hbits w))) → FitsSigned w (res xs e)
+unfolding res
+fits {ns} xs h w e t =
+    let a = exact ns xs h e (both_first (fits_all ns e) (ltb (bound ns e) (2 ^ hbits w)) t) in
+    subst (FitsSigned w) (sym a.is) (fits_size w a.size (both_second (fits_all ns e) (ltb (bound ns e) (2 ^ hbits w)) t))
+
+-- ---- the inputs
+
+abbrev pub Inputs : List ℤ → ℕ → List ℤ → Type 0 → Type 0
+Inputs [] i xs P = P
+Inputs (v ∷ vs) i xs P = v ≡ res xs (input i) → Inputs vs (suc i) xs P
+
+abbrev at : List ℤ → ℕ → List ℤ → Type 0
+at [] i xs = Unit {0}
+at (v ∷ vs) i xs = (v ≡ nth xs i) × at vs (suc i) xs
+
+at-more : (v : ℤ) (us xs : List ℤ) (i : ℕ) → at us i xs → at us (suc i) (v ∷ xs)
+at-more v [] xs i h = tt
+at-more v (u ∷ us) xs i h = (h.0, at-more v us xs (suc i) h.1)
+
+at_all : (vs : List ℤ) → at vs 0 vs
+at_all [] = tt
+at_all (v ∷ vs) = (refl, at-more v vs vs 0 (at_all vs))
+
+give : (vs : List ℤ) (i : ℕ) (xs : List ℤ) (P : Type 0) → at vs i xs → Inputs vs i xs P → P
+unfolding res
+give [] i xs P h f = f
+give (v ∷ vs) i xs P h f = give vs (suc i) xs P h.1 (f h.0)
+
+-- a number with a limit on its size
+pub record Given : Type 0 where
+  pub value : ℤ
+  pub limit : ℕ
+  pub size : Size limit value
+
+abbrev pub given : {n : ℕ} {z : ℤ} → Size n z → Given
+given {n} {z} h = record { value = z; limit = n; size = h }
+
+abbrev pub values : List Given → List ℤ
+values [] = []
+values (g ∷ gs) = g.value ∷ values gs
+
+abbrev pub limits : List Given → List ℕ
+limits [] = []
+limits (g ∷ gs) = g.limit ∷ limits gs
+
+size_at : (gs : List Given) (i : ℕ) → Size (bound_at (limits gs) i) (nth (values gs) i)
+size_at [] i = record { abs = zero-le }
+size_at (g ∷ gs) zero = g.size
+size_at (g ∷ gs) (suc i) = size_at gs i
+
+-- for `simp`, at a goal of code over these numbers
+pub with_inputs : (gs : List Given) {P : Type 0} → ((xs : List ℤ) → Sizes (limits gs) xs → Inputs (values gs) 0 xs P) → P
+with_inputs gs {P} f = give (values gs) 0 (values gs) P (at_all (values gs)) (f (values gs) (record { each = size_at gs }))
+
+-- the code's value is at most n in size
+pub size_within : {ns : List ℕ} (xs : List ℤ) → Sizes ns xs → {n : ℕ} (e : Code) → T (both (fits_all ns e) (leb (bound ns e) n)) → Size n (res xs e)
+unfolding res
+size_within {ns} xs h {n} e t =
+    let a = exact ns xs h e (both_first (fits_all ns e) (leb (bound ns e) n) t) in
+    subst (Size n) (sym a.is) (size_more a.size (both_second (fits_all ns e) (leb (bound ns e) n) t))

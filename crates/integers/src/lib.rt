@@ -1,0 +1,2 @@
+//! Laws of whole numbers that every proof of the project stands on.
+#![tactic(auto)]
