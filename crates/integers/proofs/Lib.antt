@@ -6,3 +6,4 @@ pub mod Sums
 pub mod Fractions
 pub mod Sizes
 pub mod MachineArithmetic
+pub mod Extremes
