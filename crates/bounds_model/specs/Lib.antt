@@ -4,4 +4,6 @@ pub mod Fractions
 pub mod Best
 pub mod Centres
 pub mod CentresAnswer
+pub mod CentresText
+pub mod PointText
 pub mod Words

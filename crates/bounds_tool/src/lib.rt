@@ -1,0 +1,5 @@
+//! The tool.
+#![tactic(auto)]
+
+mod printing;
+mod square;
