@@ -7,3 +7,4 @@ pub mod Fractions
 pub mod Sizes
 pub mod MachineArithmetic
 pub mod Extremes
+pub mod Divisors
