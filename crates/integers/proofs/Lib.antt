@@ -8,3 +8,4 @@ pub mod Sizes
 pub mod MachineArithmetic
 pub mod Extremes
 pub mod Divisors
+pub mod LowestTerms

@@ -1,3 +1,4 @@
 pub mod Size
 pub mod Total
 pub mod Extremes
+pub mod LowestTerms
