@@ -9,3 +9,4 @@ pub mod MachineArithmetic
 pub mod Extremes
 pub mod Divisors
 pub mod LowestTerms
+pub mod Gaps
