@@ -10,3 +10,6 @@ pub mod Extremes
 pub mod Divisors
 pub mod LowestTerms
 pub mod Gaps
+pub mod Lagrange
+pub mod Cone
+pub mod Cramer

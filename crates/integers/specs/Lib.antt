@@ -2,3 +2,4 @@ pub mod Size
 pub mod Total
 pub mod Extremes
 pub mod LowestTerms
+pub mod Determinants
