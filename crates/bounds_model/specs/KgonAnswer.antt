@@ -1,0 +1,56 @@
+-- The answers on polygons, and what a checker asks of them.
+use Rattle.std.specs.Prelude.{◌≡◌, ℕ, ◌+◌, ◌-◌, ◌*◌, ◌/◌, ◌<◌, ◌≤◌, min, if◌then◌else◌, nat_lt, ℤ, pos, ◌+ℤ◌, ◌*ℤ◌, ◌≤ℤ◌, List, length, map, All, slice_index_or}
+use Rattle.bounds_model.specs.Numbers.{HasCount, EachBelow}
+use Rattle.bounds_model.specs.Plane.{PlanePoint, point_at, turn}
+use Rattle.bounds_model.specs.Fractions.{Fraction, SameValue}
+use Rattle.bounds_model.specs.CornerTest.{CornersPass}
+use Rattle.bounds_model.specs.Kgon.{FitsKgon, kgon_size}
+use Rattle.bounds_model.specs.Places.{IsFraction, IsNatural, point_limit}
+
+-- the numbers of the hull's corners, the positions of the chosen ones, and potentials in layers
+pub record KgonAnswer : Type 0 where
+  pub size : Fraction
+  pub corners : List ℕ
+  pub chosen : List ℕ
+  pub layers : ℕ
+  pub potentials : List ℤ
+
+-- the corners as points
+abbrev pub corner_points : List PlanePoint → KgonAnswer → List PlanePoint
+corner_points points a = map (point_at points) a.corners
+
+-- how many pairs of positions below count have a first one below a
+abbrev pub pairs_before : ℕ → ℕ → ℕ
+pairs_before count a = a * (2 * count - a - 1) / 2
+
+-- all numbers are in their places
+pub record KgonPlaces (a : KgonAnswer) : Type 0 where
+  pub size : IsFraction a.size
+  pub corner_count : HasCount 1 128 a.corners
+  pub corners : All (λ number. number ≤ point_limit) a.corners
+  pub chosen_count : HasCount 1 12 a.chosen
+  pub chosen : All (λ i. i ≤ 127) a.chosen
+  pub layers : a.layers ≤ 10
+  pub potential_count : length a.potentials ≡ a.layers * pairs_before (length a.corners) (length a.corners)
+  pub potentials : All IsNatural a.potentials
+
+-- the potential of the positions a and b in a layer, which is 0 below the first layer: the list has the positions a in order, for each its layers, for each the positions b after a
+abbrev pub potential : KgonAnswer → ℕ → ℕ → ℕ → ℤ
+potential answer a layer b =
+    if nat_lt 0 layer then slice_index_or answer.potentials (answer.layers * pairs_before (length answer.corners) a + (layer - 1) * (length answer.corners - 1 - a) + (b - a - 1)) (pos 0) else pos 0
+
+-- a potential grows by at least the triangle that one more corner adds
+abbrev pub Grows : List PlanePoint → KgonAnswer → ℕ → ℕ → ℕ → ℕ → Type 0
+Grows corners answer layer a b c =
+    (potential answer a layer b +ℤ turn (point_at corners a) (point_at corners b) (point_at corners c)) ≤ℤ potential answer a (layer + 1) c
+
+-- what a checker asks of a polygon
+pub record PassesKgon (k : ℕ) (points : List PlanePoint) (a : KgonAnswer) : Type 0 where
+  pub places : KgonPlaces a
+  pub numbers : All (λ number. number < length points) a.corners
+  pub corners : CornersPass points (corner_points points a)
+  pub chosen : FitsKgon k (corner_points points a) a.chosen
+  pub size : SameValue a.size (kgon_size (corner_points points a) a.chosen)
+  pub layers : a.layers ≡ min k (length a.corners) - 2
+  pub grows : EachBelow (length a.corners) (λ c. EachBelow c (λ b. EachBelow b (λ a'. EachBelow a.layers (λ layer. Grows (corner_points points a) a layer a' b c))))
+  pub under_size : All (λ u. (u *ℤ a.size.d) ≤ℤ (pos 2 *ℤ a.size.n)) a.potentials

@@ -1,0 +1,53 @@
+-- The answers on strips, and what a checker asks of them.
+use Rattle.std.specs.Prelude.{◌≢◌, ◌<◌, pos, ◌*ℤ◌, ◌≤ℤ◌, List, length, All}
+use Rattle.bounds_model.specs.Numbers.{IsWithin}
+use Rattle.bounds_model.specs.Plane.{PlanePoint, origin, dot, squared_length}
+use Rattle.bounds_model.specs.Fractions.{Fraction, SameValue}
+use Rattle.bounds_model.specs.Strip.{Span, Strip, IsInSpan, strip_size}
+use Rattle.bounds_model.specs.Places.{IsFraction, IsPair, IsSpan}
+use Rattle.bounds_model.specs.Fans.{HalfFan, HalfCone, half_directions, HoldsHalf, HalfPlaces, AtBothEnds, reach, IsShort, span_limit}
+
+-- a strip, and a fan over half a turn
+pub record StripAnswer : Type 0 where
+  pub size : Fraction
+  pub direction : PlanePoint
+  pub bounds : Span
+  pub fan : HalfFan
+
+-- the strip with this direction as its normal
+abbrev pub strip_of : StripAnswer → Strip
+strip_of a = record { normal = a.direction; bounds = a.bounds; w = pos 1 }
+
+-- all numbers are in their places
+pub record StripPlaces (a : StripAnswer) : Type 0 where
+  pub size : IsFraction a.size
+  pub direction : IsPair a.direction
+  pub bounds : IsSpan a.bounds
+  pub fan : HalfPlaces a.fan
+
+-- bounds within the checker's limit
+pub record IsShortSpan (span : Span) : Type 0 where
+  pub low : IsWithin span_limit span.low
+  pub high : IsWithin span_limit span.high
+
+-- the numbers of a fan are numbers of points
+abbrev pub NamesPoints : List PlanePoint → HalfFan → Type 0
+NamesPoints points fan = All (λ cone. (cone.high < length points) × (cone.low < length points)) fan.cones
+
+-- the strip around the points along this direction is not thinner than the size
+abbrev pub IsNotThinner : List PlanePoint → Fraction → PlanePoint → HalfCone → Type 0
+IsNotThinner points size d cone =
+    (size.n *ℤ squared_length d) ≤ℤ (reach points d cone.high cone.low *ℤ reach points d cone.high cone.low *ℤ size.d)
+
+-- what a checker asks of a strip
+pub record PassesStrip (points : List PlanePoint) (a : StripAnswer) : Type 0 where
+  pub places : StripPlaces a
+  pub numbers : NamesPoints points a.fan
+  pub short_directions : All IsShort (half_directions a.fan)
+  pub short_direction : IsShort a.direction
+  pub short_bounds : IsShortSpan a.bounds
+  pub normal : a.direction ≢ origin
+  pub fan : HoldsHalf points a.fan
+  pub not_thinner : AtBothEnds (half_directions a.fan) (IsNotThinner points a.size) a.fan.cones
+  pub inside : All (λ p. IsInSpan a.bounds (dot a.direction p)) points
+  pub size : SameValue a.size (strip_size (strip_of a))
