@@ -1,5 +1,5 @@
 -- The points that the program makes up for a demonstration.
-use Rattle.std.specs.Prelude.{ℕ, zero, suc, ◌+◌, ◌-◌, ◌*◌, ◌/◌, ◌%◌, ◌^◌, ℤ, pos, ◌-ℤ◌, ◌+ℤ◌, List, [], ◌∷◌}
+use Rattle.std.specs.Prelude.{ℕ, zero, suc, ◌+◌, ◌*◌, ◌/◌, ◌%◌, ◌^◌, ℤ, pos, ◌-ℤ◌, ◌+ℤ◌, List, [], ◌∷◌}
 use Rattle.bounds_model.specs.Plane.{PlanePoint}
 use Rattle.bounds_model.specs.Space.{SpacePoint}
 use Rattle.bounds_model.specs.Answers.{Ask, ask_sphere, ask_distance, Sets, plane, space, two}

@@ -1,6 +1,6 @@
 -- The kinds of fields: their form, the numbers in them, and the ranges of their places.
-use Rattle.std.specs.Prelude.{ℕ, zero, suc, ◌%◌, ◌+◌, ℤ, pos, int_le, nat_abs, nat_le, nat_lt, Bool, true, false, ◌&&◌, ◌||◌, ◌==◌, List, [], ◌∷◌, length, map, Option, Some, None}
-use Rattle.std.specs.List.{list_all, list_any}
+use Rattle.std.specs.Prelude.{ℕ, zero, suc, ◌%◌, ℤ, pos, int_le, nat_abs, nat_le, Bool, true, ◌&&◌, ◌==◌, List, [], ◌∷◌, length, Option, Some, None}
+use Rattle.std.specs.List.{list_all}
 use Rattle.std.specs.Str.{bytes_eq}
 use Rattle.std.specs.Prelude.{codes, if◌then◌else◌}
 use Rattle.bounds_model.specs.Fractions.{Fraction}
@@ -12,14 +12,14 @@ use Rattle.bounds_model.specs.AnswerText.Numerals.{◌>>=◌, natural_number, wh
 
 -- what may stand in a line
 pub data Field : Type 0 where
-  number : Field            -- a whole number
-  natural : Field           -- a number without a sign
-  naturals : ℕ → Field      -- so many numbers without a sign
-  index : ℕ → ℕ → Field     -- a number without a sign from a least to a greatest one
-  fraction : Field          -- a fraction in lowest terms, at least 0
-  plane_ratio : Field       -- three numbers, x and y over w
-  space_ratio : Field       -- four numbers, x, y and z over w
-  blocker : Field           -- the word `box`, or the number of a point
+  number : Field  -- a whole number
+  natural : Field  -- a number without a sign
+  naturals : ℕ → Field  -- so many numbers without a sign
+  index : ℕ → ℕ → Field  -- a number without a sign from a least to a greatest one
+  fraction : Field  -- a fraction in lowest terms, at least 0
+  plane_ratio : Field  -- three numbers, x and y over w
+  space_ratio : Field  -- four numbers, x, y and z over w
+  blocker : Field  -- the word `box`, or the number of a point
 
 -- what such a field says
 abbrev pub Value : Field → Type 0

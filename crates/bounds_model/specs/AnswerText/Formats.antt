@@ -7,8 +7,8 @@ use Rattle.bounds_model.specs.AnswerText.Fields.{Field, index, naturals, Value, 
 
 -- why a text is refused, and at which line
 pub data Refusal : Type 0 where
-  bad_answer : ℕ → Refusal    -- the line is not what the lines before it call for
-  big_number : ℕ → Refusal    -- a number of the line is past the limit
+  bad_answer : ℕ → Refusal  -- the line is not what the lines before it call for
+  big_number : ℕ → Refusal  -- a number of the line is past the limit
 
 -- one step after another, up to the first refusal
 infixl 10 ◌>>=◌
@@ -110,10 +110,10 @@ count_format count = titled count.word (index count.low count.high ∷ [])
 
 -- a part of a text
 pub data Part : Type 0 where
-  line : LineFormat → Part                 -- one line
+  line : LineFormat → Part  -- one line
   counted : Count → ℕ → List Field → Part  -- the line of a count, and as many lines, less a few
-  count : Count → Part                     -- the line of a count alone
-  rows : (List ℕ → List ℕ) → Part          -- lines of numbers, whose widths the counts so far give, the latest first
+  count : Count → Part  -- the line of a count alone
+  rows : (List ℕ → List ℕ) → Part  -- lines of numbers, whose widths the counts so far give, the latest first
 
 -- what a part says
 abbrev pub PartValue : Part → Type 0

@@ -1,5 +1,5 @@
 -- The ten kinds of answers as formats: what stands between the line of the size and the last line.
-use Rattle.std.specs.Prelude.{ℕ, zero, suc, ◌+◌, ◌-◌, ℤ, List, [], ◌∷◌, ◌++◌, length, map, codes, replicate}
+use Rattle.std.specs.Prelude.{ℕ, zero, suc, ◌-◌, List, [], ◌∷◌, ◌++◌, map, codes, replicate}
 use Rattle.bounds_model.specs.Fractions.{Fraction}
 use Rattle.bounds_model.specs.Plane.{PlanePoint}
 use Rattle.bounds_model.specs.Strip.{Span}
@@ -10,8 +10,8 @@ use Rattle.bounds_model.specs.ParallelogramAnswer.{Chord}
 use Rattle.bounds_model.specs.AnnulusAnswer.{WeightedPair}
 use Rattle.bounds_model.specs.CentresAnswer.{Leaf}
 use Rattle.bounds_model.specs.Answers.{Answer, circle, sphere, rectangle, parallelogram, strip, annulus, empty, kgon, distance, centres}
-use Rattle.bounds_model.specs.AnswerText.Fields.{Field, number, natural, naturals, index, fraction, plane_ratio, space_ratio, blocker, point_number}
-use Rattle.bounds_model.specs.AnswerText.Formats.{LineFormat, titled, untitled, Values, Count, Part, line, counted, count, rows, Body}
+use Rattle.bounds_model.specs.AnswerText.Fields.{Field, number, natural, index, fraction, plane_ratio, space_ratio, blocker, point_number}
+use Rattle.bounds_model.specs.AnswerText.Formats.{LineFormat, titled, untitled, Values, Part, line, counted, count, rows, Body}
 
 -- a kind of answers: its name, its format, and the answer of a size and what the format reads
 pub record Kind : Type 0 where

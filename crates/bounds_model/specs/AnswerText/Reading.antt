@@ -19,10 +19,11 @@ answer_at kind unread = do
   last ← line_at last_format body.1
   ended (kind.answer size.0.0 body.0) last.1.number last.1.lines
 
--- the kind that the first line names
-abbrev pub kind_of : Unread → Option Kind
-kind_of unread = find (λ kind. is_ok (line_at (first_format kind.name) unread)) kinds
+-- the one of the known kinds that the first line names
+abbrev pub kind_of : List Kind → Unread → Option Kind
+kind_of known unread = find (λ kind. is_ok (line_at (first_format kind.name) unread)) known
 
+-- an answer of that kind; a first line that names none is refused
 abbrev pub answer_of : Option Kind → Unread → Result Answer Refusal
 answer_of None unread = Err (bad_answer unread.number)
 answer_of (Some kind) unread = answer_at kind unread
@@ -31,6 +32,10 @@ answer_of (Some kind) unread = answer_at kind unread
 abbrev pub all_lines : List ℕ → Unread
 all_lines bytes = record { number = 1; lines = lines_of bytes }
 
+-- what a text reads as where these kinds are known
+abbrev pub reading_of : List Kind → List ℕ → Result Answer Refusal
+reading_of known bytes = answer_of (kind_of known (all_lines bytes)) (all_lines bytes)
+
 -- what a text reads as
 abbrev pub reading : List ℕ → Result Answer Refusal
-reading bytes = answer_of (kind_of (all_lines bytes)) (all_lines bytes)
+reading bytes = reading_of kinds bytes

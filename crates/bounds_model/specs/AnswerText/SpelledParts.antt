@@ -1,10 +1,9 @@
 -- The lines of an answer text that several kinds have, each as its bytes.
-use Rattle.std.specs.Prelude.{ℕ, ◌+◌, ℤ, List, [], ◌∷◌, ◌++◌, decimal, codes}
+use Rattle.std.specs.Prelude.{ℕ, ℤ, List, ◌++◌, decimal, codes}
 use Rattle.std.specs.Fmt.{signed_decimal}
 use Rattle.bounds_model.specs.Fractions.{Fraction}
 use Rattle.bounds_model.specs.Plane.{PlanePoint, PlaneRatio}
 use Rattle.bounds_model.specs.Space.{SpaceRatio}
-use Rattle.bounds_model.specs.Strip.{Span}
 use Rattle.bounds_model.specs.BallAnswer.{Weighted}
 use Rattle.bounds_model.specs.AnnulusAnswer.{WeightedPair}
 
