@@ -1,6 +1,6 @@
 -- The first draws from the seed 1, and the points that they make.
 use Rattle.std.proofs.Common.{◌≡◌, refl, pos, negsuc, [], ◌∷◌}
-use Rattle.bounds_model.specs.Answers.{ask_sphere, ask_strip, ask_distance, plane, space, two}
+use Rattle.bounds_model.specs.Asks.{ask_sphere, ask_strip, ask_distance, plane, space, two}
 use Rattle.bounds_model.specs.Demo.{state_after, drawn, demo_sets}
 
 -- ---- states and their values

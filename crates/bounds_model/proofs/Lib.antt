@@ -1,0 +1,3 @@
+mod AnswerTexts
+mod DemoPoints
+mod ErrorTexts

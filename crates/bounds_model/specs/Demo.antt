@@ -2,7 +2,7 @@
 use Rattle.std.specs.Prelude.{ℕ, zero, suc, ◌+◌, ◌*◌, ◌/◌, ◌%◌, ◌^◌, ℤ, pos, ◌-ℤ◌, ◌+ℤ◌, List, [], ◌∷◌}
 use Rattle.bounds_model.specs.Plane.{PlanePoint}
 use Rattle.bounds_model.specs.Space.{SpacePoint}
-use Rattle.bounds_model.specs.Answers.{Ask, ask_sphere, ask_distance, Sets, plane, space, two}
+use Rattle.bounds_model.specs.Asks.{Ask, ask_sphere, ask_distance, Sets, plane, space, two}
 
 -- the state behind a state
 abbrev pub next_state : ℕ → ℕ

@@ -5,7 +5,7 @@ use Rattle.bounds_model.specs.Fractions.{Fraction, IsLowest}
 use Rattle.bounds_model.specs.Best.{IsSmallest}
 use Rattle.bounds_model.specs.Centres.{FitsCentres, centres_size}
 use Rattle.bounds_model.specs.CentresAnswer.{Leaf, CentresAnswer, cover_of}
-use Rattle.bounds_model.specs.CentresText.{centres_spelling}
+use Rattle.bounds_model.specs.AnswerText.SpelledCentres.{centres_spelling}
 
 -- two coordinates differ by the side of the squares, which is twice their radius
 abbrev pub IsSideFrom : Fraction → ℤ → ℤ → Type 0

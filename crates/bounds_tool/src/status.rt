@@ -1,0 +1,36 @@
+//! How a run ends.
+ghost use Rattle.std.specs.Prelude.{◌≡◌};
+ghost use Rattle.bounds_tool.specs.Run.{status_number};
+
+/// How a run ended.
+#[derive(Clone, Copy, Debug, PartialEq, Eq)]
+pub enum Status {
+    /// The whole output was written.
+    Done,
+    /// The words are not understood.
+    Usage,
+    /// The point file is too long, or its text is refused.
+    Input,
+    /// The point file was not opened or not read, and the fault was counted.
+    Read,
+    /// The output was not written whole, and the fault was counted.
+    Write,
+    /// Memory was refused.
+    Memory,
+}
+
+impl Status {
+    /// The number that the program ends with: 0, 2, 3, 4, 5 or 6.
+    pub fn number(self) -> u8
+        ensures { result ≡ status_number self }
+    {
+        match self {
+            Status::Done => 0,
+            Status::Usage => 2,
+            Status::Input => 3,
+            Status::Read => 4,
+            Status::Write => 5,
+            Status::Memory => 6,
+        }
+    }
+}
