@@ -5,3 +5,4 @@ pub mod Best
 pub mod Centres
 pub mod CentresAnswer
 pub mod Words
+pub mod PointText
