@@ -5,8 +5,8 @@ use Rattle.std.specs.declared.option.Option.TheVariants.{Some, None}
 use Rattle.std.specs.declared.result.Result.{Result}
 use Rattle.std.specs.declared.result.Result.TheVariants.{Ok, Err}
 use Rattle.std.specs.Option.{option_map}
-use Rattle.std.specs.List.{cons_option, filter_map, onto_first, slice_split}
-use Rattle.std.specs.Str.{all_ascii_digits}
+use Rattle.std.specs.List.{cons_option, filter_map, list_all, onto_first, slice_split}
+use Rattle.std.specs.Char.{is_ascii_digit}
 use Rattle.bounds_model.specs.Plane.{PlanePoint, plane_limit}
 
 -- how many points a set has at most
@@ -28,8 +28,7 @@ digits_number digits = fold (λ n digit. 10 * n + (digit - 48)) 0 digits
 
 -- the number of one digit or more
 abbrev pub natural : List ℕ → Option ℕ
-natural [] = None
-natural (b ∷ rest) = if all_ascii_digits (b ∷ rest) then Some (digits_number (b ∷ rest)) else None
+natural digits = if nat_le 1 (length digits) && list_all is_ascii_digit digits then Some (digits_number digits) else None
 
 -- the number of digits with or without a minus sign before them
 abbrev pub number : List ℕ → Option ℤ
