@@ -1,0 +1,4 @@
+pub mod Places
+pub mod LineCuts
+pub mod Reading
+pub mod Clamping

@@ -1,0 +1,1 @@
+//! Texts with the sets or the fault that they give.
