@@ -72,7 +72,7 @@ number_space (b ∷ rest) (suc i) lt space =
     let signed = natural_none rest i (omega arith) (ap is_ascii_digit space) in
     let plain = natural_none (b ∷ rest) (suc i) lt (ap is_ascii_digit space) in
     elim (b == 45) as (λ v. cond v (option_map (λ n. neg_ℤ (pos n)) (natural rest)) (option_map pos (natural (b ∷ rest))) ≡ None) [
-      true ↦ ap (option_map (λ n. neg_ℤ (pos n))) signed
+      | true ↦ ap (option_map (λ n. neg_ℤ (pos n))) signed
       | false ↦ ap (option_map pos) plain
     ]
 
@@ -104,7 +104,7 @@ fields_none xs past = slice_split_none is_space xs (λ k d lt. fails_before_firs
 fields_some : (xs : List ℕ) → (field : List ℕ) × (fields : List (List ℕ)) × (slice_split is_space xs ≡ field ∷ fields)
 fields_some xs =
     elim (cases_lt (first xs) (length xs)) [
-      inl lt ↦ (before_first is_space xs, slice_split is_space (after_first is_space xs), slice_split_first is_space xs 0 lt)
+      | inl lt ↦ (before_first is_space xs, slice_split is_space (after_first is_space xs), slice_split_first is_space xs 0 lt)
       | inr past ↦ (xs, [], fields_none xs past)
     ]
 
@@ -116,7 +116,7 @@ number_first xs lt = number_space xs (first xs) lt (eqb-true (get_or xs (first x
 rest_meaning : (a : Option ℤ) (rest : List ℕ) → numbers_meaning (a ∷ map number (slice_split is_space rest)) ≡ numbers_meaning (a ∷ number rest ∷ [])
 rest_meaning a rest =
     elim (cases_lt (first rest) (length rest)) [
-      inl lt ↦ let more = fields_some (after_first is_space rest) in
+      | inl lt ↦ let more = fields_some (after_first is_space rest) in
           ap (λ fields. numbers_meaning (a ∷ map number fields)) (slice_split_first is_space rest 0 lt)
           ∙ (ap (λ fields. numbers_meaning (a ∷ number (before_first is_space rest) ∷ map number fields)) more.2
           ∙ (many_numbers a (number (before_first is_space rest)) (number more.0) (map number more.1)
@@ -128,7 +128,7 @@ rest_meaning a rest =
 pub line_meaning_cut : (line : List ℕ) → line_meaning line ≡ numbers_meaning (number (before_first (λ b. b == 32) line) ∷ number (after_first (λ b. b == 32) line) ∷ [])
 line_meaning_cut line =
     elim (cases_lt (first line) (length line)) [
-      inl lt ↦ ap (λ fields. numbers_meaning (map number fields)) (slice_split_first is_space line 0 lt) ∙ rest_meaning (number (before_first is_space line)) (after_first is_space line)
+      | inl lt ↦ ap (λ fields. numbers_meaning (map number fields)) (slice_split_first is_space line 0 lt) ∙ rest_meaning (number (before_first is_space line)) (after_first is_space line)
       | inr past ↦ let nothing : after_first is_space line ≡ [] = drop_of_length-le line {i = first line + 1} (omega arith) in
           ap (λ fields. numbers_meaning (map number fields)) (fields_none line past)
           ∙ (one_number (number line) ∙ (sym (second_none (number (before_first is_space line))) ∙ ap (λ rest. numbers_meaning (number (before_first is_space line) ∷ number rest ∷ [])) (sym nothing)))

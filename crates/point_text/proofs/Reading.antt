@@ -57,8 +57,8 @@ unfolding points_of_text
 refused bytes [] count points m r read some says why = absurd (omega arith)
 refused bytes (b ∷ rest) count points m r read some says why =
     ap (λ rs. first_refusal rs (some_points (said_points (meanings bytes))))
-      (read.refusals ∙ (ap (line_refusals read.before) (meanings_cut b rest m says)
-      ∙ ap (λ o. cons_option o (line_refusals (read.before ++ m ∷ []) (meanings (after_first is_feed (b ∷ rest))))) why))
+    (read.refusals ∙ (ap (line_refusals read.before) (meanings_cut b rest m says)
+    ∙ ap (λ o. cons_option o (line_refusals (read.before ++ m ∷ []) (meanings (after_first is_feed (b ∷ rest))))) why))
 
 -- the line that was read has a bad form
 pub HasRead-bad : (bytes rest : List ℕ) (count : ℕ) (points : List PlanePoint) → HasRead bytes rest count points → 0 < length rest
@@ -76,7 +76,7 @@ pub HasRead-full : (bytes rest : List ℕ) (count : ℕ) (points : List PlanePoi
 HasRead-full bytes rest count points p read some says all =
     let full : nat_le most_points (length (said_points read.before)) ≡ true = rw read.said (grind (arith, nat_tests)) in
     refused bytes rest count points (says_point p) _ read some says
-      (ap (λ v. cond v (Some (too_many (length read.before + 1))) None) full ∙ ap (λ n. Some (too_many (n + 1))) read.as_many)
+    (ap (λ v. cond v (Some (too_many (length read.before + 1))) None) full ∙ ap (λ n. Some (too_many (n + 1))) read.as_many)
 
 -- everything was read
 pub HasRead-all : (bytes rest : List ℕ) (count : ℕ) (points : List PlanePoint) → HasRead bytes rest count points → length rest ≡ 0 → points_of_text bytes ≡ some_points points
