@@ -13,18 +13,33 @@ use Rattle.bounds_model.specs.Plane.{PlanePoint, plane_limit}
 abbrev pub most_points : ℕ
 most_points = 10000
 
+-- ---- the bytes with a meaning of their own, by their codes
+
+abbrev pub is_line_feed : ℕ → Bool
+is_line_feed b = b == 10
+
+abbrev pub is_space : ℕ → Bool
+is_space b = b == 32
+
+abbrev pub is_minus : ℕ → Bool
+is_minus b = b == 45
+
+-- what a digit counts
+abbrev pub digit_size : ℕ → ℕ
+digit_size digit = digit - 48
+
 -- ---- from bytes to lines
 
 -- the lines, each ended by a line feed; a last one without it is a line if it is not empty
 abbrev pub text_lines : List ℕ → List (List ℕ)
 text_lines [] = []
-text_lines (b ∷ rest) = if b == 10 then [] ∷ text_lines rest else onto_first b (text_lines rest)
+text_lines (b ∷ rest) = if is_line_feed b then [] ∷ text_lines rest else onto_first b (text_lines rest)
 
 -- ---- from a line to a point
 
 -- the number that these digits write
 abbrev pub digits_number : List ℕ → ℕ
-digits_number digits = fold (λ n digit. 10 * n + (digit - 48)) 0 digits
+digits_number digits = fold (λ n digit. 10 * n + digit_size digit) 0 digits
 
 -- the number of one digit or more
 abbrev pub natural : List ℕ → Option ℕ
@@ -33,7 +48,7 @@ natural digits = if nat_le 1 (length digits) && list_all is_ascii_digit digits t
 -- the number of digits with or without a minus sign before them
 abbrev pub number : List ℕ → Option ℤ
 number [] = None
-number (b ∷ rest) = if b == 45 then option_map (λ n. neg_ℤ (pos n)) (natural rest) else option_map pos (natural (b ∷ rest))
+number (b ∷ rest) = if is_minus b then option_map (λ n. neg_ℤ (pos n)) (natural rest) else option_map pos (natural (b ∷ rest))
 
 -- what a line says
 pub data Meaning : Type 0 where
@@ -52,7 +67,7 @@ numbers_meaning numbers = bad_form
 
 -- a line's numbers are parted by single spaces
 abbrev pub line_meaning : List ℕ → Meaning
-line_meaning line = numbers_meaning (map number (slice_split (λ b. b == 32) line))
+line_meaning line = numbers_meaning (map number (slice_split is_space line))
 
 -- ---- from lines to the points of a file
 

@@ -23,12 +23,12 @@ clamped_same (negsuc n) test =
 pub meaning_clamped : (x y : ℤ) → numbers_meaning (Some (clamped x) ∷ Some (clamped y) ∷ []) ≡ numbers_meaning (Some x ∷ Some y ∷ [])
 meaning_clamped x y =
     let P : Bool → Bool → Type 0 = λ u v. is_within plane_limit x ≡ u → is_within plane_limit y ≡ v
-        → cond (u && v) (says_point (record { x = clamped x; y = clamped y })) out_of_bounds ≡ cond (u && v) (says_point (record { x = x; y = y })) out_of_bounds in
+    → cond (u && v) (says_point (record { x = clamped x; y = clamped y })) out_of_bounds ≡ cond (u && v) (says_point (record { x = x; y = y })) out_of_bounds in
     ap (λ v. cond (v && is_within plane_limit (clamped y)) (says_point (record { x = clamped x; y = clamped y })) out_of_bounds) (clamped_test x)
     ∙ (ap (λ v. cond (is_within plane_limit x && v) (says_point (record { x = clamped x; y = clamped y })) out_of_bounds) (clamped_test y)
     ∙ elim (is_within plane_limit x) as (λ u. P u (is_within plane_limit y)) [
-      true ↦ elim (is_within plane_limit y) as (λ v. P true v) [
-        true ↦ λ left right. let same_x = clamped_same x left in let same_y = clamped_same y right in cc
+      | true ↦ elim (is_within plane_limit y) as (λ v. P true v) [
+        | true ↦ λ left right. let same_x = clamped_same x left in let same_y = clamped_same y right in cc
         | false ↦ λ left right. refl
       ]
       | false ↦ λ left right. refl
@@ -43,6 +43,7 @@ two_numbers (Some u) None x y first second = cc
 two_numbers (Some u) (Some v) x y first second = ap (λ z. numbers_meaning (Some z ∷ Some y ∷ [])) same_x ∙ (ap (λ z. numbers_meaning (Some (clamped u) ∷ Some z ∷ [])) same_y ∙ meaning_clamped u v) where
   same_x : x ≡ clamped u
   same_x = cc
+
   same_y : y ≡ clamped v
   same_y = cc
 

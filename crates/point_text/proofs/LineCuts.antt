@@ -1,5 +1,5 @@
 -- A text cut at its first line feed, and a line cut at its first space.
-use Rattle.std.proofs.Common.{◌≡◌, ◌∙◌, refl, sym, ap, ℕ, ℤ, zero, suc, ◌+◌, ◌<◌, ◌≤◌, ◌==◌, ◌&&◌, inl, inr, Bool, true, false, cond, List, [], ◌∷◌, map, length, get_or, Option, Some, None, nat_le, arith, pos, neg_ℤ}
+use Rattle.std.proofs.Common.{◌≡◌, ◌∙◌, refl, sym, ap, ℕ, ℤ, zero, suc, ◌+◌, ◌<◌, ◌≤◌, ◌&&◌, inl, inr, Bool, true, false, cond, List, [], ◌∷◌, map, length, get_or, Option, Some, None, nat_le, arith, pos, neg_ℤ}
 use Rattle.std.proofs.lemmas.Bool.{cases_lt, eqb-true}
 use Rattle.std.proofs.lemmas.Bool.Decides.{nat_tests}
 use Rattle.std.proofs.Math.ListN.{drop_of_length-le}
@@ -9,47 +9,41 @@ use Rattle.std.specs.List.{onto_first, slice_split, position_or_len, before_firs
 use Rattle.std.proofs.lemmas.List.Folds.{list_all_at}
 use Rattle.std.proofs.lemmas.List.Sums.{fails_before_first, passes_at_first}
 use Rattle.std.proofs.lemmas.List.Splits.{slice_split_first, slice_split_none}
-use Rattle.bounds_model.specs.PointText.{digits_number, natural, number, bad_form, numbers_meaning, line_meaning, text_lines}
+use Rattle.bounds_model.specs.PointText.{is_line_feed, is_space, is_minus, digits_number, natural, number, bad_form, numbers_meaning, line_meaning, text_lines}
 use Rattle.point_text.proofs.Places.{before_first-cons_no, before_first-cons_yes, after_first-cons_no, after_first-cons_yes}
 
 -- ---- a text cut at its first line feed
 
-abbrev is_feed : ℕ → Bool
-is_feed b = b == 10
-
 -- the text begins with its first line, and its other lines follow
 abbrev IsCut : List ℕ → Type 0
-IsCut text = text_lines text ≡ before_first is_feed text ∷ text_lines (after_first is_feed text)
+IsCut text = text_lines text ≡ before_first is_line_feed text ∷ text_lines (after_first is_line_feed text)
 
-cut_at_feed : (b : ℕ) (rest : List ℕ) → is_feed b ≡ true → IsCut (b ∷ rest)
+cut_at_feed : (b : ℕ) (rest : List ℕ) → is_line_feed b ≡ true → IsCut (b ∷ rest)
 cut_at_feed b rest feed =
-    let before = before_first-cons_yes is_feed b rest feed in
-    let after = after_first-cons_yes is_feed b rest feed in
+    let before = before_first-cons_yes is_line_feed b rest feed in
+    let after = after_first-cons_yes is_line_feed b rest feed in
     ap (λ v. cond v ([] ∷ text_lines rest) (onto_first b (text_lines rest))) feed ∙ cc
 
-cut_past : (b : ℕ) (rest : List ℕ) → is_feed b ≡ false → IsCut rest → IsCut (b ∷ rest)
+cut_past : (b : ℕ) (rest : List ℕ) → is_line_feed b ≡ false → IsCut rest → IsCut (b ∷ rest)
 cut_past b rest other cut =
-    let before = before_first-cons_no is_feed b rest other in
-    let after = after_first-cons_no is_feed b rest other in
+    let before = before_first-cons_no is_line_feed b rest other in
+    let after = after_first-cons_no is_line_feed b rest other in
     ap (λ v. cond v ([] ∷ text_lines rest) (onto_first b (text_lines rest))) other ∙ (ap (onto_first b) cut ∙ cc)
 
-cut_last : (b : ℕ) → is_feed b ≡ false → IsCut (b ∷ [])
+cut_last : (b : ℕ) → is_line_feed b ≡ false → IsCut (b ∷ [])
 cut_last b other =
-    let before = before_first-cons_no is_feed b [] other in
-    let after = after_first-cons_no is_feed b [] other in
+    let before = before_first-cons_no is_line_feed b [] other in
+    let after = after_first-cons_no is_line_feed b [] other in
     ap (λ v. cond v ([] ∷ []) (onto_first b [])) other ∙ cc
 
 -- a text that is not empty is its first line, which ends before the first line feed, and the lines after it
 pub text_lines_cut : (b : ℕ) (rest : List ℕ) → IsCut (b ∷ rest)
-text_lines_cut b [] = elim (is_feed b) as (λ v. is_feed b ≡ v → IsCut (b ∷ [])) [ true ↦ cut_at_feed b [] | false ↦ cut_last b ] refl
+text_lines_cut b [] = elim (is_line_feed b) as (λ v. is_line_feed b ≡ v → IsCut (b ∷ [])) [ true ↦ cut_at_feed b [] | false ↦ cut_last b ] refl
 text_lines_cut b (c ∷ rest) =
     let later : IsCut (c ∷ rest) = text_lines_cut c rest in
-    elim (is_feed b) as (λ v. is_feed b ≡ v → IsCut (b ∷ c ∷ rest)) [ true ↦ cut_at_feed b (c ∷ rest) | false ↦ λ other. cut_past b (c ∷ rest) other later ] refl
+    elim (is_line_feed b) as (λ v. is_line_feed b ≡ v → IsCut (b ∷ c ∷ rest)) [ true ↦ cut_at_feed b (c ∷ rest) | false ↦ λ other. cut_past b (c ∷ rest) other later ] refl
 
 -- ---- a line cut at its first space
-
-abbrev is_space : ℕ → Bool
-is_space b = b == 32
 
 and_false : (b : Bool) → (b && false) ≡ false
 and_false true = refl
@@ -65,14 +59,14 @@ natural_none xs i lt bad =
 number_space : (xs : List ℕ) (i : ℕ) → i < length xs → get_or xs i 0 ≡ 32 → number xs ≡ None
 number_space [] i lt space = absurd (omega arith)
 number_space (b ∷ rest) zero lt space =
-    let plain : (b == 45) ≡ false = grind (arith, nat_tests) in
+    let plain : is_minus b ≡ false = grind (arith, nat_tests) in
     ap (λ v. cond v (option_map (λ n. neg_ℤ (pos n)) (natural rest)) (option_map pos (natural (b ∷ rest)))) plain
     ∙ ap (option_map pos) (natural_none (b ∷ rest) zero lt (ap is_ascii_digit space))
 number_space (b ∷ rest) (suc i) lt space =
     let signed = natural_none rest i (omega arith) (ap is_ascii_digit space) in
     let plain = natural_none (b ∷ rest) (suc i) lt (ap is_ascii_digit space) in
-    elim (b == 45) as (λ v. cond v (option_map (λ n. neg_ℤ (pos n)) (natural rest)) (option_map pos (natural (b ∷ rest))) ≡ None) [
-      true ↦ ap (option_map (λ n. neg_ℤ (pos n))) signed
+    elim (is_minus b) as (λ v. cond v (option_map (λ n. neg_ℤ (pos n)) (natural rest)) (option_map pos (natural (b ∷ rest))) ≡ None) [
+      | true ↦ ap (option_map (λ n. neg_ℤ (pos n))) signed
       | false ↦ ap (option_map pos) plain
     ]
 
@@ -104,7 +98,7 @@ fields_none xs past = slice_split_none is_space xs (λ k d lt. fails_before_firs
 fields_some : (xs : List ℕ) → (field : List ℕ) × (fields : List (List ℕ)) × (slice_split is_space xs ≡ field ∷ fields)
 fields_some xs =
     elim (cases_lt (first xs) (length xs)) [
-      inl lt ↦ (before_first is_space xs, slice_split is_space (after_first is_space xs), slice_split_first is_space xs 0 lt)
+      | inl lt ↦ (before_first is_space xs, slice_split is_space (after_first is_space xs), slice_split_first is_space xs 0 lt)
       | inr past ↦ (xs, [], fields_none xs past)
     ]
 
@@ -116,7 +110,7 @@ number_first xs lt = number_space xs (first xs) lt (eqb-true (get_or xs (first x
 rest_meaning : (a : Option ℤ) (rest : List ℕ) → numbers_meaning (a ∷ map number (slice_split is_space rest)) ≡ numbers_meaning (a ∷ number rest ∷ [])
 rest_meaning a rest =
     elim (cases_lt (first rest) (length rest)) [
-      inl lt ↦ let more = fields_some (after_first is_space rest) in
+      | inl lt ↦ let more = fields_some (after_first is_space rest) in
           ap (λ fields. numbers_meaning (a ∷ map number fields)) (slice_split_first is_space rest 0 lt)
           ∙ (ap (λ fields. numbers_meaning (a ∷ number (before_first is_space rest) ∷ map number fields)) more.2
           ∙ (many_numbers a (number (before_first is_space rest)) (number more.0) (map number more.1)
@@ -125,10 +119,10 @@ rest_meaning a rest =
     ]
 
 -- a line means what the parts before and after its first space mean
-pub line_meaning_cut : (line : List ℕ) → line_meaning line ≡ numbers_meaning (number (before_first (λ b. b == 32) line) ∷ number (after_first (λ b. b == 32) line) ∷ [])
+pub line_meaning_cut : (line : List ℕ) → line_meaning line ≡ numbers_meaning (number (before_first is_space line) ∷ number (after_first is_space line) ∷ [])
 line_meaning_cut line =
     elim (cases_lt (first line) (length line)) [
-      inl lt ↦ ap (λ fields. numbers_meaning (map number fields)) (slice_split_first is_space line 0 lt) ∙ rest_meaning (number (before_first is_space line)) (after_first is_space line)
+      | inl lt ↦ ap (λ fields. numbers_meaning (map number fields)) (slice_split_first is_space line 0 lt) ∙ rest_meaning (number (before_first is_space line)) (after_first is_space line)
       | inr past ↦ let nothing : after_first is_space line ≡ [] = drop_of_length-le line {i = first line + 1} (omega arith) in
           ap (λ fields. numbers_meaning (map number fields)) (fields_none line past)
           ∙ (one_number (number line) ∙ (sym (second_none (number (before_first is_space line))) ∙ ap (λ rest. numbers_meaning (number (before_first is_space line) ∷ number rest ∷ [])) (sym nothing)))

@@ -9,20 +9,20 @@ use Rattle.std.proofs.lemmas.List.Sums.{prefix_len-le-length}
 pub place_found : (p : ℕ → Bool) (xs : List ℕ) (i : ℕ) → Some i ≡ position_from p 0 xs → i ≡ position_or_len p xs
 place_found p xs i e =
     let found : (b : Bool) → ltb (position_or_len p xs) (length xs) ≡ b → Some i ≡ cond b (Some (position_or_len p xs)) None → i ≡ position_or_len p xs =
-        λ b. elim b as (λ v. ltb (position_or_len p xs) (length xs) ≡ v → Some i ≡ cond v (Some (position_or_len p xs)) None → i ≡ position_or_len p xs) [
-          true ↦ λ below is. cc
-          | false ↦ λ below is. cc
-        ] in
+    λ b. elim b as (λ v. ltb (position_or_len p xs) (length xs) ≡ v → Some i ≡ cond v (Some (position_or_len p xs)) None → i ≡ position_or_len p xs) [
+      | true ↦ λ below is. cc
+      | false ↦ λ below is. cc
+    ] in
     found _ refl (e ∙ sym (position_from-zero p xs))
 
 -- where none is found, the first one is past the list
 pub place_missing : (p : ℕ → Bool) (xs : List ℕ) → None ≡ position_from p 0 xs → position_or_len p xs ≡ length xs
 place_missing p xs e =
     let missing : (b : Bool) → ltb (position_or_len p xs) (length xs) ≡ b → None ≡ cond b (Some (position_or_len p xs)) None → position_or_len p xs ≡ length xs =
-        λ b. elim b as (λ v. ltb (position_or_len p xs) (length xs) ≡ v → None ≡ cond v (Some (position_or_len p xs)) None → position_or_len p xs ≡ length xs) [
-          true ↦ λ below is. cc
-          | false ↦ λ below is. let most = prefix_len-le-length (λ x. not (p x)) xs in grind (arith, nat_tests)
-        ] in
+    λ b. elim b as (λ v. ltb (position_or_len p xs) (length xs) ≡ v → None ≡ cond v (Some (position_or_len p xs)) None → position_or_len p xs ≡ length xs) [
+      | true ↦ λ below is. cc
+      | false ↦ λ below is. let most = prefix_len-le-length (λ x. not (p x)) xs in grind (arith, nat_tests)
+    ] in
     missing _ refl (e ∙ sym (position_from-zero p xs))
 
 -- ---- the parts of a list whose head is known
