@@ -13,3 +13,5 @@ pub mod Gaps
 pub mod Lagrange
 pub mod Cone
 pub mod Cramer
+pub mod ParallelAxis
+pub mod Circles

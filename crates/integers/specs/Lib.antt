@@ -3,3 +3,4 @@ pub mod Total
 pub mod Extremes
 pub mod LowestTerms
 pub mod Determinants
+pub mod Moments
