@@ -20,7 +20,7 @@ pub distances2_by_moments : {A : Type 0} (weight x y : A → ℤ) (k p q : ℤ) 
 distances2_by_moments weight x y k p q [] = nothing k p q
   where
     nothing : (k p q : ℤ) → pos 0 ≡ k *ℤ k *ℤ (pos 0) -ℤ pos 2 *ℤ (k *ℤ (p *ℤ (pos 0) +ℤ q *ℤ (pos 0))) +ℤ pos 0 *ℤ (p *ℤ p +ℤ q *ℤ q)
-    nothing k p q = (read (k ∷ p ∷ q ∷ []) (λ xs a b c. simp (a, b, c, polys, lits xs) (den-ring xs _ _ tt)))
+    nothing k p q = read (k ∷ p ∷ q ∷ []) (λ xs a b c. simp (a, b, c, polys, lits xs) (den-ring xs _ _ tt))
 distances2_by_moments weight x y k p q (a ∷ s) =
     plane_step k p q (weight a) (x a) (y a) (distances2 weight x y k p q s) (second_moment2 weight x y s) (moment weight x s) (moment weight y s) (total weight s) (distances2_by_moments weight x y k p q s)
 
@@ -58,7 +58,7 @@ pub distances3_by_moments : {A : Type 0} (weight x y z : A → ℤ) (k p q r : �
 distances3_by_moments weight x y z k p q r [] = nothing k p q r
   where
     nothing : (k p q r : ℤ) → pos 0 ≡ k *ℤ k *ℤ (pos 0) -ℤ pos 2 *ℤ (k *ℤ (p *ℤ (pos 0) +ℤ q *ℤ (pos 0) +ℤ r *ℤ (pos 0))) +ℤ pos 0 *ℤ (p *ℤ p +ℤ q *ℤ q +ℤ r *ℤ r)
-    nothing k p q r = (read (k ∷ p ∷ q ∷ r ∷ []) (λ xs a b c d. simp (a, b, c, d, polys, lits xs) (den-ring xs _ _ tt)))
+    nothing k p q r = read (k ∷ p ∷ q ∷ r ∷ []) (λ xs a b c d. simp (a, b, c, d, polys, lits xs) (den-ring xs _ _ tt))
 distances3_by_moments weight x y z k p q r (a ∷ s) =
     space_step k p q r (weight a) (x a) (y a) (z a) (distances3 weight x y z k p q r s) (second_moment3 weight x y z s) (moment weight x s) (moment weight y s) (moment weight z s) (total weight s) (distances3_by_moments weight x y z k p q r s)
 

@@ -4,3 +4,4 @@ pub mod Extremes
 pub mod LowestTerms
 pub mod Determinants
 pub mod Moments
+pub mod Examples

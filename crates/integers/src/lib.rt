@@ -1,2 +1,4 @@
 //! Laws of whole numbers that every proof of the project stands on.
 #![tactic(auto)]
+
+pub mod examples;
