@@ -15,3 +15,4 @@ pub mod Cone
 pub mod Cramer
 pub mod ParallelAxis
 pub mod Circles
+pub mod UnsignedArithmetic
