@@ -1,6 +1,6 @@
 -- The greatest and the least value of a function over a list: they are bounds, an element reaches them, and what one more element changes.
 use Rattle.std.proofs.Common.{◌≡◌, refl, sym, ◌∙◌, ap, subst, ℕ, suc, ◌+◌, ◌<◌, ◌⊎◌, inl, inr, ℤ, pos, ◌≤ℤ◌, List, [], ◌∷◌, ◌++◌, length, map, take, get_or, arith}
-use Rattle.std.specs.Prelude.{All, Contains, fold}
+use Rattle.std.specs.Prelude.{All, Any, Contains, fold}
 use Rattle.std.specs.Int.{int_max, int_min}
 use Rattle.std.proofs.lemmas.Int.{ints, clamps, by_lt_z}
 use Rattle.std.proofs.lemmas.List.{take_more, map-append, length-take-le}
@@ -128,6 +128,17 @@ pub has_least : {A : Type 0} (f : A → ℤ) (s : List A) → 0 < length s → (
 has_least f [] h = absurd (omega arith)
 has_least f (x ∷ s) h =
     elim (reached_min f (f x) s) [ inl e ↦ (x, here x s, e) | inr r ↦ (r.0, there x s r.1.0, r.1.1) ]
+
+-- the same, in the word for `some element`
+pub greatest_reached : {A : Type 0} (f : A → ℤ) (s : List A) → 0 < length s → Any (λ x. greatest f s ≡ f x) s
+greatest_reached f s h =
+    let g = has_greatest f s h in
+    (g.1.0, g.0, g.1.1, g.1.2, g.2)
+
+pub least_reached : {A : Type 0} (f : A → ℤ) (s : List A) → 0 < length s → Any (λ x. least f s ≡ f x) s
+least_reached f s h =
+    let g = has_least f s h in
+    (g.1.0, g.0, g.1.1, g.1.2, g.2)
 
 -- ---- one more element
 

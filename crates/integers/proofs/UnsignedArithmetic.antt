@@ -1,5 +1,5 @@
 -- That what code computes in unsigned numbers of fixed width fits, by computation: the companion of MachineArithmetic for `ℕ`.
-use Rattle.std.proofs.Common.{◌≡◌, refl, sym, subst, ℕ, zero, suc, ◌+◌, ◌-◌, ◌*◌, ◌^◌, ◌≤◌, ◌<◌, arith, List, [], ◌∷◌, T, ltb, ltb→lt, leb, leb→le, le_trans, mul-le-mul, zero-le, Fits}
+use Rattle.std.proofs.Common.{◌≡◌, refl, ℕ, zero, suc, ◌+◌, ◌-◌, ◌*◌, ◌^◌, ◌≤◌, ◌<◌, arith, List, [], ◌∷◌, T, ltb, ltb→lt, leb, leb→le, le_trans, mul-le-mul, zero-le, Fits}
 use mir.Syntax.{Width}
 use mir.Val.{bits}
 use Rattle.integers.proofs.MachineArithmetic.{bound_at}
@@ -113,6 +113,13 @@ pub record Limited : Type 0 where
 -- `limited x n h`, where h says that x is at most n
 abbrev pub limited : (x n : ℕ) → x ≤ n → Limited
 limited x n h = record { value = x; limit = n; within = h }
+
+pub le_of_below : {x n : ℕ} → x < n → x ≤ n
+le_of_below h = omega arith
+
+-- the same, where h says that x is below n
+abbrev pub limited_below : (x n : ℕ) → x < n → Limited
+limited_below x n h = record { value = x; limit = n; within = le_of_below h }
 
 abbrev pub amounts_of : List Limited → List ℕ
 amounts_of [] = []

@@ -5,3 +5,7 @@ pub mod LowestTerms
 pub mod Determinants
 pub mod Moments
 pub mod Examples
+pub mod OrderLaws
+pub mod SumLaws
+pub mod FractionLaws
+pub mod GeometryLaws

@@ -96,15 +96,19 @@ pub fn scaled_sum(a: u64, b: u64, c: u64, d: u64) -> u128
     a as u128 * b as u128 + c as u128 * d as u128
 }
 
-/// Three factors, and two.
-pub fn three_factors(a: u128, b: u128, c: u128, d: u128) -> u128
-    requires a { a ≤ 2 ^ 40 }
-    requires b { b ≤ 2 ^ 40 }
-    requires c { c ≤ 2 ^ 40 }
-    requires d { d < 2 ^ 60 }
-    ensures { result ≡ a * b * c + 3 * d * d }
+/// The squares of two numbers, each times its weight, and their sum times that of the weights.
+pub fn second_moment_of_two(v: u64, x: u64, w: u64, y: u64) -> u128
+    requires v { v < 2 ^ 20 }
+    requires x { x < 2 ^ 40 }
+    requires w { w < 2 ^ 20 }
+    requires y { y < 2 ^ 40 }
+    ensures { result ≡ (v + w) * (v * x * x + w * y * y) }
 {
-    a * b * c + 3 * d * d
+    let v = v as u128;
+    let w = w as u128;
+    let x = x as u128;
+    let y = y as u128;
+    (v + w) * (v * x * x + w * y * y)
 }
 
 /// A nonnegative size as an unsigned number.
