@@ -10,15 +10,19 @@ use Rattle.integers.specs.Extremes.{greatest, least}
 
 -- ---- two numbers
 
+-- the greater of two is at least the first
 pub left-le-max : (a b : ℤ) → a ≤ℤ int_max a b
 left-le-max a b = omega (arith, ints, clamps)
 
+-- and at least the second
 pub right-le-max : (a b : ℤ) → b ≤ℤ int_max a b
 right-le-max a b = omega (arith, ints, clamps)
 
+-- the smaller of two is at most the first
 pub min-le-left : (a b : ℤ) → int_min a b ≤ℤ a
 min-le-left a b = omega (arith, ints, clamps)
 
+-- and at most the second
 pub min-le-right : (a b : ℤ) → int_min a b ≤ℤ b
 min-le-right a b = omega (arith, ints, clamps)
 
@@ -26,12 +30,15 @@ min-le-right a b = omega (arith, ints, clamps)
 pub max_keeps : (a b : ℤ) → b ≤ℤ a → int_max a b ≡ a
 max_keeps a b h = omega (arith, ints, clamps)
 
+-- the greater of two is the second where it is at least the first
 pub max_takes : (a b : ℤ) → a ≤ℤ b → int_max a b ≡ b
 max_takes a b h = omega (arith, ints, clamps)
 
+-- the smaller of two is the first where it is at most the second
 pub min_keeps : (a b : ℤ) → a ≤ℤ b → int_min a b ≡ a
 min_keeps a b h = omega (arith, ints, clamps)
 
+-- the smaller of two is the second where it is at most the first
 pub min_takes : (a b : ℤ) → b ≤ℤ a → int_min a b ≡ b
 min_takes a b h = omega (arith, ints, clamps)
 
@@ -135,6 +142,7 @@ greatest_reached f s h =
     let g = has_greatest f s h in
     (g.1.0, g.0, g.1.1, g.1.2, g.2)
 
+-- and of the least
 pub least_reached : {A : Type 0} (f : A → ℤ) (s : List A) → 0 < length s → Any (λ x. least f s ≡ f x) s
 least_reached f s h =
     let g = has_least f s h in
@@ -142,10 +150,12 @@ least_reached f s h =
 
 -- ---- one more element
 
+-- with one more element, the greatest value is the greater of the one so far and the new one
 pub greatest-one_more : {A : Type 0} (f : A → ℤ) (s : List A) (a : A) → 0 < length s → greatest f (s ++ a ∷ []) ≡ int_max (greatest f s) (f a)
 greatest-one_more f [] a h = absurd (omega arith)
 greatest-one_more f (x ∷ s) a h = ap (fold int_max (f x)) (map-append f s (a ∷ [])) ∙ fold-append int_max (f x) (map f s) (f a ∷ [])
 
+-- with one more element, the least value is the smaller of the one so far and the new one
 pub least-one_more : {A : Type 0} (f : A → ℤ) (s : List A) (a : A) → 0 < length s → least f (s ++ a ∷ []) ≡ int_min (least f s) (f a)
 least-one_more f [] a h = absurd (omega arith)
 least-one_more f (x ∷ s) a h = ap (fold int_min (f x)) (map-append f s (a ∷ [])) ∙ fold-append int_min (f x) (map f s) (f a ∷ [])
@@ -157,6 +167,7 @@ taken s i h l = let e = length-take-le i s (omega arith) in omega arith
 pub greatest-take_more : {A : Type 0} (f : A → ℤ) (s : List A) (i : ℕ) (d : A) → 0 < i → i < length s → greatest f (take (i + 1) s) ≡ int_max (greatest f (take i s)) (f (get_or s i d))
 greatest-take_more f s i d h l = ap (greatest f) (take_more s i d l) ∙ greatest-one_more f (take i s) (get_or s i d) (taken s i h l)
 
+-- the same step for the least value
 pub least-take_more : {A : Type 0} (f : A → ℤ) (s : List A) (i : ℕ) (d : A) → 0 < i → i < length s → least f (take (i + 1) s) ≡ int_min (least f (take i s)) (f (get_or s i d))
 least-take_more f s i d h l = ap (least f) (take_more s i d l) ∙ least-one_more f (take i s) (get_or s i d) (taken s i h l)
 
@@ -165,6 +176,7 @@ pub greatest-take_one : {A : Type 0} (f : A → ℤ) (s : List A) (d : A) → 0 
 greatest-take_one f [] d h = absurd (omega arith)
 greatest-take_one f (x ∷ s) d h = refl
 
+-- and for the least value
 pub least-take_one : {A : Type 0} (f : A → ℤ) (s : List A) (d : A) → 0 < length s → least f (take 1 s) ≡ f (get_or s 0 d)
 least-take_one f [] d h = absurd (omega arith)
 least-take_one f (x ∷ s) d h = refl
@@ -173,12 +185,15 @@ least-take_one f (x ∷ s) d h = refl
 pub greatest_keeps : {A : Type 0} (f : A → ℤ) (s : List A) (i : ℕ) (d : A) → 0 < i → i < length s → f (get_or s i d) ≤ℤ greatest f (take i s) → greatest f (take (i + 1) s) ≡ greatest f (take i s)
 greatest_keeps f s i d h l k = greatest-take_more f s i d h l ∙ max_keeps _ _ k
 
+-- the loop takes the element's value
 pub greatest_takes : {A : Type 0} (f : A → ℤ) (s : List A) (i : ℕ) (d : A) → 0 < i → i < length s → greatest f (take i s) ≤ℤ f (get_or s i d) → greatest f (take (i + 1) s) ≡ f (get_or s i d)
 greatest_takes f s i d h l k = greatest-take_more f s i d h l ∙ max_takes _ _ k
 
+-- the same for the least value: it stays
 pub least_keeps : {A : Type 0} (f : A → ℤ) (s : List A) (i : ℕ) (d : A) → 0 < i → i < length s → least f (take i s) ≤ℤ f (get_or s i d) → least f (take (i + 1) s) ≡ least f (take i s)
 least_keeps f s i d h l k = least-take_more f s i d h l ∙ min_keeps _ _ k
 
+-- or is taken
 pub least_takes : {A : Type 0} (f : A → ℤ) (s : List A) (i : ℕ) (d : A) → 0 < i → i < length s → f (get_or s i d) ≤ℤ least f (take i s) → least f (take (i + 1) s) ≡ f (get_or s i d)
 least_takes f s i d h l k = least-take_more f s i d h l ∙ min_takes _ _ k
 

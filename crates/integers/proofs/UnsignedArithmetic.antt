@@ -1,4 +1,13 @@
--- That what code computes in unsigned numbers of fixed width fits, by computation: the companion of MachineArithmetic for `ℕ`.
+-- What code computes in unsigned numbers of 32, 64 or 128 bits fits: each goal in one line, by computation.
+--
+-- `with_limited` takes the inputs, each with its limit, and a function of their list, of their limits and of an equation for each:
+--
+--   overflow_mul-x c =
+--       with_limited (limited_below _ (2 ^ 40) c.requires.a ∷ limited _ 1000 c.requires.b ∷ []) (λ xs h a b. simp (a, b, amounts) (amount_fits xs h w128 _ tt))
+--
+-- - `amount_fits xs h w _ tt` for an overflow, and `amount_within xs h _ tt` for a bound that the function ensures.
+-- - A numeral of the goal wants its rule: `numeral_is xs 3`.
+-- - A result needs none of this, since unsigned code appears in goals as it is. One or two products are found without an answer.
 use Rattle.std.proofs.Common.{◌≡◌, refl, ℕ, zero, suc, ◌+◌, ◌-◌, ◌*◌, ◌^◌, ◌≤◌, ◌<◌, arith, List, [], ◌∷◌, T, ltb, ltb→lt, leb, leb→le, le_trans, mul-le-mul, zero-le, Fits}
 use mir.Syntax.{Width}
 use mir.Val.{bits}
@@ -12,11 +21,13 @@ pub data Count : Type 0 where
   times : Count → Count → Count
   minus : Count → Count → Count
 
+-- the number at a place
 abbrev pub place : List ℕ → ℕ → ℕ
 place [] i = 0
 place (x ∷ xs) zero = x
 place (x ∷ xs) (suc i) = place xs i
 
+-- what the code computes at the inputs xs
 abbrev pub count_of : List ℕ → Count → ℕ
 count_of xs (input i) = place xs i
 count_of xs (numeral n) = n
@@ -45,17 +56,21 @@ count_le_most ns xs h (minus e f) = let a = count_le_most ns xs h e in omega ari
 
 -- ---- read off a goal
 
+-- what the code computes, as `simp` writes it
 unfoldable pub amount : List ℕ → Count → ℕ
 amount xs e = count_of xs e
 
+-- the sum of two codes is one
 pub amount-plus : (xs : List ℕ) (e f : Count) → amount xs e + amount xs f ≡ amount xs (plus e f)
 unfolding amount
 amount-plus xs e f = refl
 
+-- so is their product
 pub amount-times : (xs : List ℕ) (e f : Count) → amount xs e * amount xs f ≡ amount xs (times e f)
 unfolding amount
 amount-times xs e f = refl
 
+-- and their difference
 pub amount-minus : (xs : List ℕ) (e f : Count) → amount xs e - amount xs f ≡ amount xs (minus e f)
 unfolding amount
 amount-minus xs e f = refl
@@ -83,6 +98,7 @@ amount_within {ns} xs h {n} e t = le_trans (count_le_most ns xs h e) (leb→le (
 
 -- ---- the inputs
 
+-- `f` at any list, with each number of vs as the input of its place
 abbrev pub Amounts : List ℕ → ℕ → List ℕ → Type 0 → Type 0
 Amounts [] i xs P = P
 Amounts (v ∷ vs) i xs P = v ≡ amount xs (input i) → Amounts vs (suc i) xs P
@@ -114,6 +130,7 @@ pub record Limited : Type 0 where
 abbrev pub limited : (x n : ℕ) → x ≤ n → Limited
 limited x n h = record { value = x; limit = n; within = h }
 
+-- a number below n is at most n
 pub le_of_below : {x n : ℕ} → x < n → x ≤ n
 le_of_below h = omega arith
 
@@ -121,10 +138,12 @@ le_of_below h = omega arith
 abbrev pub limited_below : (x n : ℕ) → x < n → Limited
 limited_below x n h = record { value = x; limit = n; within = le_of_below h }
 
+-- the numbers
 abbrev pub amounts_of : List Limited → List ℕ
 amounts_of [] = []
 amounts_of (g ∷ gs) = g.value ∷ amounts_of gs
 
+-- their limits
 abbrev pub limits_of : List Limited → List ℕ
 limits_of [] = []
 limits_of (g ∷ gs) = g.limit ∷ limits_of gs

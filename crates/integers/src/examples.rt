@@ -1,6 +1,6 @@
 //! Small functions in machine numbers, each proved to compute what its formula says over the whole numbers.
 
-ghost use Rattle.std.specs.Prelude.{◌≡◌, unsigned_abs, ◌-ℤ◌, ◌↔◌, ◌^◌, ◌*◌, ◌+◌, ◌≤◌, ◌<◌, IsTrue, length};
+ghost use Rattle.std.specs.Prelude.{◌≡◌, ◌-ℤ◌, ◌↔◌, ◌^◌, ◌*◌, ◌+◌, ◌≤◌, ◌<◌, IsTrue, length};
 ghost use Rattle.integers.specs.Size.{Size};
 ghost use Rattle.integers.specs.Determinants.{turn, in_circle, square2};
 ghost use Rattle.integers.specs.Moments.{moment};
@@ -87,15 +87,6 @@ pub fn is_at_most(a: u64, b: u64, c: u64, d: u64) -> bool
     a as u128 * d as u128 <= c as u128 * b as u128
 }
 
-/// The sum of two products.
-pub fn scaled_sum(a: u64, b: u64, c: u64, d: u64) -> u128
-    requires a { a < 2 ^ 62 }
-    requires c { c < 2 ^ 62 }
-    ensures { result ≡ a * b + c * d }
-{
-    a as u128 * b as u128 + c as u128 * d as u128
-}
-
 /// The squares of two numbers, each times its weight, and their sum times that of the weights.
 pub fn second_moment_of_two(v: u64, x: u64, w: u64, y: u64) -> u128
     requires v { v < 2 ^ 20 }
@@ -109,17 +100,4 @@ pub fn second_moment_of_two(v: u64, x: u64, w: u64, y: u64) -> u128
     let x = x as u128;
     let y = y as u128;
     (v + w) * (v * x * x + w * y * y)
-}
-
-/// A nonnegative size as an unsigned number.
-pub fn doubled_area(ax: i64, ay: i64, bx: i64, by: i64, cx: i64, cy: i64) -> u128
-    requires ax { Size (2 ^ 40) ax }
-    requires ay { Size (2 ^ 40) ay }
-    requires bx { Size (2 ^ 40) bx }
-    requires by { Size (2 ^ 40) by }
-    requires cx { Size (2 ^ 40) cx }
-    requires cy { Size (2 ^ 40) cy }
-    ensures { result ≡ unsigned_abs (turn ax ay bx by cx cy) }
-{
-    orientation(ax, ay, bx, by, cx, cy).unsigned_abs()
 }
