@@ -4,7 +4,7 @@ ghost use Rattle.std.specs.Prelude.{◌≡◌, ◌-ℤ◌, ◌↔◌, ◌^◌, �
 ghost use Rattle.integers.specs.Size.{Size};
 ghost use Rattle.integers.specs.Determinants.{turn, in_circle, square2};
 ghost use Rattle.integers.specs.Moments.{moment};
-ghost use Rattle.integers.specs.Examples.{weight_of, x_of};
+ghost use Rattle.integers.specs.Weighted.{weight_of, x_of};
 
 /// Twice the area of the triangle a, b, c: above 0 where the corners turn left.
 pub fn orientation(ax: i64, ay: i64, bx: i64, by: i64, cx: i64, cy: i64) -> i128
@@ -80,14 +80,14 @@ pub fn weighted_sum(points: &[Weighted]) -> i128
     sum
 }
 
-/// Whether the fraction a / b is at most c / d.
+/// Whether the fraction a / b is at most c / d, for denominators above 0.
 pub fn is_at_most(a: u64, b: u64, c: u64, d: u64) -> bool
     ensures { IsTrue result ↔ (a * d ≤ c * b) }
 {
     a as u128 * d as u128 <= c as u128 * b as u128
 }
 
-/// The squares of two numbers, each times its weight, and their sum times that of the weights.
+/// The weighted sum of the squares of x and y, times the sum of their weights v and w.
 pub fn second_moment_of_two(v: u64, x: u64, w: u64, y: u64) -> u128
     requires v { v < 2 ^ 20 }
     requires x { x < 2 ^ 40 }

@@ -7,7 +7,7 @@ use Rattle.integers.proofs.Sizes.{size_unsigned, size_add, size_mul}
 use Rattle.integers.proofs.Sums.{total-take_more}
 use Rattle.integers.proofs.MachineArithmetic.{given, with_inputs, codes, computes}
 use Rattle.integers.specs.declared.examples.Weighted.{Weighted}
-use Rattle.integers.specs.Examples.{weight_of, x_of}
+use Rattle.integers.specs.Weighted.{weight_of, x_of}
 use Rattle.integers.proofs.examples.weighted_sum.Goals as goal
 
 -- what the loop's body adds

@@ -1,7 +1,7 @@
 use Rattle.std.proofs.Common.{◌≡◌, ◌*◌, ◌^◌, take}
 use Rattle.integers.specs.Size.{Size}
 use Rattle.integers.specs.Moments.{moment}
-use Rattle.integers.specs.Examples.{weight_of, x_of}
+use Rattle.integers.specs.Weighted.{weight_of, x_of}
 use Rattle.integers.proofs.examples.weighted_sum.Given as goal
 
 abbrev pub invariant-loop-p : goal.invariant-loop-p
