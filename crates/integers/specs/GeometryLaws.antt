@@ -39,13 +39,20 @@ Cone = (a b e f x1 y1 x2 y2 m s t : ℤ)
 abbrev pub InCircleIsSum : Type 0
 InCircleIsSum = (ax ay bx by cx cy dx dy : ℤ)
     → in_circle ax ay bx by cx cy dx dy
-    ≡ square2 ax ay *ℤ (turn bx by cx cy dx dy) -ℤ square2 bx by *ℤ (turn ax ay cx cy dx dy) +ℤ square2 cx cy *ℤ (turn ax ay bx by dx dy) -ℤ square2 dx dy *ℤ (turn ax ay bx by cx cy)
+    ≡ square2 ax ay *ℤ turn bx by cx cy dx dy
+    -ℤ square2 bx by *ℤ turn ax ay cx cy dx dy
+    +ℤ square2 cx cy *ℤ turn ax ay bx by dx dy
+    -ℤ square2 dx dy *ℤ turn ax ay bx by cx cy
 
 -- the in-sphere determinant is the sum of each point's square times the volume of the other four, with signs
 abbrev pub InSphereIsSum : Type 0
 InSphereIsSum = (ax ay az bx by bz cx cy cz dx dy dz ex ey ez : ℤ)
     → in_sphere ax ay az bx by bz cx cy cz dx dy dz ex ey ez
-    ≡ square3 ex ey ez *ℤ (volume ax ay az bx by bz cx cy cz dx dy dz) -ℤ square3 dx dy dz *ℤ (volume ax ay az bx by bz cx cy cz ex ey ez) +ℤ square3 cx cy cz *ℤ (volume ax ay az bx by bz dx dy dz ex ey ez) -ℤ square3 bx by bz *ℤ (volume ax ay az cx cy cz dx dy dz ex ey ez) +ℤ square3 ax ay az *ℤ (volume bx by bz cx cy cz dx dy dz ex ey ez)
+    ≡ square3 ex ey ez *ℤ volume ax ay az bx by bz cx cy cz dx dy dz
+    -ℤ square3 dx dy dz *ℤ volume ax ay az bx by bz cx cy cz ex ey ez
+    +ℤ square3 cx cy cz *ℤ volume ax ay az bx by bz dx dy dz ex ey ez
+    -ℤ square3 bx by bz *ℤ volume ax ay az cx cy cz dx dy dz ex ey ez
+    +ℤ square3 ax ay az *ℤ volume bx by bz cx cy cz dx dy dz ex ey ez
 
 -- the solution of a x + b y = p and c x + d y = q, times the determinant
 abbrev pub CramerOfTwo : Type 0
