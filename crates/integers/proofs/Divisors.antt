@@ -147,3 +147,15 @@ gcd_all-scale k (e ∷ es) =
     ap (λ n. gcd n (gcd_all (map (λ e. k *ℤ e) es))) (unsigned_abs-mul k e)
     ∙ ap (λ n. gcd (nat_abs k * nat_abs e) n) (gcd_all-scale k es)
     ∙ gcd-mul (nat_abs k) (nat_abs e) (gcd_all es)
+
+-- entries whose only common factor is 1 have the greatest common divisor 1
+pub gcd_all_one : (es : List ℤ) → ((k : ℕ) → All (λ e. k ∣ nat_abs e) es → k ≡ 1) → gcd_all es ≡ 1
+gcd_all_one es h = h (gcd_all es) (gcd_all-dvd (gcd_all es) es (dvd_refl (gcd_all es)))
+
+-- and back
+pub one_from_gcd_all : (es : List ℤ) → gcd_all es ≡ 1 → (k : ℕ) → All (λ e. k ∣ nat_abs e) es → k ≡ 1
+one_from_gcd_all es e k h = eq-one_of_dvd-one (subst (λ n. k ∣ n) e (dvd-gcd_all k es h))
+
+-- the entries of a fraction in lowest terms
+pub IsGcd-from_gcd_all : (n d : ℤ) → gcd_all (n ∷ d ∷ []) ≡ 1 → IsGcd (nat_abs n) (nat_abs d) 1
+IsGcd-from_gcd_all n d e = subst (IsGcd (nat_abs n) (nat_abs d)) e (IsGcd-gcd (nat_abs n) (nat_abs d))
