@@ -17,7 +17,7 @@
 -- - From equations: `combine1 c h (read ..)` proves a ≡ b from h : p ≡ q, where a - b is c (p - q) (Order has `combine2` and `combine3`).
 -- - For an order: `le_by (why D is at least 0) (read ..)` proves a ≤ b, where b - a is D (Order).
 -- - A product with the numeral 0 or 1 computes away and can hide what is to be read: use `omega (arith, ints)` there.
--- - An identity that is false fails at `tt`, with 'expected ⊥' or a comparison that does not hold.
+-- - An identity that is false fails at `tt`: 'the two sides are `⊥` (left) and `Unit` (right)'.
 use Rattle.std.proofs.Common.{◌≡◌, refl, ℕ, suc, ℤ, pos, negsuc, ◌+ℤ◌, ◌*ℤ◌, neg_ℤ, ◌-ℤ◌, List, [], ◌∷◌}
 use Rattle.integers.proofs.Polynomials.{Expr, var, lit, ◌⊕◌, ◌⊗◌, neg, ring, eval, Same, nth}
 
