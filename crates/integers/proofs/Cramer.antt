@@ -16,11 +16,11 @@ cramer2_y a b c d x y p q h k = combine2 (neg_ℤ c) a h k (read (a ∷ b ∷ c 
 
 -- these numbers solve the first equation
 pub cramer2_first : (a b c d p q : ℤ) → a *ℤ det2 p b q d +ℤ b *ℤ det2 a p c q ≡ det2 a b c d *ℤ p
-cramer2_first a b c d p q = (read (a ∷ b ∷ c ∷ d ∷ p ∷ q ∷ []) (λ xs a b c d e f. simp (a, b, c, d, e, f, polys) (den-ring xs _ _ tt)))
+cramer2_first a b c d p q = read (a ∷ b ∷ c ∷ d ∷ p ∷ q ∷ []) (λ xs a b c d e f. simp (a, b, c, d, e, f, polys) (den-ring xs _ _ tt))
 
 -- and the second
 pub cramer2_second : (a b c d p q : ℤ) → c *ℤ det2 p b q d +ℤ d *ℤ det2 a p c q ≡ det2 a b c d *ℤ q
-cramer2_second a b c d p q = (read (a ∷ b ∷ c ∷ d ∷ p ∷ q ∷ []) (λ xs a b c d e f. simp (a, b, c, d, e, f, polys) (den-ring xs _ _ tt)))
+cramer2_second a b c d p q = read (a ∷ b ∷ c ∷ d ∷ p ∷ q ∷ []) (λ xs a b c d e f. simp (a, b, c, d, e, f, polys) (den-ring xs _ _ tt))
 
 -- ---- three unknowns: the rows (ax, ay, az), (bx, by, bz), (cx, cy, cz) times (x, y, z) are p, q and r
 
@@ -44,12 +44,12 @@ cramer3_z ax ay az bx by bz cx cy cz x y z p q r h k l =
 
 -- these numbers solve the first equation
 pub cramer3_first : (ax ay az bx by bz cx cy cz p q r : ℤ) → ax *ℤ det3 p ay az q by bz r cy cz +ℤ ay *ℤ det3 ax p az bx q bz cx r cz +ℤ az *ℤ det3 ax ay p bx by q cx cy r ≡ det3 ax ay az bx by bz cx cy cz *ℤ p
-cramer3_first ax ay az bx by bz cx cy cz p q r = (read (ax ∷ ay ∷ az ∷ bx ∷ by ∷ bz ∷ cx ∷ cy ∷ cz ∷ p ∷ q ∷ r ∷ []) (λ xs a b c d e f g h i j k l. simp (a, b, c, d, e, f, g, h, i, j, k, l, polys) (den-ring xs _ _ tt)))
+cramer3_first ax ay az bx by bz cx cy cz p q r = read (ax ∷ ay ∷ az ∷ bx ∷ by ∷ bz ∷ cx ∷ cy ∷ cz ∷ p ∷ q ∷ r ∷ []) (λ xs a b c d e f g h i j k l. simp (a, b, c, d, e, f, g, h, i, j, k, l, polys) (den-ring xs _ _ tt))
 
 -- the second
 pub cramer3_second : (ax ay az bx by bz cx cy cz p q r : ℤ) → bx *ℤ det3 p ay az q by bz r cy cz +ℤ by *ℤ det3 ax p az bx q bz cx r cz +ℤ bz *ℤ det3 ax ay p bx by q cx cy r ≡ det3 ax ay az bx by bz cx cy cz *ℤ q
-cramer3_second ax ay az bx by bz cx cy cz p q r = (read (ax ∷ ay ∷ az ∷ bx ∷ by ∷ bz ∷ cx ∷ cy ∷ cz ∷ p ∷ q ∷ r ∷ []) (λ xs a b c d e f g h i j k l. simp (a, b, c, d, e, f, g, h, i, j, k, l, polys) (den-ring xs _ _ tt)))
+cramer3_second ax ay az bx by bz cx cy cz p q r = read (ax ∷ ay ∷ az ∷ bx ∷ by ∷ bz ∷ cx ∷ cy ∷ cz ∷ p ∷ q ∷ r ∷ []) (λ xs a b c d e f g h i j k l. simp (a, b, c, d, e, f, g, h, i, j, k, l, polys) (den-ring xs _ _ tt))
 
 -- and the third
 pub cramer3_third : (ax ay az bx by bz cx cy cz p q r : ℤ) → cx *ℤ det3 p ay az q by bz r cy cz +ℤ cy *ℤ det3 ax p az bx q bz cx r cz +ℤ cz *ℤ det3 ax ay p bx by q cx cy r ≡ det3 ax ay az bx by bz cx cy cz *ℤ r
-cramer3_third ax ay az bx by bz cx cy cz p q r = (read (ax ∷ ay ∷ az ∷ bx ∷ by ∷ bz ∷ cx ∷ cy ∷ cz ∷ p ∷ q ∷ r ∷ []) (λ xs a b c d e f g h i j k l. simp (a, b, c, d, e, f, g, h, i, j, k, l, polys) (den-ring xs _ _ tt)))
+cramer3_third ax ay az bx by bz cx cy cz p q r = read (ax ∷ ay ∷ az ∷ bx ∷ by ∷ bz ∷ cx ∷ cy ∷ cz ∷ p ∷ q ∷ r ∷ []) (λ xs a b c d e f g h i j k l. simp (a, b, c, d, e, f, g, h, i, j, k, l, polys) (den-ring xs _ _ tt))

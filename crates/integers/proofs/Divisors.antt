@@ -25,6 +25,7 @@ IsGcd-euclid zero a b h = absurd (omega arith)
 IsGcd-euclid (suc steps) a zero h = IsGcd-from_zero a 0 refl
 IsGcd-euclid (suc steps) a (suc b) h = IsGcd-from_mod a (suc b) _ (IsGcd-euclid steps (suc b) (a % suc b) (omega arith))
 
+-- it is their greatest common divisor
 pub IsGcd-gcd : (a b : ℕ) → IsGcd a b (gcd a b)
 IsGcd-gcd a b = IsGcd-euclid (suc b) a b (omega arith)
 
@@ -32,9 +33,11 @@ IsGcd-gcd a b = IsGcd-euclid (suc b) a b (omega arith)
 pub gcd_is : (a b g : ℕ) → IsGcd a b g → gcd a b ≡ g
 gcd_is a b g h = same_from_IsGcd a b (gcd a b) g (IsGcd-gcd a b) h
 
+-- it divides the first
 pub gcd-dvd_left : (a b : ℕ) → gcd a b ∣ a
 gcd-dvd_left a b = (IsGcd-gcd a b).0
 
+-- and the second
 pub gcd-dvd_right : (a b : ℕ) → gcd a b ∣ b
 gcd-dvd_right a b = (IsGcd-gcd a b).1
 
@@ -42,9 +45,11 @@ gcd-dvd_right a b = (IsGcd-gcd a b).1
 pub dvd-gcd : (k a b : ℕ) → k ∣ a → k ∣ b → k ∣ gcd a b
 dvd-gcd k a b h l = (IsGcd-gcd a b).2 k h l
 
+-- the order of the numbers does not matter
 pub gcd-comm : (a b : ℕ) → gcd a b ≡ gcd b a
 gcd-comm a b = gcd_is a b (gcd b a) (IsGcd-swap b a (gcd b a) (IsGcd-gcd b a))
 
+-- with 0 it is the number itself
 pub gcd-zero : (a : ℕ) → gcd a 0 ≡ a
 gcd-zero a = refl
 
@@ -80,6 +85,7 @@ gcd-mul (suc k) a b =
     (subst (λ n. n ∣ K * gcd a b) whole (mul-dvd-mul_left (g / K) K (dvd-gcd (g / K) a b left right)))
     (dvd-gcd (K * gcd a b) (K * a) (K * b) (mul-dvd-mul_left (gcd a b) K (gcd-dvd_left a b)) (mul-dvd-mul_left (gcd a b) K (gcd-dvd_right a b)))
 
+-- the same of a greatest common divisor that is given
 pub IsGcd-mul : (k a b g : ℕ) → IsGcd a b g → IsGcd (k * a) (k * b) (k * g)
 IsGcd-mul k a b g h =
     subst (IsGcd (k * a) (k * b)) (gcd-mul k a b ∙ ap (λ n. k * n) (gcd_is a b g h)) (IsGcd-gcd (k * a) (k * b))
@@ -109,6 +115,7 @@ IsGcd-div a b g h p = (one-dvd (a / g), one-dvd (b / g), only)
 pub IsGcd-one : (a b : ℕ) → ((k : ℕ) → k ∣ a → k ∣ b → k ≡ 1) → IsGcd a b 1
 IsGcd-one a b h = (one-dvd a, one-dvd b, λ k l m. subst (λ n. n ∣ 1) (sym (h k l m)) (dvd_refl 1))
 
+-- and where the greatest common divisor is 1, so is each common factor
 pub one_from_IsGcd : (a b : ℕ) → IsGcd a b 1 → (k : ℕ) → k ∣ a → k ∣ b → k ≡ 1
 one_from_IsGcd a b h k l m = eq-one_of_dvd-one (h.2 k l m)
 
@@ -133,9 +140,22 @@ dvd-gcd_all k [] h = dvd-zero k
 dvd-gcd_all k (e ∷ es) h =
     dvd-gcd k (nat_abs e) (gcd_all es) (All-head (λ e. k ∣ nat_abs e) e es h) (dvd-gcd_all k es (All-tail (λ e. k ∣ nat_abs e) e es h))
 
+-- a factor of all entries is one of their greatest common divisor
 pub gcd_all-scale : (k : ℤ) (es : List ℤ) → gcd_all (map (λ e. k *ℤ e) es) ≡ nat_abs k * gcd_all es
 gcd_all-scale k [] = omega arith
 gcd_all-scale k (e ∷ es) =
     ap (λ n. gcd n (gcd_all (map (λ e. k *ℤ e) es))) (unsigned_abs-mul k e)
     ∙ ap (λ n. gcd (nat_abs k * nat_abs e) n) (gcd_all-scale k es)
     ∙ gcd-mul (nat_abs k) (nat_abs e) (gcd_all es)
+
+-- entries whose only common factor is 1 have the greatest common divisor 1
+pub gcd_all_one : (es : List ℤ) → ((k : ℕ) → All (λ e. k ∣ nat_abs e) es → k ≡ 1) → gcd_all es ≡ 1
+gcd_all_one es h = h (gcd_all es) (gcd_all-dvd (gcd_all es) es (dvd_refl (gcd_all es)))
+
+-- and back
+pub one_from_gcd_all : (es : List ℤ) → gcd_all es ≡ 1 → (k : ℕ) → All (λ e. k ∣ nat_abs e) es → k ≡ 1
+one_from_gcd_all es e k h = eq-one_of_dvd-one (subst (λ n. k ∣ n) e (dvd-gcd_all k es h))
+
+-- the entries of a fraction in lowest terms
+pub IsGcd-from_gcd_all : (n d : ℤ) → gcd_all (n ∷ d ∷ []) ≡ 1 → IsGcd (nat_abs n) (nat_abs d) 1
+IsGcd-from_gcd_all n d e = subst (IsGcd (nat_abs n) (nat_abs d)) e (IsGcd-gcd (nat_abs n) (nat_abs d))

@@ -1,77 +1,42 @@
 -- The greatest and the least value of a function over a list: they are bounds, an element reaches them, and what one more element changes.
 use Rattle.std.proofs.Common.{◌≡◌, refl, sym, ◌∙◌, ap, subst, ℕ, suc, ◌+◌, ◌<◌, ◌⊎◌, inl, inr, ℤ, pos, ◌≤ℤ◌, List, [], ◌∷◌, ◌++◌, length, map, take, get_or, arith}
-use Rattle.std.specs.Prelude.{All, Contains, fold}
+use Rattle.std.specs.Prelude.{All, Any, Contains, fold}
 use Rattle.std.specs.Int.{int_max, int_min}
-use Rattle.std.proofs.lemmas.Int.{ints, clamps, by_lt_z}
+use Rattle.std.proofs.lemmas.Int.{ints}
 use Rattle.std.proofs.lemmas.List.{take_more, map-append, length-take-le}
 use Rattle.std.proofs.lemmas.List.Sums.{fold-append}
 use Rattle.std.proofs.lemmas.List.Elements.{All-nil, All-cons, All-contains}
+use Rattle.std.proofs.lemmas.Simd.{map-map}
+use Rattle.integers.specs.Size.{Size}
 use Rattle.integers.specs.Extremes.{greatest, least}
-
--- ---- two numbers
-
-pub left-le-max : (a b : ℤ) → a ≤ℤ int_max a b
-left-le-max a b = omega (arith, ints, clamps)
-
-pub right-le-max : (a b : ℤ) → b ≤ℤ int_max a b
-right-le-max a b = omega (arith, ints, clamps)
-
-pub min-le-left : (a b : ℤ) → int_min a b ≤ℤ a
-min-le-left a b = omega (arith, ints, clamps)
-
-pub min-le-right : (a b : ℤ) → int_min a b ≤ℤ b
-min-le-right a b = omega (arith, ints, clamps)
-
--- the greater of two is the first where it is at least the second, and else the second
-pub max_keeps : (a b : ℤ) → b ≤ℤ a → int_max a b ≡ a
-max_keeps a b h = omega (arith, ints, clamps)
-
-pub max_takes : (a b : ℤ) → a ≤ℤ b → int_max a b ≡ b
-max_takes a b h = omega (arith, ints, clamps)
-
-pub min_keeps : (a b : ℤ) → a ≤ℤ b → int_min a b ≡ a
-min_keeps a b h = omega (arith, ints, clamps)
-
-pub min_takes : (a b : ℤ) → b ≤ℤ a → int_min a b ≡ b
-min_takes a b h = omega (arith, ints, clamps)
-
-pick_max : (a b : ℤ) → (int_max a b ≡ a) ⊎ (int_max a b ≡ b)
-pick_max a b = by_lt_z b a (λ h. inl (omega (arith, ints, clamps))) (λ h. inr (omega (arith, ints, clamps)))
-
-pick_min : (a b : ℤ) → (int_min a b ≡ a) ⊎ (int_min a b ≡ b)
-pick_min a b = by_lt_z b a (λ h. inr (omega (arith, ints, clamps))) (λ h. inl (omega (arith, ints, clamps)))
-
-trans : {a b c : ℤ} → a ≤ℤ b → b ≤ℤ c → a ≤ℤ c
-trans h k = omega (arith, ints)
+use Rattle.integers.proofs.MaxMin.{left-le-max, right-le-max, min-le-left, min-le-right, max_keeps, max_takes, min_keeps, min_takes, pick_max, pick_min}
+use Rattle.integers.proofs.Order.{le_trans_ℤ, le_antisymm_ℤ}
 
 same_le : (a : ℤ) → a ≤ℤ a
 same_le a = omega (arith, ints)
-
-both_ways : {a b : ℤ} → a ≤ℤ b → b ≤ℤ a → a ≡ b
-both_ways h k = omega (arith, ints)
 
 -- ---- they are bounds
 
 start_below : (a : ℤ) (ys : List ℤ) → a ≤ℤ fold int_max a ys
 start_below a [] = same_le a
-start_below a (y ∷ ys) = trans (left-le-max a y) (start_below (int_max a y) ys)
+start_below a (y ∷ ys) = le_trans_ℤ (left-le-max a y) (start_below (int_max a y) ys)
 
 start_above : (a : ℤ) (ys : List ℤ) → fold int_min a ys ≤ℤ a
 start_above a [] = same_le a
-start_above a (y ∷ ys) = trans (start_above (int_min a y) ys) (min-le-left a y)
+start_above a (y ∷ ys) = le_trans_ℤ (start_above (int_min a y) ys) (min-le-left a y)
 
 all_below : {A : Type 0} (f : A → ℤ) (a : ℤ) (s : List A) → All (λ x. f x ≤ℤ fold int_max a (map f s)) s
 all_below f a [] = All-nil (λ x. f x ≤ℤ a)
 all_below f a (x ∷ s) =
     All-cons (λ y. f y ≤ℤ fold int_max (int_max a (f x)) (map f s)) x s
-    (trans (right-le-max a (f x)) (start_below (int_max a (f x)) (map f s)))
+    (le_trans_ℤ (right-le-max a (f x)) (start_below (int_max a (f x)) (map f s)))
     (all_below f (int_max a (f x)) s)
 
 all_above : {A : Type 0} (f : A → ℤ) (a : ℤ) (s : List A) → All (λ x. fold int_min a (map f s) ≤ℤ f x) s
 all_above f a [] = All-nil (λ x. a ≤ℤ f x)
 all_above f a (x ∷ s) =
     All-cons (λ y. fold int_min (int_min a (f x)) (map f s) ≤ℤ f y) x s
-    (trans (start_above (int_min a (f x)) (map f s)) (min-le-right a (f x)))
+    (le_trans_ℤ (start_above (int_min a (f x)) (map f s)) (min-le-right a (f x)))
     (all_above f (int_min a (f x)) s)
 
 -- no element's value is above the greatest
@@ -129,12 +94,26 @@ has_least f [] h = absurd (omega arith)
 has_least f (x ∷ s) h =
     elim (reached_min f (f x) s) [ inl e ↦ (x, here x s, e) | inr r ↦ (r.0, there x s r.1.0, r.1.1) ]
 
+-- the same, in the word for `some element`
+pub greatest_reached : {A : Type 0} (f : A → ℤ) (s : List A) → 0 < length s → Any (λ x. greatest f s ≡ f x) s
+greatest_reached f s h =
+    let g = has_greatest f s h in
+    (g.1.0, g.0, g.1.1, g.1.2, g.2)
+
+-- and of the least
+pub least_reached : {A : Type 0} (f : A → ℤ) (s : List A) → 0 < length s → Any (λ x. least f s ≡ f x) s
+least_reached f s h =
+    let g = has_least f s h in
+    (g.1.0, g.0, g.1.1, g.1.2, g.2)
+
 -- ---- one more element
 
+-- with one more element, the greatest value is the greater of the one so far and the new one
 pub greatest-one_more : {A : Type 0} (f : A → ℤ) (s : List A) (a : A) → 0 < length s → greatest f (s ++ a ∷ []) ≡ int_max (greatest f s) (f a)
 greatest-one_more f [] a h = absurd (omega arith)
 greatest-one_more f (x ∷ s) a h = ap (fold int_max (f x)) (map-append f s (a ∷ [])) ∙ fold-append int_max (f x) (map f s) (f a ∷ [])
 
+-- with one more element, the least value is the smaller of the one so far and the new one
 pub least-one_more : {A : Type 0} (f : A → ℤ) (s : List A) (a : A) → 0 < length s → least f (s ++ a ∷ []) ≡ int_min (least f s) (f a)
 least-one_more f [] a h = absurd (omega arith)
 least-one_more f (x ∷ s) a h = ap (fold int_min (f x)) (map-append f s (a ∷ [])) ∙ fold-append int_min (f x) (map f s) (f a ∷ [])
@@ -146,6 +125,7 @@ taken s i h l = let e = length-take-le i s (omega arith) in omega arith
 pub greatest-take_more : {A : Type 0} (f : A → ℤ) (s : List A) (i : ℕ) (d : A) → 0 < i → i < length s → greatest f (take (i + 1) s) ≡ int_max (greatest f (take i s)) (f (get_or s i d))
 greatest-take_more f s i d h l = ap (greatest f) (take_more s i d l) ∙ greatest-one_more f (take i s) (get_or s i d) (taken s i h l)
 
+-- the same step for the least value
 pub least-take_more : {A : Type 0} (f : A → ℤ) (s : List A) (i : ℕ) (d : A) → 0 < i → i < length s → least f (take (i + 1) s) ≡ int_min (least f (take i s)) (f (get_or s i d))
 least-take_more f s i d h l = ap (least f) (take_more s i d l) ∙ least-one_more f (take i s) (get_or s i d) (taken s i h l)
 
@@ -154,6 +134,7 @@ pub greatest-take_one : {A : Type 0} (f : A → ℤ) (s : List A) (d : A) → 0 
 greatest-take_one f [] d h = absurd (omega arith)
 greatest-take_one f (x ∷ s) d h = refl
 
+-- and for the least value
 pub least-take_one : {A : Type 0} (f : A → ℤ) (s : List A) (d : A) → 0 < length s → least f (take 1 s) ≡ f (get_or s 0 d)
 least-take_one f [] d h = absurd (omega arith)
 least-take_one f (x ∷ s) d h = refl
@@ -162,12 +143,15 @@ least-take_one f (x ∷ s) d h = refl
 pub greatest_keeps : {A : Type 0} (f : A → ℤ) (s : List A) (i : ℕ) (d : A) → 0 < i → i < length s → f (get_or s i d) ≤ℤ greatest f (take i s) → greatest f (take (i + 1) s) ≡ greatest f (take i s)
 greatest_keeps f s i d h l k = greatest-take_more f s i d h l ∙ max_keeps _ _ k
 
+-- the loop takes the element's value
 pub greatest_takes : {A : Type 0} (f : A → ℤ) (s : List A) (i : ℕ) (d : A) → 0 < i → i < length s → greatest f (take i s) ≤ℤ f (get_or s i d) → greatest f (take (i + 1) s) ≡ f (get_or s i d)
 greatest_takes f s i d h l k = greatest-take_more f s i d h l ∙ max_takes _ _ k
 
+-- the same for the least value: it stays
 pub least_keeps : {A : Type 0} (f : A → ℤ) (s : List A) (i : ℕ) (d : A) → 0 < i → i < length s → least f (take i s) ≤ℤ f (get_or s i d) → least f (take (i + 1) s) ≡ least f (take i s)
 least_keeps f s i d h l k = least-take_more f s i d h l ∙ min_keeps _ _ k
 
+-- or is taken
 pub least_takes : {A : Type 0} (f : A → ℤ) (s : List A) (i : ℕ) (d : A) → 0 < i → i < length s → f (get_or s i d) ≤ℤ least f (take i s) → least f (take (i + 1) s) ≡ f (get_or s i d)
 least_takes f s i d h l k = least-take_more f s i d h l ∙ min_takes _ _ k
 
@@ -177,7 +161,7 @@ least_takes f s i d h l k = least-take_more f s i d h l ∙ min_takes _ _ k
 pub greatest_is : {A : Type 0} (f : A → ℤ) (s : List A) (x : A) → Contains s x → All (λ y. f y ≤ℤ f x) s → greatest f s ≡ f x
 greatest_is f s x c h =
     let g = has_greatest f s (some c) in
-    both_ways
+    le_antisymm_ℤ
     (subst (λ v. v ≤ℤ f x) (sym g.2) (All-contains (λ y. f y ≤ℤ f x) s g.0 h g.1))
     (All-contains (λ y. f y ≤ℤ greatest f s) s x (below_greatest f s) c)
   where
@@ -188,7 +172,7 @@ greatest_is f s x c h =
 pub least_is : {A : Type 0} (f : A → ℤ) (s : List A) (x : A) → Contains s x → All (λ y. f x ≤ℤ f y) s → least f s ≡ f x
 least_is f s x c h =
     let g = has_least f s (some c) in
-    both_ways
+    le_antisymm_ℤ
     (All-contains (λ y. least f s ≤ℤ f y) s x (above_least f s) c)
     (subst (λ v. f x ≤ℤ v) (sym g.2) (All-contains (λ y. f x ≤ℤ f y) s g.0 h g.1))
   where
@@ -212,3 +196,27 @@ pub least-le-greatest : {A : Type 0} (f : A → ℤ) (s : List A) → 0 < length
 least-le-greatest f s l =
     let g = has_greatest f s l in
     subst (λ v. least f s ≤ℤ v) (sym g.2) (All-contains (λ x. least f s ≤ℤ f x) s g.0 (above_least f s) g.1)
+
+-- numbers of at most n in size have a greatest and a least one that are
+pub size_greatest : {A : Type 0} (f : A → ℤ) (n : ℕ) (s : List A) → 0 < length s → All (λ x. Size n (f x)) s → Size n (greatest f s)
+size_greatest f n s l h =
+    let g = has_greatest f s l in
+    subst (Size n) (sym g.2) (All-contains (λ x. Size n (f x)) s g.0 h g.1)
+
+-- the same of the least
+pub size_least : {A : Type 0} (f : A → ℤ) (n : ℕ) (s : List A) → 0 < length s → All (λ x. Size n (f x)) s → Size n (least f s)
+size_least f n s l h =
+    let g = has_least f s l in
+    subst (Size n) (sym g.2) (All-contains (λ x. Size n (f x)) s g.0 h g.1)
+
+-- ---- over a mapped list
+
+-- the greatest value over a mapped list is that of the composed function
+pub greatest-map : {A B : Type 0} (f : B → ℤ) (g : A → B) (s : List A) → greatest f (map g s) ≡ greatest (λ a. f (g a)) s
+greatest-map f g [] = refl
+greatest-map f g (a ∷ s) = ap (fold int_max (f (g a))) (map-map f g s)
+
+-- and so is the least
+pub least-map : {A B : Type 0} (f : B → ℤ) (g : A → B) (s : List A) → least f (map g s) ≡ least (λ a. f (g a)) s
+least-map f g [] = refl
+least-map f g (a ∷ s) = ap (fold int_min (f (g a))) (map-map f g s)

@@ -1,30 +1,56 @@
--- `ring` where the expressions are read off the goal by `simp`.
-use Rattle.std.proofs.Common.{◌≡◌, refl, ℕ, suc, ℤ, pos, negsuc, ◌+ℤ◌, ◌*ℤ◌, neg_ℤ, List, [], ◌∷◌}
+-- An identity of polynomials over `ℤ`, in one line.
+--
+-- `read` takes the variables as a list, and a function of that list and of an equation for each variable. `simp` turns the goal into
+-- two expressions, and `den-ring` decides by computation that they are one polynomial:
+--
+--   squares : (a b : ℤ) → (a -ℤ b) *ℤ (a +ℤ b) ≡ a *ℤ a -ℤ b *ℤ b
+--   squares a b = read (a ∷ b ∷ []) (λ xs p q. simp (p, q, polys) (den-ring xs _ _ tt))
+--
+--   use Rattle.std.proofs.Common.{◌≡◌, ℤ, ◌-ℤ◌, ◌+ℤ◌, ◌*ℤ◌, [], ◌∷◌}
+--   use Rattle.integers.proofs.Identities.{den-ring, read, polys}
+--
+-- - Numerals: add `lits xs` to the list of `simp` where `pos n` stands in the goal, and `below_lits xs` where `negsuc n` does, to which
+--   also `x -ℤ pos n` computes. Where in doubt add both.
+-- - A variable may be any term, as `p.x` or `f i`, but none may stand inside another. Else state the identity over plain variables,
+--   and give it the terms.
+-- - An `abbrev`, as `det2` or `square2`, unfolds by itself.
+-- - From equations: `combine1 c h (read ..)` proves a ≡ b from h : p ≡ q, where a - b is c (p - q) (Order has `combine2` and `combine3`).
+-- - For an order: `le_by (why D is at least 0) (read ..)` proves a ≤ b, where b - a is D (Order).
+-- - A product with the numeral 0 or 1 computes away and can hide what is to be read: use `omega (arith, ints)` there.
+-- - An identity that is false fails at `tt`: 'the two sides are `⊥` (left) and `Unit` (right)'.
+use Rattle.std.proofs.Common.{◌≡◌, refl, ℕ, suc, ℤ, pos, negsuc, ◌+ℤ◌, ◌*ℤ◌, neg_ℤ, ◌-ℤ◌, List, [], ◌∷◌}
 use Rattle.integers.proofs.Polynomials.{Expr, var, lit, ◌⊕◌, ◌⊗◌, neg, ring, eval, Same, nth}
 
+-- what an expression means at the numbers xs, as `simp` writes it
 unfoldable pub den : List ℤ → Expr → ℤ
 den xs e = eval xs e
 
+-- the sum of two expressions is one
 pub den-add : (xs : List ℤ) (e f : Expr) → den xs e +ℤ den xs f ≡ den xs (e ⊕ f)
 unfolding den
 den-add xs e f = refl
 
+-- so is their product
 pub den-mul : (xs : List ℤ) (e f : Expr) → den xs e *ℤ den xs f ≡ den xs (e ⊗ f)
 unfolding den
 den-mul xs e f = refl
 
+-- and the negative of one
 pub den-neg : (xs : List ℤ) (e : Expr) → neg_ℤ (den xs e) ≡ den xs (neg e)
 unfolding den
 den-neg xs e = refl
 
+-- a numeral is an expression
 pub lits : (xs : List ℤ) (n : ℕ) → pos n ≡ den xs (lit n)
 unfolding den
 lits xs n = refl
 
+-- and so is one below 0
 pub below_lits : (xs : List ℤ) (n : ℕ) → negsuc n ≡ den xs (neg (lit (suc n)))
 unfolding den
 below_lits xs n = refl
 
+-- expressions that are one polynomial mean the same
 pub den-ring : (xs : List ℤ) (e f : Expr) → Same e f → den xs e ≡ den xs f
 unfolding den
 den-ring xs e f t = ring xs e f t
@@ -51,8 +77,23 @@ unfolding den
 give [] i xs P h f = f
 give (v ∷ vs) i xs P h f = give vs (suc i) xs P h.1 (f h.0)
 
+-- what holds of expressions over any list holds of the numbers vs
 pub read : (vs : List ℤ) {P : Type 0} → ((xs : List ℤ) → Read vs 0 xs P) → P
 read vs {P} f = give vs 0 vs P (at_all vs) (f vs)
 
--- for `simp`
+-- the sums, products and negatives, for `simp`
 pub ruleset polys = (den-add, den-mul, den-neg)
+
+-- ---- examples
+
+-- no numeral
+pub difference_of_squares : (a b : ℤ) → (a -ℤ b) *ℤ (a +ℤ b) ≡ a *ℤ a -ℤ b *ℤ b
+difference_of_squares a b = read (a ∷ b ∷ []) (λ xs p q. simp (p, q, polys) (den-ring xs _ _ tt))
+
+-- a numeral
+pub square_of_sum : (a b : ℤ) → (a +ℤ b) *ℤ (a +ℤ b) ≡ a *ℤ a +ℤ pos 2 *ℤ (a *ℤ b) +ℤ b *ℤ b
+square_of_sum a b = read (a ∷ b ∷ []) (λ xs p q. simp (p, q, polys, lits xs) (den-ring xs _ _ tt))
+
+-- a numeral below 0, and terms for variables
+pub square_less_one : (f : ℕ → ℤ) (i : ℕ) → (f i -ℤ pos 1) *ℤ (f i +ℤ pos 1) ≡ f i *ℤ f i -ℤ pos 1
+square_less_one f i = read (f i ∷ []) (λ xs p. simp (p, polys, lits xs, below_lits xs) (den-ring xs _ _ tt))

@@ -7,7 +7,7 @@ use Rattle.integers.proofs.Order.{nonneg_add, square_nonneg, le_by}
 
 -- |u|² |v|² is the square of the dot product and that of the cross product
 pub lagrange_plane : (ux uy vx vy : ℤ) → (ux *ℤ ux +ℤ uy *ℤ uy) *ℤ (vx *ℤ vx +ℤ vy *ℤ vy) ≡ (ux *ℤ vx +ℤ uy *ℤ vy) *ℤ (ux *ℤ vx +ℤ uy *ℤ vy) +ℤ (ux *ℤ vy -ℤ uy *ℤ vx) *ℤ (ux *ℤ vy -ℤ uy *ℤ vx)
-lagrange_plane ux uy vx vy = (read (ux ∷ uy ∷ vx ∷ vy ∷ []) (λ xs a b c d. simp (a, b, c, d, polys) (den-ring xs _ _ tt)))
+lagrange_plane ux uy vx vy = read (ux ∷ uy ∷ vx ∷ vy ∷ []) (λ xs a b c d. simp (a, b, c, d, polys) (den-ring xs _ _ tt))
 
 -- the square of the dot product is at most |u|² |v|²
 pub cauchy_schwarz_plane : (ux uy vx vy : ℤ) → ((ux *ℤ vx +ℤ uy *ℤ vy) *ℤ (ux *ℤ vx +ℤ uy *ℤ vy)) ≤ℤ ((ux *ℤ ux +ℤ uy *ℤ uy) *ℤ (vx *ℤ vx +ℤ vy *ℤ vy))
@@ -19,7 +19,7 @@ cross_square_le_plane ux uy vx vy = le_by (square_nonneg (ux *ℤ vx +ℤ uy *�
 
 -- |u - v|² by the lengths and the dot product
 pub distance_square_plane : (ux uy vx vy : ℤ) → (ux -ℤ vx) *ℤ (ux -ℤ vx) +ℤ (uy -ℤ vy) *ℤ (uy -ℤ vy) ≡ ux *ℤ ux +ℤ uy *ℤ uy -ℤ pos 2 *ℤ (ux *ℤ vx +ℤ uy *ℤ vy) +ℤ (vx *ℤ vx +ℤ vy *ℤ vy)
-distance_square_plane ux uy vx vy = (read (ux ∷ uy ∷ vx ∷ vy ∷ []) (λ xs a b c d. simp (a, b, c, d, polys, lits xs) (den-ring xs _ _ tt)))
+distance_square_plane ux uy vx vy = read (ux ∷ uy ∷ vx ∷ vy ∷ []) (λ xs a b c d. simp (a, b, c, d, polys, lits xs) (den-ring xs _ _ tt))
 
 -- ---- in space
 
@@ -27,7 +27,7 @@ distance_square_plane ux uy vx vy = (read (ux ∷ uy ∷ vx ∷ vy ∷ []) (λ x
 pub lagrange_space : (ux uy uz vx vy vz : ℤ)
     → (ux *ℤ ux +ℤ uy *ℤ uy +ℤ uz *ℤ uz) *ℤ (vx *ℤ vx +ℤ vy *ℤ vy +ℤ vz *ℤ vz)
     ≡ (ux *ℤ vx +ℤ uy *ℤ vy +ℤ uz *ℤ vz) *ℤ (ux *ℤ vx +ℤ uy *ℤ vy +ℤ uz *ℤ vz) +ℤ ((uy *ℤ vz -ℤ uz *ℤ vy) *ℤ (uy *ℤ vz -ℤ uz *ℤ vy) +ℤ (uz *ℤ vx -ℤ ux *ℤ vz) *ℤ (uz *ℤ vx -ℤ ux *ℤ vz) +ℤ (ux *ℤ vy -ℤ uy *ℤ vx) *ℤ (ux *ℤ vy -ℤ uy *ℤ vx))
-lagrange_space ux uy uz vx vy vz = (read (ux ∷ uy ∷ uz ∷ vx ∷ vy ∷ vz ∷ []) (λ xs a b c d e f. simp (a, b, c, d, e, f, polys) (den-ring xs _ _ tt)))
+lagrange_space ux uy uz vx vy vz = read (ux ∷ uy ∷ uz ∷ vx ∷ vy ∷ vz ∷ []) (λ xs a b c d e f. simp (a, b, c, d, e, f, polys) (den-ring xs _ _ tt))
 
 -- the square of the dot product is at most |u|² |v|²
 pub cauchy_schwarz_space : (ux uy uz vx vy vz : ℤ) → ((ux *ℤ vx +ℤ uy *ℤ vy +ℤ uz *ℤ vz) *ℤ (ux *ℤ vx +ℤ uy *ℤ vy +ℤ uz *ℤ vz)) ≤ℤ ((ux *ℤ ux +ℤ uy *ℤ uy +ℤ uz *ℤ uz) *ℤ (vx *ℤ vx +ℤ vy *ℤ vy +ℤ vz *ℤ vz))
@@ -38,4 +38,4 @@ cauchy_schwarz_space ux uy uz vx vy vz =
 
 -- |u - v|² by the lengths and the dot product
 pub distance_square_space : (ux uy uz vx vy vz : ℤ) → (ux -ℤ vx) *ℤ (ux -ℤ vx) +ℤ (uy -ℤ vy) *ℤ (uy -ℤ vy) +ℤ (uz -ℤ vz) *ℤ (uz -ℤ vz) ≡ ux *ℤ ux +ℤ uy *ℤ uy +ℤ uz *ℤ uz -ℤ pos 2 *ℤ (ux *ℤ vx +ℤ uy *ℤ vy +ℤ uz *ℤ vz) +ℤ (vx *ℤ vx +ℤ vy *ℤ vy +ℤ vz *ℤ vz)
-distance_square_space ux uy uz vx vy vz = (read (ux ∷ uy ∷ uz ∷ vx ∷ vy ∷ vz ∷ []) (λ xs a b c d e f. simp (a, b, c, d, e, f, polys, lits xs) (den-ring xs _ _ tt)))
+distance_square_space ux uy uz vx vy vz = read (ux ∷ uy ∷ uz ∷ vx ∷ vy ∷ vz ∷ []) (λ xs a b c d e f. simp (a, b, c, d, e, f, polys, lits xs) (den-ring xs _ _ tt))

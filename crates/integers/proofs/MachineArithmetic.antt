@@ -1,10 +1,22 @@
--- What code computes in signed numbers of fixed width, against the same expression over `ℤ`: by computation.
-use Rattle.std.proofs.Common.{◌≡◌, refl, sym, ◌∙◌, ap, ap₂, subst, ℕ, zero, suc, ◌+◌, ◌*◌, ◌^◌, ℤ, pos, negsuc, ◌+ℤ◌, ◌*ℤ◌, neg_ℤ, arith, List, [], ◌∷◌, Bool, true, false, T, ltb, ltb→lt, leb, zero-le, FitsSigned, to_z, of_z, to_z-of_z}
-use Rattle.std.proofs.lemmas.Int.{ints, fits_signed_from_abs}
+-- What code computes in signed numbers of 32, 64 or 128 bits is what its expression means over `ℤ`: each goal in one line, by computation.
+--
+-- `with_inputs` takes the inputs, each with a bound on its size, and a function of their list, of their bounds and of an equation for each.
+-- `simp` turns the goal's code into an expression, and `tt` decides that every step of it fits:
+--
+--   overflow_mul-x c = with_inputs (given c.requires.a ∷ given c.requires.b ∷ []) (λ xs h a b. simp (a, b, codes) (fits xs h w128 _ tt))
+--
+-- - `fits xs h w _ tt` for an overflow, w being `w32`, `w64` or `w128` (`w128` of `mir.Syntax`), `computes xs h _ _ tt tt` for a result, and
+--   `size_within xs h _ tt` for a bound that the function ensures.
+-- - A numeral of the goal wants its rule: `number xs 3` for 3, `number_below xs 6` for -7.
+-- - An `abbrev inputs` shares the inputs of a function's answers (proofs/examples/orientation).
+-- - An unsigned number that is cast to a signed one: `simp (to_z_pos w128 n below)` first (proofs/examples/weighted_sum). For unsigned code
+--   see UnsignedArithmetic.
+use Rattle.std.proofs.Common.{◌≡◌, refl, sym, ◌∙◌, ap, ap₂, subst, ℕ, zero, suc, ◌+◌, ◌*◌, ◌^◌, ℤ, pos, negsuc, ◌+ℤ◌, ◌*ℤ◌, neg_ℤ, arith, List, [], ◌∷◌, Bool, true, false, T, ltb, leb, zero-le, FitsSigned, to_z, of_z, to_z-of_z}
+use Rattle.std.proofs.lemmas.Int.{ints}
 use mir.Syntax.{Width}
 use mir.Val.{hbits}
 use Rattle.integers.specs.Size.{Size}
-use Rattle.integers.proofs.Sizes.{size_add, size_mul, size_neg, size_more}
+use Rattle.integers.proofs.Sizes.{size_add, size_mul, size_neg, size_more, size_fits_in}
 use Rattle.integers.proofs.Polynomials.{Expr, var, lit, ◌⊕◌, ◌⊗◌, neg, ring, eval, Same, nth}
 
 -- an expression of code: `back w e` is e as it comes back from its bits
@@ -25,6 +37,7 @@ meant (times e f) = meant e ⊗ meant f
 meant (minus e) = neg (meant e)
 meant (back w e) = meant e
 
+-- what the code computes at the inputs xs
 abbrev pub result_of : List ℤ → Code → ℤ
 result_of xs (input i) = nth xs i
 result_of xs (numeral n) = pos n
@@ -33,11 +46,13 @@ result_of xs (times e f) = result_of xs e *ℤ result_of xs f
 result_of xs (minus e) = neg_ℤ (result_of xs e)
 result_of xs (back w e) = to_z w (of_z w (result_of xs e))
 
+-- the limit of an input
 abbrev pub bound_at : List ℕ → ℕ → ℕ
 bound_at [] i = 0
 bound_at (n ∷ ns) zero = n
 bound_at (n ∷ ns) (suc i) = bound_at ns i
 
+-- a bound on the size of the value, from the limits of the inputs
 abbrev pub bound : List ℕ → Code → ℕ
 bound ns (input i) = bound_at ns i
 bound ns (numeral n) = n
@@ -46,6 +61,7 @@ bound ns (times e f) = bound ns e * bound ns f
 bound ns (minus e) = bound ns e
 bound ns (back w e) = bound ns e
 
+-- both tests hold
 abbrev pub both : Bool → Bool → Bool
 both true b = b
 both false b = false
@@ -78,9 +94,6 @@ record Exact (ns : List ℕ) (xs : List ℤ) (e : Code) : Type 0 where
 size_numeral : (n : ℕ) → Size n (pos n)
 size_numeral n = record { abs = omega (arith, ints) }
 
-fits_size : (w : Width) {z : ℤ} {n : ℕ} → Size n z → T (ltb n (2 ^ hbits w)) → FitsSigned w z
-fits_size w {z} {n} h t = let below = ltb→lt n (2 ^ hbits w) t in fits_signed_from_abs w z (omega (arith, h.abs))
-
 exact : (ns : List ℕ) (xs : List ℤ) → Sizes ns xs → (e : Code) → T (fits_all ns e) → Exact ns xs e
 exact ns xs h (input i) t = record { is = refl; size = h.each i }
 exact ns xs h (numeral n) t = record { is = refl; size = size_numeral n }
@@ -97,29 +110,35 @@ exact ns xs h (minus e) t =
     record { is = ap neg_ℤ a.is; size = size_neg a.size }
 exact ns xs h (back w e) t =
     let a = exact ns xs h e (both_first (fits_all ns e) (ltb (bound ns e) (2 ^ hbits w)) t) in
-    record { is = ap (λ z. to_z w (of_z w z)) a.is ∙ to_z-of_z (fits_size w a.size (both_second (fits_all ns e) (ltb (bound ns e) (2 ^ hbits w)) t)); size = a.size }
+    record { is = ap (λ z. to_z w (of_z w z)) a.is ∙ to_z-of_z (size_fits_in w a.size (both_second (fits_all ns e) (ltb (bound ns e) (2 ^ hbits w)) t)); size = a.size }
 
 -- ---- read off a goal
 
+-- what the code computes, as `simp` writes it
 unfoldable pub res : List ℤ → Code → ℤ
 res xs e = result_of xs e
 
+-- the sum of two codes is one
 pub res-plus : (xs : List ℤ) (e f : Code) → res xs e +ℤ res xs f ≡ res xs (plus e f)
 unfolding res
 res-plus xs e f = refl
 
+-- so is their product
 pub res-times : (xs : List ℤ) (e f : Code) → res xs e *ℤ res xs f ≡ res xs (times e f)
 unfolding res
 res-times xs e f = refl
 
+-- and the negative of one
 pub res-minus : (xs : List ℤ) (e : Code) → neg_ℤ (res xs e) ≡ res xs (minus e)
 unfolding res
 res-minus xs e = refl
 
+-- and one that went to its bits and back
 pub res-back : (xs : List ℤ) (w : Width) (e : Code) → to_z w (of_z w (res xs e)) ≡ res xs (back w e)
 unfolding res
 res-back xs w e = refl
 
+-- these four, for `simp`
 pub ruleset codes = (res-plus, res-times, res-minus, res-back)
 
 -- for each numeral of the goal, as `number xs 2`, and `number_below xs 6` for -7: a rule for every n would also fit inside `to_z`
@@ -127,6 +146,7 @@ pub number : (xs : List ℤ) (n : ℕ) → pos n ≡ res xs (numeral n)
 unfolding res
 number xs n = refl
 
+-- a numeral below 0
 pub number_below : (xs : List ℤ) (n : ℕ) → negsuc n ≡ res xs (minus (numeral (suc n)))
 unfolding res
 number_below xs n = refl
@@ -144,10 +164,11 @@ pub fits : {ns : List ℕ} (xs : List ℤ) → Sizes ns xs → (w : Width) (e : 
 unfolding res
 fits {ns} xs h w e t =
     let a = exact ns xs h e (both_first (fits_all ns e) (ltb (bound ns e) (2 ^ hbits w)) t) in
-    subst (FitsSigned w) (sym a.is) (fits_size w a.size (both_second (fits_all ns e) (ltb (bound ns e) (2 ^ hbits w)) t))
+    subst (FitsSigned w) (sym a.is) (size_fits_in w a.size (both_second (fits_all ns e) (ltb (bound ns e) (2 ^ hbits w)) t))
 
 -- ---- the inputs
 
+-- `f` at any list, with each number of vs as the input of its place
 abbrev pub Inputs : List ℤ → ℕ → List ℤ → Type 0 → Type 0
 Inputs [] i xs P = P
 Inputs (v ∷ vs) i xs P = v ≡ res xs (input i) → Inputs vs (suc i) xs P
@@ -175,13 +196,16 @@ pub record Given : Type 0 where
   pub limit : ℕ
   pub size : Size limit value
 
+-- `given h`, where h bounds the size of the number
 abbrev pub given : {n : ℕ} {z : ℤ} → Size n z → Given
 given {n} {z} h = record { value = z; limit = n; size = h }
 
+-- the numbers
 abbrev pub values : List Given → List ℤ
 values [] = []
 values (g ∷ gs) = g.value ∷ values gs
 
+-- their limits
 abbrev pub limits : List Given → List ℕ
 limits [] = []
 limits (g ∷ gs) = g.limit ∷ limits gs

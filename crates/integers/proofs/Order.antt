@@ -44,6 +44,7 @@ positive_add h k = omega (arith, ints)
 pub nonneg_from_positive : {a : ℤ} → pos 0 <ℤ a → pos 0 ≤ℤ a
 nonneg_from_positive h = omega (arith, ints)
 
+-- a number above 0 is at least 1
 pub at_least_one : {a : ℤ} → pos 0 <ℤ a → pos 1 ≤ℤ a
 at_least_one h = omega (arith, ints)
 

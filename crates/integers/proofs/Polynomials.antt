@@ -9,6 +9,7 @@ use Rattle.integers.proofs.RingLaws.{*ℤ-+ℤ, +ℤ-*ℤ, *ℤ_assoc, neg_ℤ-*
 
 -- ---- expressions
 
+-- a variable by its place in the list of numbers, a numeral, a sum, a product or a negative
 pub data Expr : Type 0 where
   var : ℕ → Expr
   lit : ℕ → Expr
@@ -18,14 +19,17 @@ pub data Expr : Type 0 where
 
 infixl 6 ◌⊕◌ ◌⊖◌
 infixl 7 ◌⊗◌
+-- a difference
 abbrev pub ◌⊖◌ : Expr → Expr → Expr
 e ⊖ f = e ⊕ neg f
 
+-- the number at a place
 abbrev pub nth : List ℤ → ℕ → ℤ
 nth [] i = pos 0
 nth (x ∷ xs) zero = x
 nth (x ∷ xs) (suc i) = nth xs i
 
+-- what an expression means at the numbers xs
 abbrev pub eval : List ℤ → Expr → ℤ
 eval xs (var i) = nth xs i
 eval xs (lit n) = pos n
@@ -35,18 +39,22 @@ eval xs (neg e) = neg_ℤ (eval xs e)
 
 -- ---- normal forms: the monomials in falling order, each a sorted list of variables, with its coefficient
 
+-- a product of variables, by their places in rising order
 pub data Mon : Type 0 where
   unit : Mon
   by : ℕ → Mon → Mon
 
+-- a sum of monomials, each with its coefficient
 pub data Poly : Type 0 where
   nil : Poly
   term : ℤ → Mon → Poly → Poly
 
+-- what a monomial means
 abbrev pub value_of_mon : List ℤ → Mon → ℤ
 value_of_mon xs unit = pos 1
 value_of_mon xs (by i m) = nth xs i *ℤ value_of_mon xs m
 
+-- what a polynomial means
 abbrev pub value_of_poly : List ℤ → Poly → ℤ
 value_of_poly xs nil = pos 0
 value_of_poly xs (term c m p) = c *ℤ value_of_mon xs m +ℤ value_of_poly xs p
@@ -63,6 +71,7 @@ abbrev pub merge_step : ℕ → Mon → (Mon → Mon) → Mon → Mon
 merge_step i m rest unit = by i m
 merge_step i m rest (by j n) = elim (compare i j) [ lt ↦ by i (rest (by j n)) | eq ↦ by i (rest (by j n)) | gt ↦ by j (merge_step i m rest n) ]
 
+-- the product of two monomials, which merges their variables
 abbrev pub mul_mon : Mon → Mon → Mon
 mul_mon unit n = n
 mul_mon (by i m) n = merge_step i m (mul_mon m) n
@@ -73,26 +82,32 @@ cons_term (pos zero) m p = p
 cons_term (pos (suc k)) m p = term (pos (suc k)) m p
 cons_term (negsuc k) m p = term (negsuc k) m p
 
+-- one step of a sum, `rest` being the sum with what follows the first term
 abbrev pub add_step : ℤ → Mon → Poly → (Poly → Poly) → Poly → Poly
 add_step c m p rest nil = term c m p
 add_step c m p rest (term d n q) = elim (cmp_mon m n) [ gt ↦ term c m (rest (term d n q)) | eq ↦ cons_term (c +ℤ d) m (rest q) | lt ↦ term d n (add_step c m p rest q) ]
 
+-- the sum of two polynomials, which merges their terms
 abbrev pub add_poly : Poly → Poly → Poly
 add_poly nil q = q
 add_poly (term c m p) q = add_step c m p (add_poly p) q
 
+-- a polynomial times one term
 abbrev pub scale_poly : ℤ → Mon → Poly → Poly
 scale_poly c m nil = nil
 scale_poly c m (term d n q) = term (c *ℤ d) (mul_mon m n) (scale_poly c m q)
 
+-- the product of two polynomials
 abbrev pub mul_poly : Poly → Poly → Poly
 mul_poly nil q = nil
 mul_poly (term c m p) q = add_poly (scale_poly c m q) (mul_poly p q)
 
+-- the negative of a polynomial
 abbrev pub neg_poly : Poly → Poly
 neg_poly nil = nil
 neg_poly (term c m p) = term (neg_ℤ c) m (neg_poly p)
 
+-- an expression's normal form
 abbrev pub norm : Expr → Poly
 norm (var i) = term (pos 1) (by i unit) nil
 norm (lit n) = cons_term (pos n) unit nil
@@ -100,6 +115,7 @@ norm (e ⊕ f) = add_poly (norm e) (norm f)
 norm (e ⊗ f) = mul_poly (norm e) (norm f)
 norm (neg e) = neg_poly (norm e)
 
+-- the polynomial has no term
 abbrev pub is_nil : Poly → Bool
 is_nil nil = true
 is_nil (term c m p) = false
@@ -216,6 +232,7 @@ equal_of_difference a b e = omega (arith, ints)
 abbrev pub Same : Expr → Expr → Type 0
 Same e f = T (is_nil (norm (e ⊖ f)))
 
+-- expressions that are one polynomial mean the same at all numbers
 pub ring : (xs : List ℤ) (e f : Expr) → Same e f → eval xs e ≡ eval xs f
 ring xs e f t =
     equal_of_difference (eval xs e) (eval xs f) (ap (value_of_poly xs) (sym (nil_is (norm (e ⊖ f)) t)) ∙ value-norm xs (e ⊖ f))

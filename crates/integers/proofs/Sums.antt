@@ -12,10 +12,12 @@ use Rattle.integers.proofs.Sizes.{size_add}
 
 -- ---- over lists
 
+-- the sum over two lists in a row is the sum of both
 pub total-append : {A : Type 0} (f : A → ℤ) (s t : List A) → total f (s ++ t) ≡ total f s +ℤ total f t
 total-append f [] t = omega (arith, ints)
 total-append f (a ∷ s) t = let ih = total-append f s t in omega (arith, ints)
 
+-- one more element adds its number
 pub total-one_more : {A : Type 0} (f : A → ℤ) (s : List A) (a : A) → total f (s ++ (a ∷ [])) ≡ total f s +ℤ f a
 total-one_more f s a = total-append f s (a ∷ []) ∙ omega (arith, ints)
 
@@ -23,6 +25,7 @@ total-one_more f s a = total-append f s (a ∷ []) ∙ omega (arith, ints)
 pub total-take_more : {A : Type 0} (f : A → ℤ) (xs : List A) (i : ℕ) (d : A) → i < length xs → total f (take (i + 1) xs) ≡ total f (take i xs) +ℤ f (get_or xs i d)
 total-take_more f xs i d h = ap (total f) (take_more xs i d h) ∙ total-one_more f (take i xs) (get_or xs i d)
 
+-- the sum over a mapped list is that of the composed function
 pub total-map : {A B : Type 0} (f : B → ℤ) (g : A → B) (s : List A) → total f (map g s) ≡ total (λ a. f (g a)) s
 total-map f g [] = refl
 total-map f g (a ∷ s) = ap (λ t. f (g a) +ℤ t) (total-map f g s)
@@ -35,14 +38,17 @@ total-same f g [] h = refl
 total-same f g (a ∷ s) h =
     ap₂ (λ v w. v +ℤ w) (All-head (λ a. f a ≡ g a) a s h) (total-same f g s (All-tail (λ a. f a ≡ g a) a s h))
 
+-- the sum of two functions
 pub total-add : {A : Type 0} (f g : A → ℤ) (s : List A) → total (λ a. f a +ℤ g a) s ≡ total f s +ℤ total g s
 total-add f g [] = refl
 total-add f g (a ∷ s) = let ih = total-add f g s in omega (arith, ints)
 
+-- the difference of two functions
 pub total-sub : {A : Type 0} (f g : A → ℤ) (s : List A) → total (λ a. f a -ℤ g a) s ≡ total f s -ℤ total g s
 total-sub f g [] = refl
 total-sub f g (a ∷ s) = let ih = total-sub f g s in omega (arith, ints)
 
+-- the negative of a function
 pub total-neg : {A : Type 0} (f : A → ℤ) (s : List A) → total (λ a. neg_ℤ (f a)) s ≡ neg_ℤ (total f s)
 total-neg f [] = refl
 total-neg f (a ∷ s) = let ih = total-neg f s in omega (arith, ints)
@@ -51,6 +57,7 @@ scale_step : (k x t u : ℤ) → u ≡ k *ℤ t → k *ℤ x +ℤ u ≡ k *ℤ (
 scale_step k x t u ih =
     combine1 (pos 1) ih (read (k ∷ x ∷ t ∷ u ∷ []) (λ xs p q r t. simp (p, q, r, t, polys, lits xs) (den-ring xs _ _ tt)))
 
+-- a common factor on the left can be drawn out
 pub total-scale : {A : Type 0} (k : ℤ) (f : A → ℤ) (s : List A) → total (λ a. k *ℤ f a) s ≡ k *ℤ total f s
 total-scale k f [] = omega (arith, ints)
 total-scale k f (a ∷ s) = scale_step k (f a) (total f s) (total (λ a. k *ℤ f a) s) (total-scale k f s)
@@ -59,10 +66,12 @@ scale_right_step : (k x t u : ℤ) → u ≡ t *ℤ k → x *ℤ k +ℤ u ≡ (x
 scale_right_step k x t u ih =
     combine1 (pos 1) ih (read (k ∷ x ∷ t ∷ u ∷ []) (λ xs p q r t. simp (p, q, r, t, polys, lits xs) (den-ring xs _ _ tt)))
 
+-- and one on the right
 pub total-scale_right : {A : Type 0} (f : A → ℤ) (k : ℤ) (s : List A) → total (λ a. f a *ℤ k) s ≡ total f s *ℤ k
 total-scale_right f k [] = omega (arith, ints)
 total-scale_right f k (a ∷ s) = scale_right_step k (f a) (total f s) (total (λ a. f a *ℤ k) s) (total-scale_right f k s)
 
+-- a sum of zeros is 0
 pub total-zero : {A : Type 0} (s : List A) → total (λ (a : A). pos 0) s ≡ pos 0
 total-zero [] = refl
 total-zero (a ∷ s) = let ih = total-zero s in omega (arith, ints)
@@ -87,6 +96,7 @@ total-exchange f (a ∷ s) t =
 
 -- ---- orders
 
+-- a sum of numbers that are at least 0 is
 pub total_nonneg : {A : Type 0} (f : A → ℤ) (s : List A) → ((a : A) → pos 0 ≤ℤ f a) → pos 0 ≤ℤ total f s
 total_nonneg f [] h = omega (arith, ints)
 total_nonneg f (a ∷ s) h = nonneg_add (h a) (total_nonneg f s h)

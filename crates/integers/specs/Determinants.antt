@@ -18,6 +18,7 @@ det4 ax ay az aw bx by bz bw cx cy cz cw dx dy dz dw =
 abbrev pub square2 : ℤ → ℤ → ℤ
 square2 x y = x *ℤ x +ℤ y *ℤ y
 
+-- the same in space
 abbrev pub square3 : ℤ → ℤ → ℤ → ℤ
 square3 x y z = x *ℤ x +ℤ y *ℤ y +ℤ z *ℤ z
 

@@ -3,3 +3,9 @@ pub mod Total
 pub mod Extremes
 pub mod LowestTerms
 pub mod Determinants
+pub mod Moments
+pub mod Weighted
+pub mod OrderLaws
+pub mod SumLaws
+pub mod FractionLaws
+pub mod GeometryLaws

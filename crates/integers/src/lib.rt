@@ -1,2 +1,16 @@
-//! Laws of whole numbers that every proof of the project stands on.
+//! Laws of whole numbers, for the proofs of the crates above: no later proof works out a polynomial, an order of products, a sum over
+//! a list or a 128-bit overflow by hand. The laws stand in `proofs/`, each with a line that says what it claims, and `rt lemma` finds them;
+//! the words that contracts cite stand in `specs/`.
+//!
+//! - `Identities`: an identity of polynomials in one line, with a guide at its head. Below it stand `Polynomials` and `RingLaws`.
+//! - `Order`: signs and orders of products, cancelling, squares, an order from a difference, linear combinations of equations.
+//! - `Sums` and `Extremes`: the sum, the greatest and the least value of a function over a list, and the steps of loops.
+//! - `Sizes`, `MachineArithmetic` and `UnsignedArithmetic`: bounds, and overflows and results at 32, 64 and 128 bits in one line.
+//! - `Divisors`, `LowestTerms`, `Fractions` and `Gaps`: the greatest common divisor, the one lowest form, orders, how far apart fractions lie.
+//! - `Lagrange`, `ParallelAxis`, `Cone`, `Circles` and `Cramer`: identities of geometry over plain variables.
+//!
+//! [`laws`] has the main laws as contracts, and [`examples`] small functions that use each tool.
 #![tactic(auto)]
+
+pub mod examples;
+pub mod laws;
