@@ -6,3 +6,12 @@ pub mod Sums
 pub mod Fractions
 pub mod Sizes
 pub mod MachineArithmetic
+pub mod Extremes
+pub mod Divisors
+pub mod LowestTerms
+pub mod Gaps
+pub mod Lagrange
+pub mod Cone
+pub mod Cramer
+pub mod ParallelAxis
+pub mod Circles

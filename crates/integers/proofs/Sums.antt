@@ -1,10 +1,16 @@
--- Sums of integers over a list, and the parallel axis identity for weighted points.
-use Rattle.std.proofs.Common.{◌∙◌, ℕ, ◌+◌, ◌<◌, take, get_or, length, ap, ◌≡◌, refl, ℤ, pos, ◌+ℤ◌, ◌-ℤ◌, ◌*ℤ◌, ◌≤ℤ◌, List, [], ◌∷◌, ◌++◌, arith}
+-- Sums of a whole number for each element of a list.
+use Rattle.std.proofs.Common.{◌≡◌, refl, sym, ◌∙◌, ap, ap₂, ℕ, suc, ◌+◌, ◌*◌, ◌<◌, take, get_or, length, map, ℤ, pos, ◌+ℤ◌, ◌-ℤ◌, ◌*ℤ◌, neg_ℤ, ◌≤ℤ◌, ◌<ℤ◌, List, [], ◌∷◌, ◌++◌, arith}
+use Rattle.std.specs.Prelude.{All}
 use Rattle.std.proofs.lemmas.Int.{ints}
-use Rattle.integers.proofs.Identities.{den-ring, read, polys, lits}
-use Rattle.integers.proofs.Order.{nonneg_add, square_nonneg, combine1}
 use Rattle.std.proofs.lemmas.List.{take_more}
+use Rattle.std.proofs.lemmas.List.Elements.{All-head, All-tail}
+use Rattle.integers.specs.Size.{Size}
 use Rattle.integers.specs.Total.{total}
+use Rattle.integers.proofs.Identities.{den-ring, read, polys, lits}
+use Rattle.integers.proofs.Order.{nonneg_add, nonneg_mul, nonneg_difference, le_by, combine1}
+use Rattle.integers.proofs.Sizes.{size_add}
+
+-- ---- over lists
 
 pub total-append : {A : Type 0} (f : A → ℤ) (s t : List A) → total f (s ++ t) ≡ total f s +ℤ total f t
 total-append f [] t = omega (arith, ints)
@@ -17,9 +23,29 @@ total-one_more f s a = total-append f s (a ∷ []) ∙ omega (arith, ints)
 pub total-take_more : {A : Type 0} (f : A → ℤ) (xs : List A) (i : ℕ) (d : A) → i < length xs → total f (take (i + 1) xs) ≡ total f (take i xs) +ℤ f (get_or xs i d)
 total-take_more f xs i d h = ap (total f) (take_more xs i d h) ∙ total-one_more f (take i xs) (get_or xs i d)
 
+pub total-map : {A B : Type 0} (f : B → ℤ) (g : A → B) (s : List A) → total f (map g s) ≡ total (λ a. f (g a)) s
+total-map f g [] = refl
+total-map f g (a ∷ s) = ap (λ t. f (g a) +ℤ t) (total-map f g s)
+
+-- ---- over functions
+
+-- functions that agree at each element have one sum
+pub total-same : {A : Type 0} (f g : A → ℤ) (s : List A) → All (λ a. f a ≡ g a) s → total f s ≡ total g s
+total-same f g [] h = refl
+total-same f g (a ∷ s) h =
+    ap₂ (λ v w. v +ℤ w) (All-head (λ a. f a ≡ g a) a s h) (total-same f g s (All-tail (λ a. f a ≡ g a) a s h))
+
 pub total-add : {A : Type 0} (f g : A → ℤ) (s : List A) → total (λ a. f a +ℤ g a) s ≡ total f s +ℤ total g s
 total-add f g [] = refl
 total-add f g (a ∷ s) = let ih = total-add f g s in omega (arith, ints)
+
+pub total-sub : {A : Type 0} (f g : A → ℤ) (s : List A) → total (λ a. f a -ℤ g a) s ≡ total f s -ℤ total g s
+total-sub f g [] = refl
+total-sub f g (a ∷ s) = let ih = total-sub f g s in omega (arith, ints)
+
+pub total-neg : {A : Type 0} (f : A → ℤ) (s : List A) → total (λ a. neg_ℤ (f a)) s ≡ neg_ℤ (total f s)
+total-neg f [] = refl
+total-neg f (a ∷ s) = let ih = total-neg f s in omega (arith, ints)
 
 scale_step : (k x t u : ℤ) → u ≡ k *ℤ t → k *ℤ x +ℤ u ≡ k *ℤ (x +ℤ t)
 scale_step k x t u ih =
@@ -29,58 +55,93 @@ pub total-scale : {A : Type 0} (k : ℤ) (f : A → ℤ) (s : List A) → total 
 total-scale k f [] = omega (arith, ints)
 total-scale k f (a ∷ s) = scale_step k (f a) (total f s) (total (λ a. k *ℤ f a) s) (total-scale k f s)
 
+scale_right_step : (k x t u : ℤ) → u ≡ t *ℤ k → x *ℤ k +ℤ u ≡ (x +ℤ t) *ℤ k
+scale_right_step k x t u ih =
+    combine1 (pos 1) ih (read (k ∷ x ∷ t ∷ u ∷ []) (λ xs p q r t. simp (p, q, r, t, polys, lits xs) (den-ring xs _ _ tt)))
+
+pub total-scale_right : {A : Type 0} (f : A → ℤ) (k : ℤ) (s : List A) → total (λ a. f a *ℤ k) s ≡ total f s *ℤ k
+total-scale_right f k [] = omega (arith, ints)
+total-scale_right f k (a ∷ s) = scale_right_step k (f a) (total f s) (total (λ a. f a *ℤ k) s) (total-scale_right f k s)
+
+pub total-zero : {A : Type 0} (s : List A) → total (λ (a : A). pos 0) s ≡ pos 0
+total-zero [] = refl
+total-zero (a ∷ s) = let ih = total-zero s in omega (arith, ints)
+
+const_step : (k : ℤ) (n : ℕ) (u : ℤ) → u ≡ pos n *ℤ k → k +ℤ u ≡ pos (suc n) *ℤ k
+const_step k n u ih = let m = one_more (pos n) k in omega (arith, ints)
+  where
+    one_more : (m k : ℤ) → (m +ℤ pos 1) *ℤ k ≡ m *ℤ k +ℤ k
+    one_more m k = read (m ∷ k ∷ []) (λ xs p q. simp (p, q, polys, lits xs) (den-ring xs _ _ tt))
+
+-- one number for each element
+pub total-constant : {A : Type 0} (k : ℤ) (s : List A) → total (λ (a : A). k) s ≡ pos (length s) *ℤ k
+total-constant k [] = omega (arith, ints)
+total-constant {A} k (a ∷ s) = const_step k (length s) (total (λ (a : A). k) s) (total-constant k s)
+
+-- the order of two sums can be exchanged
+pub total-exchange : {A B : Type 0} (f : A → B → ℤ) (s : List A) (t : List B) → total (λ a. total (λ b. f a b) t) s ≡ total (λ b. total (λ a. f a b) s) t
+total-exchange f [] t = sym (total-zero t)
+total-exchange f (a ∷ s) t =
+    ap (λ v. total (λ b. f a b) t +ℤ v) (total-exchange f s t)
+    ∙ sym (total-add (λ b. f a b) (λ b. total (λ a. f a b) s) t)
+
+-- ---- orders
+
 pub total_nonneg : {A : Type 0} (f : A → ℤ) (s : List A) → ((a : A) → pos 0 ≤ℤ f a) → pos 0 ≤ℤ total f s
 total_nonneg f [] h = omega (arith, ints)
 total_nonneg f (a ∷ s) h = nonneg_add (h a) (total_nonneg f s h)
 
-pub record Weighted : Type 0 where
-  pub weight : ℤ
-  pub x : ℤ
-  pub y : ℤ
+-- the same, where only the list's own elements are known
+pub total_nonneg_all : {A : Type 0} (f : A → ℤ) (s : List A) → All (λ a. pos 0 ≤ℤ f a) s → pos 0 ≤ℤ total f s
+total_nonneg_all f [] h = omega (arith, ints)
+total_nonneg_all f (a ∷ s) h =
+    nonneg_add (All-head (λ a. pos 0 ≤ℤ f a) a s h) (total_nonneg_all f s (All-tail (λ a. pos 0 ≤ℤ f a) a s h))
 
-abbrev pub mass : List Weighted → ℤ
-mass s = total (λ (p : Weighted). p.weight) s
-
-abbrev pub moment_x : List Weighted → ℤ
-moment_x s = total (λ (p : Weighted). p.weight *ℤ p.x) s
-
-abbrev pub moment_y : List Weighted → ℤ
-moment_y s = total (λ (p : Weighted). p.weight *ℤ p.y) s
-
-abbrev pub second : List Weighted → ℤ
-second s = total (λ (p : Weighted). p.weight *ℤ (p.x *ℤ p.x +ℤ p.y *ℤ p.y)) s
-
--- the weighted squares of the distances to (a, b)
-abbrev pub cost : ℤ → ℤ → List Weighted → ℤ
-cost a b s = total (λ (p : Weighted). p.weight *ℤ ((p.x -ℤ a) *ℤ (p.x -ℤ a) +ℤ (p.y -ℤ b) *ℤ (p.y -ℤ b))) s
-
--- the step of `cost-parts`, over plain variables: a point (w, x, y) in front of points with the sums C, Q, S, T and W
-cost_step : (a b w x y C Q S T W : ℤ) → C ≡ Q -ℤ pos 2 *ℤ (a *ℤ S +ℤ b *ℤ T) +ℤ W *ℤ (a *ℤ a +ℤ b *ℤ b)
-    → w *ℤ ((x -ℤ a) *ℤ (x -ℤ a) +ℤ (y -ℤ b) *ℤ (y -ℤ b)) +ℤ C
-    ≡ w *ℤ (x *ℤ x +ℤ y *ℤ y) +ℤ Q -ℤ pos 2 *ℤ (a *ℤ (w *ℤ x +ℤ S) +ℤ b *ℤ (w *ℤ y +ℤ T)) +ℤ (w +ℤ W) *ℤ (a *ℤ a +ℤ b *ℤ b)
-cost_step a b w x y C Q S T W ih =
-    combine1 (pos 1) ih
-    (read (a ∷ b ∷ w ∷ x ∷ y ∷ C ∷ Q ∷ S ∷ T ∷ W ∷ [])
-    (λ xs h1 h2 h3 h4 h5 h6 h7 h8 h9 h10. simp (h1, h2, h3, h4, h5, h6, h7, h8, h9, h10, polys, lits xs) (den-ring xs _ _ tt)))
-
-cost-parts : (a b : ℤ) (s : List Weighted) → cost a b s ≡ second s -ℤ pos 2 *ℤ (a *ℤ moment_x s +ℤ b *ℤ moment_y s) +ℤ mass s *ℤ (a *ℤ a +ℤ b *ℤ b)
-cost-parts a b [] = read (a ∷ b ∷ []) (λ xs h1 h2. simp (h1, h2, polys, lits xs) (den-ring xs _ _ tt))
-cost-parts a b (p ∷ s) = cost_step a b p.weight p.x p.y (cost a b s) (second s) (moment_x s) (moment_y s) (mass s) (cost-parts a b s)
-
-parallel_axis : (a b W S T Q C : ℤ) → C ≡ Q -ℤ pos 2 *ℤ (a *ℤ S +ℤ b *ℤ T) +ℤ W *ℤ (a *ℤ a +ℤ b *ℤ b) → W *ℤ C ≡ (W *ℤ a -ℤ S) *ℤ (W *ℤ a -ℤ S) +ℤ (W *ℤ b -ℤ T) *ℤ (W *ℤ b -ℤ T) +ℤ (W *ℤ Q -ℤ (S *ℤ S +ℤ T *ℤ T))
-parallel_axis a b W S T Q C h =
-    combine1 W h (read (a ∷ b ∷ W ∷ S ∷ T ∷ Q ∷ C ∷ []) (λ xs h1 h2 h3 h4 h5 h6 h7. simp (h1, h2, h3, h4, h5, h6, h7, polys, lits xs) (den-ring xs _ _ tt)))
-
-pub cost-axis : (a b : ℤ) (s : List Weighted) → mass s *ℤ cost a b s ≡ (mass s *ℤ a -ℤ moment_x s) *ℤ (mass s *ℤ a -ℤ moment_x s) +ℤ (mass s *ℤ b -ℤ moment_y s) *ℤ (mass s *ℤ b -ℤ moment_y s) +ℤ (mass s *ℤ second s -ℤ (moment_x s *ℤ moment_x s +ℤ moment_y s *ℤ moment_y s))
-cost-axis a b s = parallel_axis a b (mass s) (moment_x s) (moment_y s) (second s) (cost a b s) (cost-parts a b s)
-
--- so no point does better than the center: W * cost is at least W Q - |S|²
-pub cost_least : (a b : ℤ) (s : List Weighted) → (mass s *ℤ second s -ℤ (moment_x s *ℤ moment_x s +ℤ moment_y s *ℤ moment_y s)) ≤ℤ (mass s *ℤ cost a b s)
-cost_least a b s =
-    let e = cost-axis a b s in
-    let h = square_nonneg (mass s *ℤ a -ℤ moment_x s) in
-    let k = square_nonneg (mass s *ℤ b -ℤ moment_y s) in
-    least _ _ _ _ e h k
+-- numbers of at least 1 have a sum of at least 1
+pub total_positive : {A : Type 0} (f : A → ℤ) (s : List A) → 0 < length s → All (λ a. pos 0 <ℤ f a) s → pos 0 <ℤ total f s
+total_positive f [] l h = absurd (omega arith)
+total_positive f (a ∷ []) l h = let p = All-head (λ a. pos 0 <ℤ f a) a [] h in omega (arith, ints)
+total_positive f (a ∷ (b ∷ s)) l h =
+    let p = All-head (λ a. pos 0 <ℤ f a) a (b ∷ s) h in
+    let q = total_positive f (b ∷ s) (omega arith) (All-tail (λ a. pos 0 <ℤ f a) a (b ∷ s) h) in
+    more p q
   where
-    least : (w u v r : ℤ) → w ≡ u +ℤ v +ℤ r → pos 0 ≤ℤ u → pos 0 ≤ℤ v → r ≤ℤ w
-    least w u v r e h k = omega (arith, ints)
+    more : {x y : ℤ} → pos 0 <ℤ x → pos 0 <ℤ y → pos 0 <ℤ (x +ℤ y)
+    more p q = omega (arith, ints)
+
+add_le : {a b c d : ℤ} → a ≤ℤ b → c ≤ℤ d → (a +ℤ c) ≤ℤ (b +ℤ d)
+add_le h k = omega (arith, ints)
+
+-- a function that is nowhere above another has no greater sum
+pub total_le : {A : Type 0} (f g : A → ℤ) (s : List A) → All (λ a. f a ≤ℤ g a) s → total f s ≤ℤ total g s
+total_le f g [] h = omega (arith, ints)
+total_le f g (a ∷ s) h =
+    add_le (All-head (λ a. f a ≤ℤ g a) a s h) (total_le f g s (All-tail (λ a. f a ≤ℤ g a) a s h))
+
+weighted_step : (d w f T W M : ℤ) → pos 0 ≤ℤ w → (d *ℤ f) ≤ℤ M → (d *ℤ T) ≤ℤ (W *ℤ M) → (d *ℤ (w *ℤ f +ℤ T)) ≤ℤ ((w +ℤ W) *ℤ M)
+weighted_step d w f T W M p h k =
+    le_by (nonneg_add (nonneg_mul p (nonneg_difference h)) (nonneg_difference k))
+    (read (d ∷ w ∷ f ∷ T ∷ W ∷ M ∷ []) (λ xs a b c e g h. simp (a, b, c, e, g, h, polys) (den-ring xs _ _ tt)))
+
+-- with weights that are not negative: where f is at most M / d at each element, so is its weighted mean
+pub total_weighted_le : {A : Type 0} (weight f : A → ℤ) (d M : ℤ) (s : List A) → All (λ a. pos 0 ≤ℤ weight a) s → All (λ a. (d *ℤ f a) ≤ℤ M) s → (d *ℤ total (λ a. weight a *ℤ f a) s) ≤ℤ (total weight s *ℤ M)
+total_weighted_le weight f d M [] p h = nothing d M
+  where
+    nothing : (d M : ℤ) → (d *ℤ pos 0) ≤ℤ (pos 0 *ℤ M)
+    nothing d M = omega (arith, ints)
+total_weighted_le weight f d M (a ∷ s) p h =
+    weighted_step d (weight a) (f a) (total (λ a. weight a *ℤ f a) s) (total weight s) M
+    (All-head (λ a. pos 0 ≤ℤ weight a) a s p)
+    (All-head (λ a. (d *ℤ f a) ≤ℤ M) a s h)
+    (total_weighted_le weight f d M s (All-tail (λ a. pos 0 ≤ℤ weight a) a s p) (All-tail (λ a. (d *ℤ f a) ≤ℤ M) a s h))
+
+-- ---- size
+
+size_step : {x t : ℤ} (m n : ℕ) → Size m x → Size (n * m) t → Size (suc n * m) (x +ℤ t)
+size_step m n h k = let g = size_add h k in record { abs = omega (arith, g.abs) }
+
+-- numbers of at most m have a sum of at most m for each
+pub size_total : {A : Type 0} (f : A → ℤ) (m : ℕ) (s : List A) → All (λ a. Size m (f a)) s → Size (length s * m) (total f s)
+size_total f m [] h = record { abs = omega arith }
+size_total f m (a ∷ s) h =
+    size_step m (length s) (All-head (λ a. Size m (f a)) a s h) (size_total f m s (All-tail (λ a. Size m (f a)) a s h))

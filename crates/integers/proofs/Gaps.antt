@@ -1,0 +1,55 @@
+-- Fractions with small denominators lie apart: two that differ, with denominators of at most q, differ by at least 1 / q².
+use Rattle.std.proofs.Common.{◌≡◌, ℕ, suc, ◌+◌, ◌*◌, ◌/◌, ◌≤◌, ◌<◌, ℤ, pos, ◌+ℤ◌, ◌-ℤ◌, ◌*ℤ◌, ◌≤ℤ◌, ◌<ℤ◌, arith, [], ◌∷◌, le_of_mul-le-mul_right, mul-le-mul_right, mul-le-mul}
+use Rattle.std.proofs.lemmas.Int.{ints, by_lt_z}
+use Rattle.std.proofs.lemmas.Nat.{le-div}
+use Rattle.std.proofs.Math.Nat.{mul-div-le}
+use Rattle.integers.proofs.Identities.{den-ring, read, polys, below_lits}
+use Rattle.integers.proofs.Order.{nonneg_mul, nonneg_add, nonneg_from_positive, le_by, mul_le_both, nonneg_difference, positive_difference, at_least_one, le_antisymm_ℤ}
+
+-- ---- over `ℕ`
+
+-- a / b + 1 / q² ≤ c / d, where a / b < c / d
+pub ratio_gap : (a b c d q : ℕ) → b ≤ q → d ≤ q → a * d < c * b → a * d * (q * q) + b * d ≤ c * b * (q * q)
+ratio_gap a b c d q hb hd h =
+    let small : b * d ≤ q * q = mul-le-mul hb hd in
+    let more : suc (a * d) * (q * q) ≤ c * b * (q * q) = mul-le-mul_right (q * q) h in
+    omega arith
+
+-- so a value that rises takes a greater whole number each time: the measure of a loop that improves a fraction
+pub floor_rises : (a b c d q : ℕ) → 0 < b → 0 < d → b ≤ q → d ≤ q → a * d < c * b → a * (q * q) / b < c * (q * q) / d
+floor_rises a b c d q pb pd hb hd h =
+    let N = q * q in
+    let A = a * N / b in
+    let below : b * A ≤ a * N = mul-div-le (a * N) b in
+    le-div (suc A) (c * N) d pd (cut N A below (mul-le-mul_right d below) (ratio_gap a b c d q hb hd h))
+  where
+    cut : (N A : ℕ) → b * A ≤ a * N → b * A * d ≤ a * N * d → a * d * N + b * d ≤ c * b * N → suc A * d ≤ c * N
+    cut N A l m g = le_of_mul-le-mul_right {k = b} (omega arith) pb
+
+-- ---- over `ℤ`
+
+-- a / b + 1 / q² ≤ c / d, where a / b < c / d
+pub fraction_gap : (a b c d q : ℤ) → pos 0 <ℤ b → pos 0 <ℤ d → b ≤ℤ q → d ≤ℤ q → (a *ℤ d) <ℤ (c *ℤ b) → (a *ℤ d *ℤ (q *ℤ q) +ℤ b *ℤ d) ≤ℤ (c *ℤ b *ℤ (q *ℤ q))
+fraction_gap a b c d q pb pd hb hd h =
+    let small : (b *ℤ d) ≤ℤ (q *ℤ q) = mul_le_both (nonneg_from_positive pb) (nonneg_from_positive pd) hb hd in
+    let one : pos 1 ≤ℤ (c *ℤ b -ℤ a *ℤ d) = at_least_one (positive_difference h) in
+    let square : pos 0 ≤ℤ (q *ℤ q) = nonneg_mul (above pb hb) (above pb hb) in
+    le_by
+    (nonneg_add (nonneg_mul (nonneg_difference one) square) (nonneg_difference small))
+    (read (a ∷ b ∷ c ∷ d ∷ q ∷ []) (λ xs r s t u v. simp (r, s, t, u, v, polys, below_lits xs) (den-ring xs _ _ tt)))
+  where
+    above : {b q : ℤ} → pos 0 <ℤ b → b ≤ℤ q → pos 0 ≤ℤ q
+    above p h = omega (arith, ints)
+
+-- fractions that are closer than 1 / q² in both directions are equal
+pub same_within_gap : (a b c d q : ℤ) → pos 0 <ℤ b → pos 0 <ℤ d → b ≤ℤ q → d ≤ℤ q
+    → (c *ℤ b *ℤ (q *ℤ q)) <ℤ (a *ℤ d *ℤ (q *ℤ q) +ℤ b *ℤ d)
+    → (a *ℤ d *ℤ (q *ℤ q)) <ℤ (c *ℤ b *ℤ (q *ℤ q) +ℤ d *ℤ b)
+    → a *ℤ d ≡ c *ℤ b
+same_within_gap a b c d q pb pd hb hd near_above near_below =
+    by_lt_z (a *ℤ d) (c *ℤ b)
+    (λ less. absurd (clash (fraction_gap a b c d q pb pd hb hd less) near_above))
+    (λ at_least. by_lt_z (c *ℤ b) (a *ℤ d) (λ more. absurd (clash (fraction_gap c d a b q pd pb hd hb more) near_below)) (λ at_most. le_antisymm_ℤ at_most at_least))
+  where
+    clash : {x y : ℤ} → x ≤ℤ y → y <ℤ x → ⊥
+    clash h k = omega (arith, ints)
