@@ -10,6 +10,10 @@ pub mod DecideDirection
 pub mod DecideDistance
 pub mod DecideAnswers
 pub mod Literals
+pub mod Turning
+pub mod CornerLaw
+pub mod NextCorner
+pub mod CornersUnique
 pub mod ExampleBalls
 pub mod ExampleStrips
 pub mod ExampleRectangles

@@ -30,3 +30,4 @@ pub mod CentresAnswer
 pub mod Asks
 pub mod Answers
 pub mod Words
+pub mod Laws

@@ -1,0 +1,4 @@
+use Rattle.bounds_model.proofs.laws.passing_single_centres_are_best.Goals as goal
+
+pub returns : goal.returns
+returns c = ?
