@@ -8,9 +8,9 @@ use Rattle.std.proofs.lemmas.List.{get_or_default}
 use Rattle.std.proofs.lemmas.List.Elements.{All-contains, All-get_or}
 use Rattle.integers.proofs.Identities.{den-ring, read, polys, lits}
 use Rattle.integers.proofs.Order.{combine2}
-use Rattle.bounds_model.specs.Plane.{PlanePoint, origin, point_at, vector, cross, turn, IsBefore, IsLeastPoint}
-use Rattle.bounds_model.specs.Hull.{around, AreRing, AreEnds, AreCorners}
-use Rattle.bounds_model.specs.CornerTest.{GoAround, FirstIsOnce, CornersPass}
+use Rattle.bounds_model.specs.Plane.{PlanePoint, origin, point_at, vector, cross, IsBefore, IsLeastPoint}
+use Rattle.bounds_model.specs.Hull.{around, AreRing}
+use Rattle.bounds_model.specs.CornerTest.{GoAround, FirstIsOnce}
 use Rattle.bounds_model.specs.Laws.{PassingCornersAreCorners}
 use Rattle.bounds_model.proofs.Turning.{IsAhead, ahead_of_before, ahead_trans, on_one_line, between_turns, turn_from, edge_turn, no_turn}
 

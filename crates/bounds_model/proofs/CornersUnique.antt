@@ -1,17 +1,16 @@
 -- Points have one list of corners at most.
-use Rattle.std.proofs.Common.{◌≡◌, ◌≢◌, ◌⊎◌, refl, sym, ◌∙◌, ap, ap₂, subst, ℕ, zero, suc, ◌+◌, ◌%◌, ◌<◌, ◌≤◌, ℤ, pos, negsuc, neg_ℤ, ◌+ℤ◌, ◌-ℤ◌, ◌*ℤ◌, ◌≤ℤ◌, ◌<ℤ◌, List, [], ◌∷◌, length, arith}
+use Rattle.std.proofs.Common.{◌≡◌, ◌≢◌, refl, sym, ◌∙◌, ap, ap₂, subst, ℕ, zero, suc, ◌+◌, ◌%◌, ◌<◌, ℤ, pos, ◌≤ℤ◌, ◌<ℤ◌, List, [], ◌∷◌, length, arith}
 use mathlib.Core.Logic.{inl, inr}
 use Rattle.std.specs.Prelude.{All, Contains}
 use Rattle.std.proofs.Math.Nat.{mod-lt, mod-mod, mod-add-mod, add-mod_left}
-use Rattle.std.proofs.lemmas.Int.{ints, by_lt_z}
+use Rattle.std.proofs.lemmas.Int.{ints}
 use Rattle.std.proofs.lemmas.List.{ext_get_or}
 use Rattle.std.proofs.lemmas.List.Elements.{All-contains, All-get_or}
-use Rattle.integers.proofs.Identities.{den-ring, read, polys, lits, below_lits}
-use Rattle.integers.proofs.Order.{nonneg_add, square_nonneg, le_antisymm_ℤ, combine1, combine2}
-use Rattle.bounds_model.specs.Plane.{PlanePoint, origin, point_at, vector, cross, turn, dot, squared_length, IsBefore, IsLeastPoint, IsGreatestPoint}
-use Rattle.bounds_model.specs.Hull.{around, AreRing, AreEnds, IsOnlyPoint, AreCorners}
+use Rattle.integers.proofs.Order.{le_antisymm_ℤ}
+use Rattle.bounds_model.specs.Plane.{PlanePoint, origin, point_at, vector, turn, IsBefore, IsLeastPoint, IsGreatestPoint}
+use Rattle.bounds_model.specs.Hull.{around, AreRing, AreEnds, IsOnlyPoint}
 use Rattle.bounds_model.specs.Laws.{CornersAreUnique}
-use Rattle.bounds_model.proofs.Turning.{IsAhead, ahead_of_before, between_turns, edge_turn, no_turn, on_one_line}
+use Rattle.bounds_model.proofs.Turning.{ahead_of_before, no_turn, on_one_line}
 use Rattle.bounds_model.proofs.NextCorner.{Follows, one_after, one_after_least, positive-not_zero}
 use Rattle.bounds_model.proofs.CornerLaw.{around-below, cross_self}
 

@@ -14,6 +14,16 @@ pub mod Turning
 pub mod CornerLaw
 pub mod NextCorner
 pub mod CornersUnique
+pub mod BestSizes
+pub mod SizeDenominators
+pub mod PermutedFits
+pub mod PermutedWeights
+pub mod KindSizes
+pub mod SizeLaw
+pub mod OrderLaw
+pub mod WeightedVectors
+pub mod BallLaw
+pub mod OneSquareLaw
 pub mod ExampleBalls
 pub mod ExampleStrips
 pub mod ExampleRectangles

@@ -1,9 +1,9 @@
 -- Vectors that point to the right, or straight up: among them the left turn is an order.
-use Rattle.std.proofs.Common.{◌≡◌, ◌≢◌, ◌⊎◌, sym, ◌∙◌, ap, subst, ℤ, pos, negsuc, neg_ℤ, ◌+ℤ◌, ◌-ℤ◌, ◌*ℤ◌, ◌≤ℤ◌, ◌<ℤ◌, [], ◌∷◌, arith}
+use Rattle.std.proofs.Common.{◌≡◌, ◌≢◌, ◌⊎◌, sym, ◌∙◌, subst, ℤ, pos, neg_ℤ, ◌+ℤ◌, ◌-ℤ◌, ◌*ℤ◌, ◌≤ℤ◌, ◌<ℤ◌, [], ◌∷◌, arith}
 use mathlib.Core.Logic.{inl, inr}
 use Rattle.std.proofs.lemmas.Int.{ints, by_lt_z}
-use Rattle.integers.proofs.Identities.{den-ring, read, polys, lits, below_lits}
-use Rattle.integers.proofs.Order.{nonneg_mul, nonneg_add, positive_mul, nonneg_of_mul, same_of_mul, le_antisymm_ℤ, combine1, combine2, combine3}
+use Rattle.integers.proofs.Identities.{den-ring, read, polys, lits}
+use Rattle.integers.proofs.Order.{nonneg_mul, nonneg_add, nonneg_of_mul, same_of_mul, le_antisymm_ℤ, combine1, combine2}
 use Rattle.bounds_model.specs.Plane.{PlanePoint, vector, cross, IsBefore}
 
 -- the vector points to the right, or straight up

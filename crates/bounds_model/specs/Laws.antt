@@ -1,13 +1,12 @@
 -- What shows that the definitions are the right ones: statements on the definitions alone.
-use Rattle.std.specs.Prelude.{◌≡◌, ⊤, ℕ, List, All, Contains, IsPermutation}
+use Rattle.std.specs.Prelude.{◌≡◌, ⊤, List, All, Contains, IsPermutation}
 use Rattle.bounds_model.specs.Plane.{PlanePoint}
 use Rattle.bounds_model.specs.Hull.{AreCorners}
 use Rattle.bounds_model.specs.CornerTest.{CornersPass}
 use Rattle.bounds_model.specs.Asks.{Ask, Sets}
 use Rattle.bounds_model.specs.Asks.Ask.{ask_kgon, ask_distance}
 use Rattle.bounds_model.specs.Asks.Sets.{plane, space, two, bare}
-use Rattle.bounds_model.specs.Answers.{Answer, size_of, HasPlaces, IsBest, Passes, IsOptimum}
-use Rattle.bounds_model.specs.Fractions.{Fraction}
+use Rattle.bounds_model.specs.Answers.{Answer, size_of, HasPlaces, IsBest, Passes}
 
 -- an answer that passes has all its numbers in their places
 abbrev pub PassingAnswersHavePlaces : Type 0
