@@ -11,10 +11,10 @@ use Rattle.bounds_model.proofs.DecideAnswers.{passes}
 use Rattle.bounds_model.proofs.Literals.{minus, at, fraction, span, quarter_cone}
 
 -- a square that stands on a corner
-abbrev diamond : List PlanePoint
+abbrev pub diamond : List PlanePoint
 diamond = at 0 1 ∷ at 1 0 ∷ at 2 1 ∷ at 1 2 ∷ []
 
-abbrev slanted : RectangleAnswer
+abbrev pub slanted : RectangleAnswer
 slanted = record {
   size = fraction 2 1;
   direction = at 1 1;

@@ -13,7 +13,7 @@ use Rattle.bounds_model.proofs.ExampleBalls.{triangle}
 use Rattle.bounds_model.proofs.Literals.{minus, at, left_at, fraction, span, half_cone}
 
 -- the strip along the longest side of the triangle
-abbrev along_longest : StripAnswer
+abbrev pub along_longest : StripAnswer
 along_longest = record {
   size = fraction 144 25;
   direction = at 3 4;

@@ -9,6 +9,7 @@ pub mod DecideCentres
 pub mod DecideDirection
 pub mod DecideDistance
 pub mod DecideAnswers
+pub mod DecidePlain
 pub mod Literals
 pub mod Turning
 pub mod CornerLaw
@@ -33,3 +34,4 @@ pub mod ExampleEmpty
 pub mod ExampleKgons
 pub mod ExampleDistances
 pub mod ExampleCentres
+pub mod ExampleParts

@@ -13,7 +13,7 @@ use Rattle.bounds_model.specs.Asks.Sets.{plane, space, two, bare}
 use Rattle.bounds_model.specs.Answers.{Answer, Claim, claim, ClaimFits, ClaimIsBest, IsBest, size_of}
 use Rattle.bounds_model.specs.Answers.Answer.{circle, sphere, rectangle, parallelogram, strip, annulus, empty, kgon, distance, centres}
 use Rattle.bounds_model.specs.Answers.Claim.{circle_claim, sphere_claim, rectangle_claim, parallelogram_claim, strip_claim, annulus_claim, empty_claim, kgon_claim, distance_claim, centres_claim}
-use Rattle.bounds_model.specs.Laws.{ArePermuted, BestSizeHasNoOrder, BestSizeIsUnique}
+use Rattle.bounds_model.specs.Laws.{ArePermuted, BestSizeHasNoOrder, BestSizeIsUnique, OptimumIsUnique}
 use Rattle.bounds_model.proofs.KindSizes.{Stands, circle_sizes, sphere_sizes, rectangle_sizes, parallelogram_sizes, strip_sizes, annulus_sizes, empty_sizes, kgon_sizes, distance_sizes, centres_sizes}
 
 -- ---- the points of a set
@@ -192,3 +192,6 @@ one_size (ask_centres count) sets other first second p h g =
 
 pub one_size_of_same : BestSizeIsUnique
 one_size_of_same ask sets first second h g = one_size ask sets sets first second (permuted_itself sets) h g
+
+pub one_optimum : OptimumIsUnique
+one_optimum ask sets first second h g = sym h.printed ∙ one_size_of_same ask sets h.answer g.answer h.best g.best ∙ g.printed

@@ -1,16 +1,21 @@
 -- What shows that the definitions are the right ones: statements on the definitions alone.
 use Rattle.std.specs.Prelude.{◌≡◌, ⊤, List, All, Contains, IsPermutation}
 use Rattle.bounds_model.specs.Plane.{PlanePoint}
+use Rattle.bounds_model.specs.Fractions.{Fraction}
 use Rattle.bounds_model.specs.Hull.{AreCorners}
 use Rattle.bounds_model.specs.CornerTest.{CornersPass}
-use Rattle.bounds_model.specs.Asks.{Ask, Sets}
+use Rattle.bounds_model.specs.Asks.{Ask, Sets, Suits}
 use Rattle.bounds_model.specs.Asks.Ask.{ask_kgon, ask_distance}
 use Rattle.bounds_model.specs.Asks.Sets.{plane, space, two, bare}
-use Rattle.bounds_model.specs.Answers.{Answer, size_of, HasPlaces, IsBest, Passes}
+use Rattle.bounds_model.specs.Answers.{Answer, size_of, HasPlaces, Fits, IsBest, Passes, IsOptimum}
 
 -- an answer that passes has all its numbers in their places
 abbrev pub PassingAnswersHavePlaces : Type 0
 PassingAnswersHavePlaces = (ask : Ask) (sets : Sets) (answer : Answer) → Passes ask sets answer → HasPlaces answer
+
+-- an answer fits only points of the kind that is asked of
+abbrev pub FittingPointsSuit : Type 0
+FittingPointsSuit = (ask : Ask) (sets : Sets) (answer : Answer) → Fits ask sets answer → Suits ask sets
 
 -- what passes is best, where this is asked
 abbrev pub PassingAnswersAreBest : Ask → Type 0
@@ -35,6 +40,10 @@ ArePermuted first second = ⊥
 -- there is one best size at most
 abbrev pub BestSizeIsUnique : Type 0
 BestSizeIsUnique = (ask : Ask) (sets : Sets) (first second : Answer) → IsBest ask sets first → IsBest ask sets second → size_of first ≡ size_of second
+
+-- so a fraction that is the optimum is the only one
+abbrev pub OptimumIsUnique : Type 0
+OptimumIsUnique = (ask : Ask) (sets : Sets) (first second : Fraction) → IsOptimum ask sets first → IsOptimum ask sets second → first ≡ second
 
 -- points in another order have the same best size
 abbrev pub BestSizeHasNoOrder : Type 0

@@ -1,11 +1,16 @@
 //! Laws of the definitions.
 
-ghost use Rattle.bounds_model.specs.Laws.{PassingAnswersHavePlaces, PassingAnswersAreBest, PassingCornersAreCorners, CornersAreUnique, BestSizeIsUnique, BestSizeHasNoOrder, BestAnswersHaveNoOrder};
+ghost use Rattle.bounds_model.specs.Laws.{PassingAnswersHavePlaces, FittingPointsSuit, PassingAnswersAreBest, PassingCornersAreCorners, CornersAreUnique, BestSizeIsUnique, OptimumIsUnique, BestSizeHasNoOrder, BestAnswersHaveNoOrder};
 ghost use Rattle.bounds_model.specs.Asks.Ask.{ask_circle, ask_sphere, ask_centres};
 
 /// An answer that passes has all its numbers in their places.
 pub fn passing_answers_have_places()
     ensures { PassingAnswersHavePlaces }
+{}
+
+/// An answer fits only points of the kind that is asked of.
+pub fn fitting_points_suit()
+    ensures { FittingPointsSuit }
 {}
 
 /// The corners that a checker accepts are the corners of the hull.
@@ -21,6 +26,11 @@ pub fn corners_are_unique()
 /// Two best answers to one question on the same points have the same size.
 pub fn best_size_is_unique()
     ensures { BestSizeIsUnique }
+{}
+
+/// The optimum is one fraction at most.
+pub fn optimum_is_unique()
+    ensures { OptimumIsUnique }
 {}
 
 /// The best size is the same for the points in another order.
