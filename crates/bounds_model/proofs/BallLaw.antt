@@ -19,6 +19,7 @@ use Rattle.bounds_model.specs.Laws.{PassingAnswersAreBest}
 use Rattle.bounds_model.proofs.Decisions.{all-uncons}
 use Rattle.bounds_model.proofs.WeightedVectors.{distances_sum, balance}
 
+-- what is at least 1 is not below 0
 weaken : {a : ℤ} → pos 1 ≤ℤ a → pos 0 ≤ℤ a
 weaken h = omega (arith, ints)
 
@@ -53,6 +54,7 @@ inside_difference D N W w X Y Z A B E Cx Cy Cz hx hy hz h =
     (read (D ∷ N ∷ W ∷ w ∷ X ∷ Y ∷ Z ∷ A ∷ B ∷ E ∷ Cx ∷ Cy ∷ Cz ∷ []) (λ xs a b c d e f g h i j k l m. simp (a, b, c, d, e, f, g, h, i, j, k, l, m, polys) (den-ring xs _ _ tt))) in
     three ∙ combine1 (w *ℤ w) h (read (D ∷ N ∷ W ∷ w ∷ A ∷ B ∷ E ∷ Cx ∷ Cy ∷ Cz ∷ []) (λ xs a b c d e f g h i j. simp (a, b, c, d, e, f, g, h, i, j, polys, lits xs) (den-ring xs _ _ tt)))
 
+-- a point that is not outside by the weights is in the ball
 inside_law : (D N W w X Y Z A B E Cx Cy Cz : ℤ) → pos 1 ≤ℤ W → pos 1 ≤ℤ D
     → W *ℤ X ≡ w *ℤ (W *ℤ A -ℤ Cx) → W *ℤ Y ≡ w *ℤ (W *ℤ B -ℤ Cy) → W *ℤ Z ≡ w *ℤ (W *ℤ E -ℤ Cz)
     → N *ℤ (W *ℤ W) ≡ D *ℤ (Cx *ℤ Cx +ℤ Cy *ℤ Cy +ℤ Cz *ℤ Cz)
@@ -71,6 +73,7 @@ spread k W S T Cx Cy Cz x y z h e =
     combine2 W (neg_ℤ (k *ℤ k)) h e
     (read (k ∷ W ∷ S ∷ T ∷ Cx ∷ Cy ∷ Cz ∷ x ∷ y ∷ z ∷ []) (λ xs a b c d e f g h i j. simp (a, b, c, d, e, f, g, h, i, j, polys, lits xs) (den-ring xs _ _ tt)))
 
+-- the size is at most the squared radius n/d of a ball around y/k that holds the supports
 best_law : (N D W S T Cx Cy Cz x y z k n d : ℤ) → pos 1 ≤ℤ W → pos 1 ≤ℤ D → pos 1 ≤ℤ k → pos 1 ≤ℤ d
     → T ≡ k *ℤ k *ℤ S -ℤ pos 2 *ℤ (k *ℤ (x *ℤ Cx +ℤ y *ℤ Cy +ℤ z *ℤ Cz)) +ℤ W *ℤ (x *ℤ x +ℤ y *ℤ y +ℤ z *ℤ z)
     → pos 2 *ℤ (Cx *ℤ Cx +ℤ Cy *ℤ Cy +ℤ Cz *ℤ Cz) ≡ W *ℤ S
@@ -100,6 +103,7 @@ best_law N D W S T Cx Cy Cz x y z k n d pw pd pk pe hT hC hN l =
 abbrev Far : ℤ → SpacePoint → SpacePoint → ℤ
 Far k c p = squared_length (vector c (times k p))
 
+-- which is the same from any origin
 far_is : (k : ℤ) (c q p : SpacePoint) → Far k (vector (times k q) c) (vector q p) ≡ Far k c p
 far_is k c q p = moved k c.x c.y c.z q.x q.y q.z p.x p.y p.z
   where
@@ -117,6 +121,7 @@ record Balanced (points : List SpacePoint) (ball : Ball) (supports : List Weight
   moments : pos 2 *ℤ squared_length (pull points supports) ≡ weight_sum supports *ℤ total (λ s. s.weight *ℤ squared_length (seen_support points supports s)) supports
   size : ball.squared_radius.n *ℤ (weight_sum supports *ℤ weight_sum supports) ≡ ball.squared_radius.d *ℤ squared_length (pull points supports)
 
+-- one or more weights of at least 1 have a sum of at least 1
 weights_at_least : (supports : List Weighted) → 1 ≤ length supports → All (λ s. pos 1 ≤ℤ s.weight) supports → pos 1 ≤ℤ weight_sum supports
 weights_at_least [] h p = absurd (omega arith)
 weights_at_least (s ∷ rest) h p =
@@ -131,12 +136,14 @@ weights_at_least (s ∷ rest) h p =
         let more = sum_not_negative rest ps.1 in
         omega (arith, ints, ps.0, more)
 
+-- the conditions come to that
 balanced : (limit : ℕ) (points : List SpacePoint) (ball : Ball) (supports : List Weighted) → 1 ≤ length supports → IsBallWitness limit points ball supports → Balanced points ball supports
 balanced limit points ball supports some h =
     let weight = weights_at_least supports some h.weights in
     let moments = balance (λ (s : Weighted). s.weight) (seen_support points supports) (weight_sum supports) (pull points supports) supports h.on_ball in
     record { weight = weight; moments = moments; size = size_is ball.squared_radius.n ball.squared_radius.d (weight_sum supports) (total (λ s. s.weight *ℤ squared_length (seen_support points supports s)) supports) (squared_length (pull points supports)) h.size moments }
 
+-- a ball with a witness holds all points
 witness_fits : (limit : ℕ) (points : List SpacePoint) (ball : Ball) (supports : List Weighted) → 1 ≤ length supports → pos 1 ≤ℤ ball.centre.w → IsNotNegative ball.squared_radius → IsBallWitness limit points ball supports → FitsBall points ball
 witness_fits limit points ball supports some w r h =
     let b = balanced limit points ball supports some h in
@@ -160,6 +167,7 @@ support_in points other supports numbers fits k d l =
     let s = slice_index_or supports k d in
     subst (λ v. (other.squared_radius.d *ℤ v) ≤ℤ (other.squared_radius.n *ℤ (other.centre.w *ℤ other.centre.w))) (sym (far_is other.centre.w (entries other.centre) (first_support points supports) (point_at points s.point))) (fits.inside s.point origin (numbers k d l))
 
+-- and no ball that holds all points is smaller
 witness_best : (limit : ℕ) (points : List SpacePoint) (ball : Ball) (supports : List Weighted) → 1 ≤ length supports → pos 1 ≤ℤ ball.squared_radius.d → All (λ s. s.point < length points) supports → IsBallWitness limit points ball supports
     → (other : Ball) → FitsBall points other → IsAtMost ball.squared_radius other.squared_radius
 witness_best limit points ball supports some pd numbers h other fits =
@@ -172,6 +180,7 @@ witness_best limit points ball supports some pd numbers h other fits =
     let bound = total_weighted_le (λ (s : Weighted). s.weight) (λ s. Far k y (seen_support points supports s)) other.squared_radius.d (other.squared_radius.n *ℤ (k *ℤ k)) supports (λ i d l. weaken (h.weights i d l)) (support_in points other supports numbers fits) in
     best_law ball.squared_radius.n ball.squared_radius.d (weight_sum supports) (total (λ s. s.weight *ℤ squared_length (seen_support points supports s)) supports) (total (λ s. s.weight *ℤ Far k y (seen_support points supports s)) supports) c.x c.y c.z y.x y.y y.z k other.squared_radius.n other.squared_radius.d b.weight pd fits.denominator fits.radius.denominator sums b.moments b.size bound
 
+-- a size in lowest terms prints as itself
 itself : (size : Fraction) → IsLowest size → IsPrintedSize size size
 itself size h = record { lowest = h; same = refl }
 

@@ -10,6 +10,7 @@ use Rattle.integers.proofs.Fractions.{fraction_same_trans}
 use Rattle.bounds_model.specs.Fractions.{Fraction, SameValue, IsAtMost, IsLowest}
 use Rattle.bounds_model.specs.Best.{IsSmallest, IsGreatest, IsPrintedSize}
 
+-- the greatest common divisor of numerator and denominator is 1
 only_one_divides : (a : Fraction) → IsLowest a → IsGcd (nat_abs a.n) (nat_abs a.d) 1
 only_one_divides a h =
     let divides = λ (k : ℕ) (e : ℤ). k ∣ nat_abs e in
@@ -32,6 +33,7 @@ same_printed s t p q ds dt h k hp hq =
 abbrev pub Reaches : {X : Type 0} → (X → Type 0) → (X → Fraction) → (X → Type 0) → (X → Fraction) → Type 0
 Reaches {X} Fits size Fits' size' = (o : X) → Fits o → (o' : X) × Fits' o' × (size' o' ≡ size o)
 
+-- so two smallest objects print one size
 pub same_smallest : {X : Type 0} (Fits Fits' : X → Type 0) (size size' : X → Fraction) → Reaches Fits size Fits' size' → Reaches Fits' size' Fits size
     → (a b : X) (p q : Fraction) → pos 0 <ℤ (size a).d → pos 0 <ℤ (size' b).d → IsSmallest Fits size a → IsSmallest Fits' size' b → IsPrintedSize (size a) p → IsPrintedSize (size' b) q → p ≡ q
 same_smallest Fits Fits' size size' there back a b p q da db h k hp hq =
@@ -39,6 +41,7 @@ same_smallest Fits Fits' size size' there back a b p q da db h k hp hq =
     let of_a = there a h.fits in
     same_printed (size a) (size' b) p q da db (subst (IsAtMost (size a)) of_b.2 (h.smallest of_b.0 of_b.1)) (subst (IsAtMost (size' b)) of_a.2 (k.smallest of_a.0 of_a.1)) hp hq
 
+-- and two greatest
 pub same_greatest : {X : Type 0} (Fits Fits' : X → Type 0) (size size' : X → Fraction) → Reaches Fits size Fits' size' → Reaches Fits' size' Fits size
     → (a b : X) (p q : Fraction) → pos 0 <ℤ (size a).d → pos 0 <ℤ (size' b).d → IsGreatest Fits size a → IsGreatest Fits' size' b → IsPrintedSize (size a) p → IsPrintedSize (size' b) q → p ≡ q
 same_greatest Fits Fits' size size' there back a b p q da db h k hp hq =

@@ -29,14 +29,17 @@ record Ring (points corners : List PlanePoint) : Type 0 where
   once : FirstIsOnce corners
   round : GoAround points corners
 
+-- no later corner is the first
 not_first : (corners : List PlanePoint) (k : ℕ) → FirstIsOnce corners → 0 < k → k < length corners → point_at corners k ≢ point_at corners 0
 not_first [] k h p l = absurd h
 not_first (a ∷ rest) zero h p l = absurd (omega arith)
 not_first (a ∷ rest) (suc k) h p l = All-get_or (λ c. c ≢ a) rest k origin (omega arith) h
 
+-- the first corner is the least point
 first_is : (points corners : List PlanePoint) → 0 < length corners → IsLeastPoint points (around corners 0) → IsLeastPoint points (point_at corners 0)
 first_is points corners some h = subst (IsLeastPoint points) (around-below corners 0 some) h
 
+-- the later corners are ahead of the first
 ahead : (points corners : List PlanePoint) → Ring points corners → (k : ℕ) → 0 < k → k < length corners → IsAhead (seen corners k)
 ahead points corners r k p l =
     let first = first_is points corners (omega arith) r.from_least in
@@ -54,6 +57,7 @@ one_left points corners r k l =
     let first = first_is points corners (omega arith) r.from_least in
     subst (λ v. pos 0 ≤ℤ v) (turn_from (point_at corners 0) (point_at corners k) (point_at corners (k + 1))) (left_of_edge points corners r k l (point_at corners 0) first.listed)
 
+-- a vector makes no turn with itself
 pub cross_self : (u : PlanePoint) → cross u u ≡ pos 0
 cross_self u = nothing u.x u.y
   where
@@ -81,6 +85,7 @@ on_line points corners r i k j p h m l e =
     between_turns (seen corners i) (seen corners k) (far_left points corners r i (k - i) k p (omega arith) (omega arith))
     (subst (λ q. pos 0 ≤ℤ cross (seen corners k) (vector (point_at corners 0) q)) (sym e) (far_left points corners r k (j - k) j (omega arith) (omega arith) l))
 
+-- what is above 0 is not 0
 positive-not_zero : {z : ℤ} → pos 0 <ℤ z → z ≡ pos 0 → ⊥
 positive-not_zero h e = omega (arith, ints)
 
@@ -109,6 +114,7 @@ later_differs points corners r i j p h l e =
         subst (λ c. pos 0 <ℤ cross (vector (point_at corners i) (point_at corners (i + 1))) (vector (point_at corners (i + 1)) c)) (around-below corners (i + 2) (omega arith))
         (subst (λ v. pos 0 <ℤ v) (ap₂ (λ x y. cross (vector x y) (vector y (around corners (i + 2)))) (around-below corners i (omega arith)) (around-below corners (i + 1) (omega arith))) (r.round.left_turns i (omega arith)))
 
+-- no two corners are equal
 places_differ : (points corners : List PlanePoint) → Ring points corners → (i j : ℕ) → i < j → j < length corners → point_at corners i ≢ point_at corners j
 places_differ points corners r zero j h l e = not_first corners j r.once h l (sym e)
 places_differ points corners r (suc i) j h l e = by_gap (gap (suc i) j h)
@@ -123,10 +129,12 @@ places_differ points corners r (suc i) j h l e = by_gap (gap (suc i) j h)
           | inr g ↦ later_differs points corners r (suc i) j (omega arith) g l e
         ]
 
+-- so there are no repeats
 distinct : (points corners : List PlanePoint) → Ring points corners → AllPairs (λ a b. a ≢ b) corners
 distinct points corners r i j d h l e =
     places_differ points corners r i j h l (get_or_default corners i origin d (omega arith) ∙ e ∙ get_or_default corners j d origin l)
 
+-- three or more corners that pass are a ring
 ring : (points corners : List PlanePoint) → Ring points corners → AreRing points corners
 ring points corners r = record {
   listed = r.listed;
@@ -136,6 +144,7 @@ ring points corners r = record {
   inside = r.round.all_left;
 }
 
+-- the corners that pass are the corners
 pub passing_corners : PassingCornersAreCorners
 passing_corners points [] listed h = h.hold
 passing_corners points (a ∷ []) listed h = record { listed = h.from_least.listed; only = h.hold }

@@ -16,6 +16,7 @@ use Rattle.bounds_model.proofs.CornerLaw.{around-below, cross_self}
 
 -- ---- least and greatest points
 
+-- points of which each is before the other are equal
 both_before : (a b : PlanePoint) → IsBefore a b → IsBefore b a → a ≡ b
 both_before a b h k =
     elim h [
@@ -29,14 +30,17 @@ both_before a b h k =
     less_equal : (x y : ℤ) → x <ℤ y → y ≡ x → ⊥
     less_equal x y h k = omega (arith, ints)
 
+-- there is one least point
 same_least : (points : List PlanePoint) (a b : PlanePoint) → IsLeastPoint points a → IsLeastPoint points b → a ≡ b
 same_least points a b h k = both_before a b (All-contains (IsBefore a) points b h.least k.listed) (All-contains (IsBefore b) points a k.least h.listed)
 
+-- and one greatest
 same_greatest : (points : List PlanePoint) (a b : PlanePoint) → IsGreatestPoint points a → IsGreatestPoint points b → a ≡ b
 same_greatest points a b h k = both_before a b (All-contains (λ p. IsBefore p b) points a k.greatest h.listed) (All-contains (λ p. IsBefore p a) points b h.greatest k.listed)
 
 -- ---- two rings around the same points
 
+-- each corner is one of the points
 around-listed : (points xs : List PlanePoint) (k : ℕ) → 0 < length xs → All (Contains points) xs → Contains points (around xs k)
 around-listed points xs k some h = All-get_or (Contains points) xs (k % length xs) origin (mod-lt k some) h
 
@@ -47,6 +51,7 @@ around-end xs = ap (point_at xs) (ap (λ n. n % length xs) (no_more (length xs))
     no_more : (n : ℕ) → n ≡ n + 0
     no_more n = omega arith
 
+-- each corner comes after the one before
 follows_at : (points xs : List PlanePoint) → AreRing points xs → (k : ℕ) → k < length xs → Follows points (around xs k) (around xs (k + 1)) (around xs (k + 2))
 follows_at points xs r k l = record {
   listed = around-listed points xs (k + 1) (omega arith) r.listed;
@@ -69,6 +74,7 @@ follows_at points xs r k l = record {
 not_first : (points xs : List PlanePoint) → AreRing points xs → (k : ℕ) → 0 < k → k < length xs → point_at xs k ≢ point_at xs 0
 not_first points xs r k p l e = r.distinct 0 k origin p l (sym e)
 
+-- the second corner is not the first
 second-not_first : (points xs : List PlanePoint) → AreRing points xs → 1 < length xs → around xs 1 ≢ around xs 0
 second-not_first points xs r some e = not_first points xs r 1 (omega arith) some (sym (around-below xs 1 some) ∙ e ∙ around-below xs 0 (omega arith))
 
@@ -76,6 +82,7 @@ second-not_first points xs r some e = not_first points xs r 1 (omega arith) some
 abbrev Agree : List PlanePoint → List PlanePoint → ℕ → Type 0
 Agree xs ys k = (around xs k ≡ around ys k) × (around xs (k + 1) ≡ around ys (k + 1))
 
+-- two rings agree on each corner that both have
 agree : (points xs ys : List PlanePoint) → AreRing points xs → AreRing points ys → 1 < length xs → 1 < length ys → (k : ℕ) → k < length xs → k < length ys → Agree xs ys k
 agree points xs ys r t px py zero lx ly =
     let first : around xs 0 ≡ around ys 0 = same_least points (around xs 0) (around ys 0) r.from_least t.from_least in (
@@ -118,6 +125,7 @@ not_longer points xs ys r t px py h = by_end (length xs) refl
         one_up : (k : ℕ) → suc k ≡ length xs → k + 1 ≡ length xs
         one_up k e = omega arith
 
+-- so they are the same list
 same_rings : (points xs ys : List PlanePoint) → AreRing points xs → AreRing points ys → 1 < length xs → 1 < length ys → xs ≡ ys
 same_rings points xs ys r t px py =
     let long : length xs ≡ length ys = by_lt (length xs) (length ys) (not_longer points xs ys r t px py) (not_longer points ys xs t r py px) in
@@ -129,15 +137,18 @@ same_rings points xs ys r t px py =
 
 -- ---- all points on a line leave no ring
 
+-- where no three points turn there is no ring
 no_ring : (points xs : List PlanePoint) → 0 < length xs → AreRing points xs → ((p q r : PlanePoint) → Contains points p → Contains points q → Contains points r → turn p q r ≡ pos 0) → ⊥
 no_ring points xs some r flat =
     positive-not_zero (r.left_turns 0 some) (flat (around xs 0) (around xs 1) (around xs 2) (around-listed points xs 0 some r.listed) (around-listed points xs 1 some r.listed) (around-listed points xs 2 some r.listed))
 
+-- equal points do not turn
 flat_point : (points : List PlanePoint) (a : PlanePoint) → IsOnlyPoint points a → (p q r : PlanePoint) → Contains points p → Contains points q → Contains points r → turn p q r ≡ pos 0
 flat_point points a h p q r cp cq cr =
     let is = λ (s : PlanePoint) (c : Contains points s). All-contains (λ z. z ≡ a) points s h.only c in
     subst (λ z. turn z q r ≡ pos 0) (sym (is p cp)) (subst (λ z. turn a z r ≡ pos 0) (sym (is q cq)) (subst (λ z. turn a a z ≡ pos 0) (sym (is r cr)) (cross_self (vector a a))))
 
+-- nor do points on a line
 flat_line : (points : List PlanePoint) (a b : PlanePoint) → AreEnds points a b → (p q r : PlanePoint) → Contains points p → Contains points q → Contains points r → turn p q r ≡ pos 0
 flat_line points a b h p q r cp cq cr =
     let u = vector a b in
@@ -149,6 +160,7 @@ flat_line points a b h p q r cp cq cr =
 no_ends : (points : List PlanePoint) (a b c : PlanePoint) → IsOnlyPoint points a → AreEnds points b c → ⊥
 no_ends points a b c h k = k.distinct (All-contains (λ p. p ≡ a) points b h.only k.from_least.listed ∙ sym (All-contains (λ p. p ≡ a) points c h.only k.to_greatest.listed))
 
+-- points have one list of corners at most
 pub one_list_of_corners : CornersAreUnique
 one_list_of_corners points [] ys h k = absurd h
 one_list_of_corners points (a ∷ []) [] h k = absurd k

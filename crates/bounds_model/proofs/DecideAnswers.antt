@@ -12,6 +12,7 @@ use Rattle.bounds_model.proofs.DecideKgon.{kgon_passes}
 use Rattle.bounds_model.proofs.DecideDistance.{annulus_passes, distance_passes}
 use Rattle.bounds_model.proofs.DecideCentres.{centres_passes}
 
+-- of a claim
 abbrev pub claim_passes : (c : Claim) → Decision (ClaimPasses c)
 claim_passes (circle_claim points a) = circle_passes points a
 claim_passes (sphere_claim points a) = sphere_passes points a
@@ -24,8 +25,10 @@ claim_passes (kgon_claim k points a) = kgon_passes k points a
 claim_passes (distance_claim ps qs a) = distance_passes ps qs a
 claim_passes (centres_claim count points a) = centres_passes count points a
 
+-- of what may be a claim
 abbrev pub some_passes : (o : Option Claim) → Decision (IsSomeAnd o ClaimPasses)
 some_passes = some_and {P = ClaimPasses} claim_passes
 
+-- of an answer
 abbrev pub passes : (ask : Ask) (sets : Sets) (answer : Answer) → Decision (Passes ask sets answer)
 passes ask sets answer = some_passes (claim ask sets answer)

@@ -8,6 +8,7 @@ use Rattle.bounds_model.proofs.Decisions.{Decision, like, both, most_ℤ}
 use Rattle.bounds_model.proofs.DecideParts.{same_space_point}
 use Rattle.bounds_model.proofs.CommonFactors.{gcd_from_lowest, no_common_factor}
 
+-- the entries
 abbrev pub list_of : SpacePoint → List ℤ
 list_of v = v.x ∷ v.y ∷ v.z ∷ []
 
@@ -22,9 +23,11 @@ gcd_of_multiples k es lowest = gcd_all-scale (pos k) es ∙ ap (λ n. k * n) (gc
 abbrev pub HasFactor : SpacePoint → SpacePoint → ℤ → Type 0
 HasFactor v d factor = (pos 1 ≤ℤ factor) × ((v ≡ times factor d) × HaveNoCommonFactor (list_of d))
 
+-- they make a multiple
 pub to_multiple : (v d : SpacePoint) → HasFactor v d (pos (gcd_all (list_of v))) → IsMultipleOfLowest v d
 to_multiple v d h = record { factor = pos (gcd_all (list_of v)); positive = h.0; multiple = h.1.0; lowest = h.1.1 }
 
+-- and a multiple has them, since its factor is the greatest common divisor
 pub from_multiple : (v d : SpacePoint) → IsMultipleOfLowest v d → HasFactor v d (pos (gcd_all (list_of v)))
 from_multiple v d h = by_factor h.factor h.positive h.multiple h.lowest
   where
@@ -34,6 +37,7 @@ from_multiple v d h = by_factor h.factor h.positive h.multiple h.lowest
         subst (λ n. HasFactor v d (pos n)) (sym is) (p, (e, low))
     by_factor (negsuc k) p e low = absurd p.le
 
+-- the test
 abbrev pub multiple_of_lowest : (v d : SpacePoint) → Decision (IsMultipleOfLowest v d)
 multiple_of_lowest v d =
     let g = pos (gcd_all (list_of v)) in

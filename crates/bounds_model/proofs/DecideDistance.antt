@@ -1,4 +1,4 @@
--- Tests of the conditions on rings and distances.
+-- Tests of the conditions on rings and distances. Each decides the definition of the like name.
 use Rattle.std.proofs.Common.{◌^◌, pos, ◌-ℤ◌, ◌≤ℤ◌, List, length}
 use Rattle.std.specs.Prelude.{All}
 use Rattle.bounds_model.specs.Plane.{PlanePoint, squared_length}

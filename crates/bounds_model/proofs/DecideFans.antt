@@ -1,4 +1,4 @@
--- Tests of the conditions on fans, strips, rectangles and parallelograms.
+-- Tests of the conditions on fans, strips, rectangles and parallelograms. Each decides the definition of the like name.
 use Rattle.std.proofs.Common.{ℕ, ◌-◌, ◌+◌, pos, ◌+ℤ◌, List, length}
 use Rattle.std.specs.Prelude.{slice_get}
 use Rattle.bounds_model.specs.Plane.{PlanePoint, point_at, cross, dot, origin, quarter_turn}

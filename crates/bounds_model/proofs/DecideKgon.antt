@@ -1,4 +1,4 @@
--- Tests of the conditions on hulls and polygons.
+-- Tests of the conditions on hulls and polygons. Each decides the definition of the like name.
 use Rattle.std.proofs.Common.{◌≢◌, ℕ, ◌+◌, ◌-◌, ◌*◌, ◌<◌, min, pos, ◌*ℤ◌, List, [], ◌∷◌, length, arith}
 use Rattle.std.specs.Prelude.{Contains, slice_index}
 use Rattle.std.specs.List.Sorted.{IsStrictlyIncreasing}

@@ -1,4 +1,4 @@
--- Tests of the conditions on plain fans.
+-- Tests of the conditions on plain fans. Each decides the definition of the like name.
 use Rattle.std.proofs.Common.{◌≡◌, ◌≢◌, ℕ, zero, suc, ◌+◌, ◌<◌, pos, ◌<ℤ◌, subst, List, [], ◌∷◌, length, arith}
 use mathlib.Core.Logic.{inl, inr}
 use Rattle.std.specs.Prelude.{◌⊎◌, Any, SomeIndex}
@@ -14,9 +14,11 @@ use Rattle.bounds_model.proofs.CommonFactors.{no_common_factor}
 abbrev pub SomeBelow : ℕ → (ℕ → Type 0) → Type 0
 SomeBelow bound P = (i : ℕ) × (i < bound) × P i
 
+-- no number is below 0
 pub some-nil : (P : ℕ → Type 0) → ¬ SomeBelow 0 P
 some-nil P h = let l : h.0 < 0 = h.1 in absurd (omega arith)
 
+-- one more number below the bound
 pub some-more : (P : ℕ → Type 0) (n : ℕ) → P n ⊎ SomeBelow n P → SomeBelow (suc n) P
 some-more P n s = elim s [ inl p ↦ (n, here n, p) | inr h ↦ (h.0, further h.0 n h.1, h.2) ]
   where
@@ -26,19 +28,23 @@ some-more P n s = elim s [ inl p ↦ (n, here n, p) | inr h ↦ (h.0, further h.
     further : (i n : ℕ) → i < n → i < suc n
     further i n l = omega arith
 
+-- the last number below the bound, or one before
 pub some-last : (P : ℕ → Type 0) (n : ℕ) → SomeBelow (suc n) P → P n ⊎ SomeBelow n P
 some-last P n h = elim (split h.0 n h.1) [ inl l ↦ inr (h.0, l, h.2) | inr e ↦ inl (subst P e h.2) ]
   where
     split : (i n : ℕ) → i < suc n → (i < n) ⊎ (i ≡ n)
     split i n l = grind arith
 
+-- a test for some number below a bound
 abbrev pub some_below : {P : ℕ → Type 0} → ((i : ℕ) → Decision (P i)) → (n : ℕ) → Decision (SomeBelow n P)
 some_below {P} each zero = impossible (some-nil P)
 some_below {P} each (suc n) = like (either (each n) (some_below {P = P} each n)) (some-more P n) (some-last P n)
 
+-- the inner directions are among all numbers below the length
 pub inner_to : (ds : List PlanePoint) (P : PlanePoint → Type 0) → ((i : ℕ) → i < length ds → 0 < i → i + 1 < length ds → P (point_at ds i)) → EachInner ds P
 inner_to ds P h i p l = h i (omega arith) p l
 
+-- a test for each inner direction
 abbrev pub each_inner : (ds : List PlanePoint) {P : PlanePoint → Type 0} → ((d : PlanePoint) → Decision (P d)) → Decision (EachInner ds P)
 each_inner ds {P} each =
     like (each_below {P = λ i. 0 < i → i + 1 < length ds → P (point_at ds i)} (λ i. implies (less_ℕ 0 i) (implies (less_ℕ (i + 1) (length ds)) (each (point_at ds i)))) (length ds)) (inner_to ds P) (λ h i b p l. h i p l)

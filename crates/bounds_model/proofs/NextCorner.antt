@@ -9,6 +9,7 @@ use Rattle.integers.proofs.Order.{nonneg_mul, nonneg_add, positive_mul, positive
 use Rattle.bounds_model.specs.Plane.{PlanePoint, vector, dot, squared_length, cross, turn, IsBefore, IsLeastPoint}
 use Rattle.bounds_model.proofs.Turning.{IsAhead, ahead_of_before, between_turns, edge_turn}
 
+-- a factor of a product above 0 is above 0 where the other is
 positive_of_mul : (k a : ℤ) → pos 0 <ℤ k → pos 0 <ℤ (k *ℤ a) → pos 0 <ℤ a
 positive_of_mul k a h l = by_lt_z (pos 0) a (λ p. p) (λ m. absurd (none (k *ℤ a) l (times_low k a (nonneg_from_positive h) m)))
   where
@@ -76,6 +77,7 @@ no_farther u v e flat long turns left = no_more (nonneg_of_mul (cross u e) turns
     no_more : {a t : ℤ} → pos 0 ≤ℤ (a -ℤ t) → t ≤ℤ a
     no_more h = omega (arith, ints)
 
+-- what has no square above 0 is 0
 pub zero_of_square : (x : ℤ) → (x *ℤ x) ≤ℤ pos 0 → x ≡ pos 0
 zero_of_square x h = le_antisymm_ℤ (le_of_square_le zero_least h) (turned (le_of_square_le zero_least (subst (λ z. z ≤ℤ pos 0) (mirrored x) h)))
   where
@@ -119,6 +121,7 @@ pub record Follows (points : List PlanePoint) (a b c : PlanePoint) : Type 0 wher
   pub next_left : All (λ q. pos 0 ≤ℤ turn b c q) points
   pub turns : pos 0 <ℤ turn a b c
 
+-- what is above 0 is not 0
 pub positive-not_zero : {z : ℤ} → pos 0 <ℤ z → z ≡ pos 0 → ⊥
 positive-not_zero h e = omega (arith, ints)
 
@@ -135,6 +138,7 @@ long_edge u v h = by_lt_z (pos 0) (squared_length u) (λ l. l) (λ m. absurd (po
     second_part : {a b : ℤ} → pos 0 ≤ℤ a → (a +ℤ b) ≤ℤ pos 0 → b ≤ℤ pos 0
     second_part h k = omega (arith, ints)
 
+-- equal vectors from one point lead to one point
 equal_ends : (a b c : PlanePoint) → vector a b ≡ vector a c → b ≡ c
 equal_ends a b c e = λ i. record { x = equal a.x b.x c.x (ap (λ (p : PlanePoint). p.x) e) i; y = equal a.y b.y c.y (ap (λ (p : PlanePoint). p.y) e) i }
   where

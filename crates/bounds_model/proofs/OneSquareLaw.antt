@@ -16,13 +16,16 @@ use Rattle.bounds_model.specs.Answers.Answer.{centres}
 use Rattle.bounds_model.specs.Laws.{PassingAnswersAreBest}
 use Rattle.bounds_model.proofs.Decisions.{any-nil, any-uncons}
 
+-- what is at least 1 is not below 0
 weaken : {a : ℤ} → pos 1 ≤ℤ a → pos 0 ≤ℤ a
 weaken h = omega (arith, ints)
 
+-- a number is at most its magnitude
 le_abs : (z : ℤ) → z ≤ℤ pos (nat_abs z)
 le_abs (pos k) = omega (arith, ints)
 le_abs (negsuc k) = omega (arith, ints)
 
+-- and so is its negative
 neg_le_abs : (z : ℤ) → neg_ℤ z ≤ℤ pos (nat_abs z)
 neg_le_abs (pos k) = omega (arith, ints)
 neg_le_abs (negsuc k) = omega (arith, ints)
@@ -88,9 +91,11 @@ side_is N D h s = elim s [ inl e ↦ subst (λ v. pos (2 * nat_abs N / nat_abs v
     by_two (pos k) h = ap pos (let e : 2 * k / 2 * 2 ≡ 2 * k = omega arith in e)
     by_two (negsuc k) h = absurd (omega (arith, ints))
 
+-- any leaf, for reading past the end of a list
 no_leaf : Leaf
 no_leaf = record { first = 0; second = 0 }
 
+-- no square around all points is smaller than one that passes
 least : (points : List PlanePoint) (a : CentresAnswer) → PassesCentres 1 points a → (other : Cover) → FitsCentres 1 points other → IsAtMost a.size other.radius
 least points a h other fits = by_centres other.centres fits.as_many fits.denominators fits.near
   where
@@ -114,6 +119,7 @@ least points a h other fits = by_centres other.centres fits.as_many fits.denomin
     by_centres (c ∷ []) n w near = by_side c (All-head (λ c. pos 1 ≤ℤ c.w) c [] w) near _ (side_is a.size.n a.size.d h.places.size.lowest.not_negative.numerator h.halves) h.leaves
     by_centres (c ∷ d ∷ cs) n w near = absurd (omega arith)
 
+-- one centre that passes is best
 pub one_square_is_best : PassingAnswersAreBest (ask_centres 1)
 one_square_is_best (plane points) (centres a) h = record {
   fits = (h.covers, record { lowest = h.places.size.lowest; same = refl });

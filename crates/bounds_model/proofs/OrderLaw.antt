@@ -22,12 +22,15 @@ use Rattle.bounds_model.specs.Answers.Answer.{circle, sphere, rectangle, paralle
 use Rattle.bounds_model.specs.Laws.{BestAnswersHaveNoOrder}
 use Rattle.bounds_model.proofs.PermutedFits.{circle_stays, ball_stays, rectangle_stays, parallelogram_stays, strip_stays, annulus_stays, empty_stays, centres_stay}
 
+-- what is smallest is so wherever the same objects fit
 smallest_stays : {X : Type 0} (Fits Fits' : X → Type 0) (size : X → Fraction) → ((o : X) → Fits o → Fits' o) → ((o : X) → Fits' o → Fits o) → (o : X) → IsSmallest Fits size o → IsSmallest Fits' size o
 smallest_stays Fits Fits' size there back o h = record { fits = there o h.fits; smallest = λ other f. h.smallest other (back other f) }
 
+-- and what is greatest
 greatest_stays : {X : Type 0} (Fits Fits' : X → Type 0) (size : X → Fraction) → ((o : X) → Fits o → Fits' o) → ((o : X) → Fits' o → Fits o) → (o : X) → IsGreatest Fits size o → IsGreatest Fits' size o
 greatest_stays Fits Fits' size there back o h = record { fits = there o h.fits; greatest = λ other f. h.greatest other (back other f) }
 
+-- a best answer stays best
 pub best_stays : BestAnswersHaveNoOrder
 best_stays ask_circle (plane ps) (plane qs) (circle a) n p h = record {
   fits = (circle_stays ps qs p (circle_of a) h.fits.0, h.fits.1);

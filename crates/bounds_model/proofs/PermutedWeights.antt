@@ -16,19 +16,23 @@ use Rattle.bounds_model.specs.Distance.{weighted}
 
 -- ---- sums of a permutation
 
+-- a number, or 0 where it is below 0
 above : ℤ → ℕ
 above (pos n) = n
 above (negsuc n) = 0
 
+-- the magnitude of a number, or 0 where it is not below 0
 below : ℤ → ℕ
 below (pos n) = 0
 below (negsuc n) = n + 1
 
+-- a number is the difference of these
 parts : (z : ℤ) → z ≡ pos (above z) -ℤ pos (below z)
 unfolding above below
 parts (pos n) = omega (arith, ints)
 parts (negsuc n) = omega (arith, ints)
 
+-- and so is a sum
 total-parts : {X : Type 0} (f : X → ℤ) (xs : List X) → total f xs ≡ pos (sum_by (λ x. above (f x)) xs) -ℤ pos (sum_by (λ x. below (f x)) xs)
 total-parts f [] = refl
 total-parts f (x ∷ xs) = joined (f x) (total f xs) _ _ _ _ _ _ (parts (f x)) (total-parts f xs) (sum_by-cons (λ x. above (f x)) x xs) (sum_by-cons (λ x. below (f x)) x xs)
@@ -36,6 +40,7 @@ total-parts f (x ∷ xs) = joined (f x) (total f xs) _ _ _ _ _ _ (parts (f x)) (
     joined : (z t : ℤ) (a b s r m n : ℕ) → z ≡ pos a -ℤ pos b → t ≡ pos s -ℤ pos r → m ≡ a + s → n ≡ b + r → z +ℤ t ≡ pos m -ℤ pos n
     joined z t a b s r m n h k l e = omega (arith, ints)
 
+-- a sum is the same in any order
 pub total-IsPermutation : {X : Type 0} (f : X → ℤ) (xs ys : List X) → IsPermutation xs ys → total f ys ≡ total f xs
 total-IsPermutation f xs ys s =
     total-parts f ys ∙ ap₂ (λ m n. pos m -ℤ pos n) (sum_by-IsPermutation (λ x. above (f x)) xs ys s) (sum_by-IsPermutation (λ x. below (f x)) xs ys s) ∙ sym (total-parts f xs)
@@ -46,6 +51,7 @@ weighted_sum-parts : {X : Type 0} (weight : X → ℤ) (at : X → SpacePoint) (
 weighted_sum-parts weight at [] = refl
 weighted_sum-parts weight at (x ∷ xs) = λ i. plus (times (weight x) (at x)) (weighted_sum-parts weight at xs i)
 
+-- and so is a weighted sum
 pub weighted_sum-IsPermutation : {X : Type 0} (weight : X → ℤ) (at : X → SpacePoint) (xs ys : List X) → IsPermutation xs ys → weighted_sum weight at ys ≡ weighted_sum weight at xs
 weighted_sum-IsPermutation weight at xs ys s =
     weighted_sum-parts weight at ys
@@ -54,6 +60,7 @@ weighted_sum-IsPermutation weight at xs ys s =
 
 -- ---- pairs of weights and points
 
+-- a function of each element keeps exchanges
 map-swap : {X Y : Type 0} (f : X → Y) (xs : List X) (i j : ℕ) → map f (swap xs i j) ≡ swap (map f xs) i j
 map-swap f [] i j = refl
 map-swap f (x ∷ xs) i j =
@@ -61,12 +68,15 @@ map-swap f (x ∷ xs) i j =
     map-set f (set l i (get_or l j x)) j (get_or l i x)
     ∙ ap₂ (λ m v. set m j v) (map-set f l i (get_or l j x) ∙ ap (set (map f l) i) (sym (get_or-map f l j x))) (sym (get_or-map f l i x))
 
+-- a weight with its point
 abbrev pub Pair : Type 0
 Pair = ℤ × SpacePoint
 
+-- the weights of pairs
 abbrev weights_in : List Pair → List ℤ
 weights_in pairs = map (λ (pair : Pair). pair.0) pairs
 
+-- the points of pairs
 abbrev points_in : List Pair → List SpacePoint
 points_in pairs = map (λ (pair : Pair). pair.1) pairs
 
@@ -74,6 +84,7 @@ points_in pairs = map (λ (pair : Pair). pair.1) pairs
 abbrev Carried : List Pair → List SpacePoint → Type 0
 Carried pairs points = (other : List Pair) × IsPermutation pairs other × (points_in other ≡ points)
 
+-- pairs go along with their points
 carry : (pairs : List Pair) (ps qs : List SpacePoint) → points_in pairs ≡ ps → IsPermutation ps qs → Carried pairs qs
 carry pairs ps qs e s = IsPermutation-keeps ps (Carried pairs) (pairs, IsPermutation-refl pairs, e) step qs s
   where
@@ -88,6 +99,7 @@ carry pairs ps qs e s = IsPermutation-keeps ps (Carried pairs) (pairs, IsPermuta
           map-swap (λ (pair : Pair). pair.1) c.0 i j ∙ ap (λ l. swap l i j) c.2,
         )
 
+-- pairs are their weights beside their points
 zip_of_parts : (pairs : List Pair) → zip (weights_in pairs) (points_in pairs) ≡ pairs
 zip_of_parts [] = refl
 zip_of_parts (pair ∷ pairs) = ap (λ l. pair ∷ l) (zip_of_parts pairs)
@@ -100,6 +112,7 @@ pub record OtherWeights (weights : List ℤ) (ps qs : List SpacePoint) : Type 0 
   pub same_sum : total (λ w. w) other ≡ total (λ w. w) weights
   pub same_point : weighted other qs ≡ weighted weights ps
 
+-- weights go along with their points
 pub other_weights : (weights : List ℤ) (ps qs : List SpacePoint) → length weights ≡ length ps → All (λ w. pos 0 ≤ℤ w) weights → IsPermutation ps qs → OtherWeights weights ps qs
 other_weights weights ps qs e h s =
     let pairs = zip weights ps in

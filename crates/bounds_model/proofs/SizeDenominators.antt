@@ -24,6 +24,7 @@ long_vector u n = by_lt_z (pos 0) (squared_length u) (λ l. l) (λ m. absurd (n 
     second_part : {a b : ℤ} → pos 0 ≤ℤ a → (a +ℤ b) ≤ℤ pos 0 → b ≤ℤ pos 0
     second_part h k = omega (arith, ints)
 
+-- a number that is not 0 has a magnitude above 0
 magnitude_positive : (z : ℤ) → z ≢ pos 0 → pos 0 <ℤ pos (nat_abs z)
 magnitude_positive z n = by_lt_z (pos 0) (pos (nat_abs z)) (λ l. l) (λ m. absurd (n (zero_magnitude z m)))
   where
@@ -34,29 +35,38 @@ magnitude_positive z n = by_lt_z (pos 0) (pos (nat_abs z)) (λ l. l) (λ m. absu
 over_square : (w s : ℤ) → pos 1 ≤ℤ w → pos 0 <ℤ s → pos 0 <ℤ (w *ℤ w *ℤ s)
 over_square w s h l = positive_mul (positive_mul (positive_from_one h) (positive_from_one h)) l
 
+-- of a ball
 pub ball_denominator : (points : List SpacePoint) (ball : Ball) → FitsBall points ball → pos 0 <ℤ (ball_size ball).d
 ball_denominator points ball h = positive_from_one h.radius.denominator
 
+-- of a circle
 pub circle_denominator : (points : List PlanePoint) (circle : Ball) → FitsCircle points circle → pos 0 <ℤ (ball_size circle).d
 circle_denominator points circle h = positive_from_one h.ball.radius.denominator
 
+-- of a strip
 pub strip_denominator : (points : List PlanePoint) (strip : Strip) → FitsStrip points strip → pos 0 <ℤ (strip_size strip).d
 strip_denominator points strip h = over_square strip.w (squared_length strip.normal) h.denominator (long_vector strip.normal h.normal)
 
+-- of a rectangle
 pub rectangle_denominator : (points : List PlanePoint) (rectangle : Rectangle) → FitsRectangle points rectangle → pos 0 <ℤ (rectangle_size rectangle).d
 rectangle_denominator points rectangle h = over_square rectangle.w (squared_length rectangle.direction) h.denominator (long_vector rectangle.direction h.direction)
 
+-- of a parallelogram
 pub parallelogram_denominator : (points : List PlanePoint) (p : Parallelogram) → FitsParallelogram points p → pos 0 <ℤ (parallelogram_size p).d
 parallelogram_denominator points p h = over_square p.w (pos (nat_abs (cross p.first p.second))) h.denominator (magnitude_positive (cross p.first p.second) h.normals)
 
+-- of a ring
 pub annulus_denominator : (points : List PlanePoint) (ring : Annulus) → FitsAnnulus points ring → pos 0 <ℤ (annulus_size ring).d
 annulus_denominator points ring h = positive_mul (positive_from_one h.outer.denominator) (positive_from_one h.inner.denominator)
 
+-- of an empty rectangle
 pub empty_denominator : (frame : Box) (points : List PlanePoint) (rectangle : EmptyRectangle) → FitsEmpty frame points rectangle → pos 0 <ℤ (empty_size rectangle).d
 empty_denominator frame points rectangle h = positive_mul (positive_from_one h.denominator) (positive_from_one h.denominator)
 
+-- of weights
 pub distance_denominator : (ps qs : List SpacePoint) (weights : Weights) → FitsDistance ps qs weights → pos 0 <ℤ (distance_size ps qs weights).d
 distance_denominator ps qs weights h = positive_mul (positive_from_one h.sum) (positive_from_one h.sum)
 
+-- of centres
 pub centres_denominator : (count : ℕ) (points : List PlanePoint) (cover : Cover) → FitsCentres count points cover → pos 0 <ℤ (centres_size cover).d
 centres_denominator count points cover h = positive_from_one h.radius.denominator

@@ -18,28 +18,34 @@ use Rattle.bounds_model.proofs.KindSizes.{Stands, circle_sizes, sphere_sizes, re
 
 -- ---- the points of a set
 
+-- the points of the plane, if any
 abbrev plane_points : Sets → List PlanePoint
 plane_points (plane points) = points
 plane_points sets = []
 
+-- the points of space, if any
 abbrev space_points : Sets → List SpacePoint
 space_points (space points) = points
 space_points sets = []
 
+-- the first of two sets, if any
 abbrev first_points : Sets → List SpacePoint
 first_points (two ps qs) = ps
 first_points sets = []
 
+-- the second of two sets, if any
 abbrev second_points : Sets → List SpacePoint
 second_points (two ps qs) = qs
 second_points sets = []
 
+-- points are in the order of themselves
 pub permuted_itself : (sets : Sets) → ArePermuted sets sets
 permuted_itself (plane points) = IsPermutation-refl points
 permuted_itself (space points) = IsPermutation-refl points
 permuted_itself (two ps qs) = (IsPermutation-refl ps, IsPermutation-refl qs)
 permuted_itself bare = tt
 
+-- the points of the plane are in another order
 plane_permuted : (sets other : Sets) → ArePermuted sets other → IsPermutation (plane_points sets) (plane_points other)
 plane_permuted (plane ps) (plane qs) p = p
 plane_permuted (space ps) (space qs) p = IsPermutation-refl []
@@ -47,6 +53,7 @@ plane_permuted (two ps qs) (two ps' qs') p = IsPermutation-refl []
 plane_permuted bare bare p = IsPermutation-refl []
 plane_permuted sets other p = absurd p
 
+-- and those of space
 space_permuted : (sets other : Sets) → ArePermuted sets other → IsPermutation (space_points sets) (space_points other)
 space_permuted (plane ps) (plane qs) p = IsPermutation-refl []
 space_permuted (space ps) (space qs) p = p
@@ -54,6 +61,7 @@ space_permuted (two ps qs) (two ps' qs') p = IsPermutation-refl []
 space_permuted bare bare p = IsPermutation-refl []
 space_permuted sets other p = absurd p
 
+-- and those of two sets
 two_permuted : (sets other : Sets) → ArePermuted sets other → IsPermutation (first_points sets) (first_points other) × IsPermutation (second_points sets) (second_points other)
 two_permuted (plane ps) (plane qs) p = (IsPermutation-refl [], IsPermutation-refl [])
 two_permuted (space ps) (space qs) p = (IsPermutation-refl [], IsPermutation-refl [])
@@ -63,10 +71,12 @@ two_permuted sets other p = absurd p
 
 -- ---- what a best answer claims
 
+-- both hold of a claim
 some_both : (o : Option Claim) → IsSomeAnd o ClaimFits → IsSomeAnd o ClaimIsBest → IsSomeAnd o Stands
 some_both None h k = h
 some_both (Some c) h k = (h, k)
 
+-- what a best answer claims stands
 stands : (ask : Ask) (sets : Sets) (answer : Answer) → IsBest ask sets answer → IsSomeAnd (claim ask sets answer) Stands
 stands ask sets answer h = some_both (claim ask sets answer) h.fits h.best
 
@@ -74,6 +84,7 @@ stands ask sets answer h = some_both (claim ask sets answer) h.fits h.best
 abbrev Case : {A : Type 0} → (A → Answer) → (A → Claim) → Answer → Type 0
 Case {A} wrap claimed answer = (a : A) × (answer ≡ wrap a) × Stands (claimed a)
 
+-- a best answer on circles, and so on for each kind
 circle_case : (sets : Sets) (answer : Answer) → IsBest ask_circle sets answer → Case circle (circle_claim (plane_points sets)) answer
 circle_case sets answer h = by_claim sets answer (stands ask_circle sets answer h)
   where
@@ -147,6 +158,7 @@ distance_case sets answer h = by_claim sets answer (stands ask_distance sets ans
 
 -- ---- all ten
 
+-- the best size is the same for the points in another order
 pub one_size : BestSizeHasNoOrder
 one_size ask_circle sets other first second p h g =
     let a = circle_case sets first h in
@@ -190,8 +202,10 @@ one_size (ask_centres count) sets other first second p h g =
     let b = centres_case count other second g in
     ap size_of a.1 ∙ centres_sizes count (plane_points sets) (plane_points other) a.0 b.0 (plane_permuted sets other p) a.2 b.2 ∙ sym (ap size_of b.1)
 
+-- so it is for the same points
 pub one_size_of_same : BestSizeIsUnique
 one_size_of_same ask sets first second h g = one_size ask sets sets first second (permuted_itself sets) h g
 
+-- so there is one optimum at most
 pub one_optimum : OptimumIsUnique
 one_optimum ask sets first second h g = sym h.printed ∙ one_size_of_same ask sets h.answer g.answer h.best g.best ∙ g.printed

@@ -23,9 +23,11 @@ ahead_of_before a b h n = elim h [ inl l ↦ inl (above a.x b.x l) | inr e ↦ i
     apart : (x y : ℤ) → x ≤ℤ y → (y ≡ x → ⊥) → pos 0 <ℤ (y -ℤ x)
     apart x y l d = by_lt_z x y (λ below. above x y below) (λ m. absurd (d (le_antisymm_ℤ m l)))
 
+-- an identity of three vectors, which the order of turns rests on
 exchange_x : (ux uy vx vy wx wy : ℤ) → vx *ℤ (ux *ℤ wy -ℤ uy *ℤ wx) ≡ ux *ℤ (vx *ℤ wy -ℤ vy *ℤ wx) +ℤ wx *ℤ (ux *ℤ vy -ℤ uy *ℤ vx)
 exchange_x ux uy vx vy wx wy = read (ux ∷ uy ∷ vx ∷ vy ∷ wx ∷ wy ∷ []) (λ xs a b c d e f. simp (a, b, c, d, e, f, polys) (den-ring xs _ _ tt))
 
+-- a vector that is ahead does not point to the left
 not_left : (u : PlanePoint) → IsAhead u → pos 0 ≤ℤ u.x
 not_left u h = elim h [ inl l ↦ weak u.x l | inr e ↦ level u.x e.0 ]
   where

@@ -7,6 +7,7 @@ use Rattle.integers.proofs.Identities.{den-ring, read, polys, lits}
 use Rattle.integers.proofs.Order.{combine1, combine2}
 use Rattle.bounds_model.specs.Space.{SpacePoint, vector, times, dot, squared_length, weighted_sum}
 
+-- one more vector
 sum_step : (k w ax ay az yx yy yz T S Cx Cy Cz W : ℤ)
     → T ≡ k *ℤ k *ℤ S -ℤ pos 2 *ℤ (k *ℤ (yx *ℤ Cx +ℤ yy *ℤ Cy +ℤ yz *ℤ Cz)) +ℤ W *ℤ (yx *ℤ yx +ℤ yy *ℤ yy +ℤ yz *ℤ yz)
     → w *ℤ ((k *ℤ ax -ℤ yx) *ℤ (k *ℤ ax -ℤ yx) +ℤ (k *ℤ ay -ℤ yy) *ℤ (k *ℤ ay -ℤ yy) +ℤ (k *ℤ az -ℤ yz) *ℤ (k *ℤ az -ℤ yz)) +ℤ T
@@ -27,6 +28,7 @@ distances_sum weight at k y [] = nothing k y.x y.y y.z
 distances_sum weight at k y (x ∷ xs) =
     sum_step k (weight x) (at x).x (at x).y (at x).z y.x y.y y.z _ _ (weighted_sum weight at xs).x (weighted_sum weight at xs).y (weighted_sum weight at xs).z _ (distances_sum weight at k y xs)
 
+-- one more vector
 balance_step : (m w ax ay az vx vy vz S Rx Ry Rz : ℤ)
     → pos 2 *ℤ (ax *ℤ vx +ℤ ay *ℤ vy +ℤ az *ℤ vz) ≡ m *ℤ (ax *ℤ ax +ℤ ay *ℤ ay +ℤ az *ℤ az)
     → pos 2 *ℤ (Rx *ℤ vx +ℤ Ry *ℤ vy +ℤ Rz *ℤ vz) ≡ m *ℤ S
