@@ -1,3 +1,40 @@
+pub mod Decisions
+pub mod CommonFactors
+pub mod DecideParts
+pub mod DecideBall
+pub mod DecideFans
+pub mod DecideEmpty
+pub mod DecideKgon
+pub mod DecideCentres
+pub mod DecideDirection
+pub mod DecideDistance
+pub mod DecideAnswers
+pub mod DecidePlain
+pub mod Literals
+pub mod Turning
+pub mod CornerLaw
+pub mod NextCorner
+pub mod CornersUnique
+pub mod BestSizes
+pub mod SizeDenominators
+pub mod PermutedFits
+pub mod PermutedWeights
+pub mod KindSizes
+pub mod SizeLaw
+pub mod OrderLaw
+pub mod WeightedVectors
+pub mod BallLaw
+pub mod OneSquareLaw
+pub mod ExampleBalls
+pub mod ExampleStrips
+pub mod ExampleRectangles
+pub mod ExampleParallelograms
+pub mod ExampleAnnuli
+pub mod ExampleEmpty
+pub mod ExampleKgons
+pub mod ExampleDistances
+pub mod ExampleCentres
+pub mod ExampleParts
 mod AnswerTexts
 mod DemoPoints
 mod ErrorTexts

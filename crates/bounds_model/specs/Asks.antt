@@ -1,8 +1,8 @@
 -- The ten kinds of questions, and the points that each is asked of.
-use Rattle.std.specs.Prelude.{ℕ, ◌≤◌, ◌<ℤ◌, ⊤, List}
+use Rattle.std.specs.Prelude.{ℕ, ◌≤◌, ⊤, List}
 use Rattle.bounds_model.specs.Plane.{PlanePoint}
 use Rattle.bounds_model.specs.Space.{SpacePoint}
-use Rattle.bounds_model.specs.EmptyRectangle.{Box}
+use Rattle.bounds_model.specs.EmptyRectangle.{Box, IsFrame}
 
 -- what is asked: an empty rectangle in a frame, a polygon of at most so many corners, so many centres
 pub data Ask : Type 0 where
@@ -24,9 +24,9 @@ pub data Sets : Type 0 where
   two : List SpacePoint → List SpacePoint → Sets
   bare : Sets
 
--- a polygon has 3 to 12 corners, there are 1 to 3 centres, and a frame has an inside
+-- a polygon has at most 3 to 12 corners, there are 1 to 3 centres, and a frame is in bounds and has an inside
 abbrev pub IsValid : Ask → Type 0
-IsValid (ask_empty frame) = (frame.left <ℤ frame.right) × (frame.bottom <ℤ frame.top)
+IsValid (ask_empty frame) = IsFrame frame
 IsValid (ask_kgon k) = (3 ≤ k) × (k ≤ 12)
 IsValid (ask_centres count) = (1 ≤ count) × (count ≤ 3)
 IsValid ask = ⊤

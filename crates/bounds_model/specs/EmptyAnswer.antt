@@ -80,15 +80,15 @@ pub record EachPlace (band : Box) (points : List PlanePoint) (P : ℤ → Type 0
 abbrev pub IsEmpty : List PlanePoint → Box → Type 0
 IsEmpty points box = All (λ p. ¬ IsStrictlyInside box p) points
 
--- a box between two places with no point inside is no larger than the size
+-- where the box has a width and no point is strictly inside it, its area is at most the size
 abbrev pub IsNotLarger : List PlanePoint → Fraction → Box → Type 0
 IsNotLarger points size box = box.left <ℤ box.right → IsEmpty points box → (area box *ℤ size.d) ≤ℤ size.n
 
--- in a band, no box from one place to the next is larger than the size
+-- in a band no box from one place to the next is larger than the size
 abbrev pub NoneLargerInBand : List PlanePoint → Fraction → Box → Type 0
 NoneLargerInBand points size band = EachPlace band points (λ left. EachPlace band points (λ right. IsNotLarger points size (record band { left = left; right = right })))
 
--- the same between every two heights
+-- between every two heights no box from one place to the next is larger than the size
 abbrev pub NoneLarger : Box → List PlanePoint → Fraction → Type 0
 NoneLarger frame points size = EachHeight frame points (λ bottom. EachHeight frame points (λ top. bottom <ℤ top → NoneLargerInBand points size (record frame { bottom = bottom; top = top })))
 

@@ -1,6 +1,7 @@
 -- Upright rectangles inside a frame with no point strictly inside.
 use Rattle.std.specs.Prelude.{ℤ, pos, ◌-ℤ◌, ◌*ℤ◌, ◌≤ℤ◌, ◌<ℤ◌, List, All}
-use Rattle.bounds_model.specs.Plane.{PlanePoint, times}
+use Rattle.bounds_model.specs.Numbers.{IsWithin}
+use Rattle.bounds_model.specs.Plane.{PlanePoint, times, plane_limit}
 use Rattle.bounds_model.specs.Fractions.{Fraction}
 
 -- an upright rectangle
@@ -9,6 +10,15 @@ pub record Box : Type 0 where
   pub bottom : ℤ
   pub right : ℤ
   pub top : ℤ
+
+-- a frame: a box whose numbers are in bounds, and which has an inside
+pub record IsFrame (box : Box) : Type 0 where
+  pub left : IsWithin plane_limit box.left
+  pub bottom : IsWithin plane_limit box.bottom
+  pub right : IsWithin plane_limit box.right
+  pub top : IsWithin plane_limit box.top
+  pub wide : box.left <ℤ box.right
+  pub high : box.bottom <ℤ box.top
 
 -- the point is inside, and on no side
 pub record IsStrictlyInside (box : Box) (p : PlanePoint) : Type 0 where

@@ -34,3 +34,4 @@ pub mod PointText
 pub mod Demo
 pub mod ErrorLines
 pub mod Words
+pub mod Laws

@@ -1,4 +1,4 @@
--- Weighted vectors, and how low a vector is under them.
+-- Weighted vectors, and how low a vector is under them. For balls `square` is 1, and the vectors are points as seen from one of them; for distances it is 0, and they are differences.
 use Rattle.std.specs.Prelude.{◌≡◌, ℤ, pos, ◌-ℤ◌, ◌*ℤ◌, ◌<ℤ◌, List, All, length, zip}
 use Rattle.integers.specs.Total.{total}
 use Rattle.bounds_model.specs.Space.{SpacePoint, dot, squared_length, weighted_sum, origin}
@@ -21,7 +21,7 @@ moment items = weighted_sum (λ item. item.weight) (λ item. item.vector) items
 abbrev pub second_moment : List WeightedVector → ℤ
 second_moment items = total (λ item. item.weight *ℤ squared_length item.vector) items
 
--- the potential of a vector: square is 1 for balls and 0 for distances
+-- the potential of a vector
 abbrev pub potential : ℤ → List WeightedVector → SpacePoint → ℤ
 potential square items v = pos 2 *ℤ dot v (moment items) -ℤ square *ℤ (mass items *ℤ squared_length v)
 
@@ -33,7 +33,7 @@ AreEqualPotentials square items = All (λ a. All (λ b. potential square items a
 abbrev pub IsLow : ℤ → List WeightedVector → SpacePoint → Type 0
 IsLow square items v = All (λ item. potential square items v <ℤ potential square items item.vector) items
 
--- what rises at each exchange
+-- the weighted mean of the squared lengths for balls, less the squared length of the weighted mean
 abbrev pub value : ℤ → List WeightedVector → Fraction
 value square items = record {
   n = square *ℤ (mass items *ℤ second_moment items) -ℤ squared_length (moment items);
@@ -45,7 +45,7 @@ pub record IsDependence (vectors : List SpacePoint) (numbers : List ℤ) : Type 
   pub as_many : length numbers ≡ length vectors
   pub some : ¬ All (λ number. number ≡ pos 0) numbers
   pub sum : total (λ number. number) numbers ≡ pos 0
-  pub weighted_sum : weighted_sum (λ pair. pair.0) (λ pair. pair.1) (zip numbers vectors) ≡ origin
+  pub weighted : weighted_sum (λ pair. pair.0) (λ pair. pair.1) (zip numbers vectors) ≡ origin
 
 -- the vectors are affinely dependent
 abbrev pub AreAffinelyDependent : List SpacePoint → Type 0

@@ -1,2 +1,7 @@
-//! The definitions that the contracts of the other crates cite.
+//! The meaning of the whole product: points and fractions, the ten kinds of objects with their sizes, what best means, the answers,
+//! and what a checker asks of them. The definitions stand in `specs/`, over whole numbers of any size. No code runs here.
+//!
+//! - `laws`: statements on the definitions alone, which show that they are the right ones; each is the contract of an empty function.
 #![tactic(auto)]
+
+pub mod laws;

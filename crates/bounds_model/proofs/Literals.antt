@@ -1,0 +1,67 @@
+-- Short words for points, numbers and parts of answers in examples.
+use Rattle.std.proofs.Common.{ℕ, ℤ, pos, neg_ℤ}
+use Rattle.bounds_model.specs.Plane.{PlanePoint, PlaneRatio}
+use Rattle.bounds_model.specs.Space.{SpacePoint, SpaceRatio}
+use Rattle.bounds_model.specs.Fractions.{Fraction}
+use Rattle.bounds_model.specs.Strip.{Span}
+use Rattle.bounds_model.specs.EmptyRectangle.{Box}
+use Rattle.bounds_model.specs.Fans.{HalfCone, QuarterCone}
+use Rattle.bounds_model.specs.BallAnswer.{Weighted}
+use Rattle.bounds_model.specs.AnnulusAnswer.{WeightedPair}
+use Rattle.bounds_model.specs.CentresAnswer.{Leaf}
+
+-- the number -n
+abbrev pub minus : ℕ → ℤ
+minus n = neg_ℤ (pos n)
+
+-- the point (x, y)
+abbrev pub at : ℕ → ℕ → PlanePoint
+at x y = record { x = pos x; y = pos y }
+
+-- the point (-x, y)
+abbrev pub left_at : ℕ → ℕ → PlanePoint
+left_at x y = record { x = minus x; y = pos y }
+
+-- the point (x, y, z)
+abbrev pub in_space : ℕ → ℕ → ℕ → SpacePoint
+in_space x y z = record { x = pos x; y = pos y; z = pos z }
+
+-- the point (x/w, y/w)
+abbrev pub over : ℕ → ℕ → ℕ → PlaneRatio
+over x y w = record { x = pos x; y = pos y; w = pos w }
+
+-- the point (x/w, y/w, z/w)
+abbrev pub space_over : ℕ → ℕ → ℕ → ℕ → SpaceRatio
+space_over x y z w = record { x = pos x; y = pos y; z = pos z; w = pos w }
+
+-- the fraction n/d
+abbrev pub fraction : ℕ → ℕ → Fraction
+fraction n d = record { n = pos n; d = pos d }
+
+-- the bounds low and high
+abbrev pub span : ℤ → ℤ → Span
+span low high = record { low = low; high = high }
+
+-- a box by its four sides
+abbrev pub box : ℕ → ℕ → ℕ → ℕ → Box
+box left bottom right top = record { left = pos left; bottom = pos bottom; right = pos right; top = pos top }
+
+-- a support with its weight
+abbrev pub support : ℕ → ℕ → Weighted
+support point weight = record { point = point; weight = pos weight }
+
+-- a pair with its weight
+abbrev pub pair : ℕ → ℕ → ℕ → WeightedPair
+pair first second weight = record { first = first; second = second; weight = pos weight }
+
+-- a cone from the direction (x, y) on
+abbrev pub half_cone : ℕ → ℕ → ℕ → ℕ → HalfCone
+half_cone x y high low = record { direction = at x y; high = high; low = low }
+
+-- a cone from the direction (x, y) on, with extreme points for two directions
+abbrev pub quarter_cone : ℕ → ℕ → ℕ → ℕ → ℕ → ℕ → QuarterCone
+quarter_cone x y high low over under = record { direction = at x y; high = high; low = low; over = over; under = under }
+
+-- a leaf with two points
+abbrev pub leaf : ℕ → ℕ → Leaf
+leaf first second = record { first = first; second = second }
