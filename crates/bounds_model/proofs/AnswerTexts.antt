@@ -2,3 +2,8 @@ pub mod Worked
 pub mod WorkedTexts
 pub mod RefusedTexts
 pub mod MoreTexts
+pub mod NumberLaws
+pub mod WholeLaws
+pub mod LineLaws
+pub mod FieldLaws
+pub mod FormLaws
