@@ -7,3 +7,10 @@ pub mod WholeLaws
 pub mod LineLaws
 pub mod FieldLaws
 pub mod FormLaws
+pub mod BodyLaws
+pub mod AnswerLaws
+pub mod FactorLaws
+pub mod PlaceLaws
+pub mod SpelledLaws
+pub mod ListPlaces
+pub mod BallKinds

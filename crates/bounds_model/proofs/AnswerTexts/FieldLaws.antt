@@ -33,7 +33,7 @@ field_words blocker b = blocker_text b ∷ []
 
 -- ---- numbers within the limit
 
-abbrev within : ℤ → Bool
+abbrev pub within : ℤ → Bool
 within z = nat_le (nat_abs z) number_limit
 
 pub within_digits : (z : ℤ) → within z ≡ true → nat_abs z < 10 ^ 64

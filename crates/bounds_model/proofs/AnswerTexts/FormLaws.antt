@@ -207,12 +207,18 @@ judged_back fields line (Some found) values e =
 abbrev pub unread : ℕ → List ℕ → Unread
 unread n bytes = record { number = n; lines = lines_of bytes }
 
+-- a line that was written is the first line of a text
+pub format_lines : (format : LineFormat) (values : Values format.fields) (rest : List ℕ) → is_format format ≡ true → Fits format.fields values
+    → lines_of (format_line format values ++ rest) ≡ format_line format values ∷ lines_of rest
+format_lines format values rest sound fits =
+    let some = line_has_word format.words format.fields values (both_true (are_words format.words) (has_word format.words format.fields) sound).1 fits in
+    lines_again_some (line_words format values) rest some (line_are_words format values sound fits)
+
 -- what was written as a line is read from the front of a text
 pub line_again : (format : LineFormat) (values : Values format.fields) (n : ℕ) (rest : List ℕ) → is_format format ≡ true → Fits format.fields values
     → line_at format (unread n (format_line format values ++ rest)) ≡ Ok (values, unread (n + 1) rest)
 line_again format values n rest sound fits =
-    let some = line_has_word format.words format.fields values (both_true (are_words format.words) (has_word format.words format.fields) sound).1 fits in
-    ap (next_line format n) (lines_again_some (line_words format values) rest some (line_are_words format values sound fits))
+    ap (next_line format n) (format_lines format values rest sound fits)
     ∙ then_again (judged format.fields n (form_of format (format_line format values))) values _ _
     (ap (judged format.fields n) (form_again format values sound fits) ∙ judged_again format.fields n values fits) refl
 
