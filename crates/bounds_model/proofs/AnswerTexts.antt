@@ -14,3 +14,7 @@ pub mod PlaceLaws
 pub mod SpelledLaws
 pub mod ListPlaces
 pub mod BallKinds
+pub mod PairKinds
+pub mod FanKinds
+pub mod EmptyKind
+pub mod ParallelogramKind
