@@ -18,3 +18,4 @@ pub mod PairKinds
 pub mod FanKinds
 pub mod EmptyKind
 pub mod ParallelogramKind
+pub mod KgonKind
