@@ -19,3 +19,5 @@ pub mod FanKinds
 pub mod EmptyKind
 pub mod ParallelogramKind
 pub mod KgonKind
+pub mod TextLaws
+pub mod LengthLaws

@@ -1,8 +1,8 @@
 -- A whole text: what was written is read again, and what was read was written so, for any kind whose format is sound.
-use Rattle.std.proofs.Common.{◌≡◌, ℕ, zero, suc, ◌+◌, Bool, true, false, List, [], ◌∷◌, ◌++◌, refl, sym, ap, subst, ◌∙◌, append_assoc, Ok, Err}
+use Rattle.std.proofs.Common.{◌≡◌, ℕ, zero, suc, ◌+◌, ◌^◌, ◌<◌, ◌≤◌, length, arith, Bool, true, false, List, [], ◌∷◌, ◌++◌, refl, sym, ap, subst, ◌∙◌, append_assoc, Ok, Err}
 use Rattle.std.specs.Prelude.{Option, Some, None, Result, find, cond}
 use Rattle.std.specs.List.{concat, AllByRecursion}
-use Rattle.std.proofs.lemmas.List.{append-nil}
+use Rattle.std.proofs.lemmas.List.{append-nil, length-append}
 use Rattle.bounds_model.specs.Fractions.{Fraction}
 use Rattle.bounds_model.specs.Answers.{Answer}
 use Rattle.bounds_model.specs.AnswerText.Lines.{lines_of}
@@ -15,6 +15,7 @@ use Rattle.bounds_model.specs.AnswerText.Laws.{KeepsPlaces}
 use Rattle.bounds_model.proofs.AnswerTexts.NumberLaws.{is_word, some_is}
 use Rattle.bounds_model.proofs.AnswerTexts.FormLaws.{then_again, bind_ok, read_is, Fits, none_fit, is_format, format_line, unread, format_lines, line_again, line_back}
 use Rattle.bounds_model.proofs.AnswerTexts.BodyLaws.{body_bytes, BodyFits, AreParts, body_again, body_back}
+use Rattle.bounds_model.proofs.AnswerTexts.LengthLaws.{line_bound, line_length, body_bound, body_length}
 
 -- the text of a kind: the first line, the size, the body and the last line
 abbrev pub kind_bytes : (kind : Kind) → Fraction → Body kind.body → List ℕ
@@ -43,7 +44,7 @@ answer_again kind size body more sound size-fits body-fits =
 
 -- ---- back
 
-ended_back : (a b : Answer) (n : ℕ) (lines : List (List ℕ)) → ended a n lines ≡ Ok b → (a ≡ b) × (lines ≡ [])
+pub ended_back : (a b : Answer) (n : ℕ) (lines : List (List ℕ)) → ended a n lines ≡ Ok b → (a ≡ b) × (lines ≡ [])
 ended_back a b n [] e = (read_is a b e, refl)
 ended_back a b n (line ∷ lines) e = absurd cc
 
@@ -84,6 +85,19 @@ answer_back kind from answer sound e =
     finished : Fraction → Body kind.body → Values [] × Unread → Result Answer Refusal
     finished size body last = ended (kind.answer size body) last.1.number last.1.lines
 
+-- how long a text of a kind can be
+abbrev pub text_bound : (kind : Kind) → Body kind.body → ℕ
+text_bound kind body = line_bound (first_format kind.name) + (line_bound size_format + (body_bound kind.body [] body + line_bound last_format))
+
+pub text_length : (kind : Kind) (size : Fraction) (body : Body kind.body) → Fits (fraction ∷ []) (size, tt) → BodyFits kind.body [] body → length (kind_bytes kind size body) ≤ text_bound kind body
+text_length kind size body size-fits body-fits =
+    let first = format_line (first_format kind.name) tt in
+    let second = format_line size_format (size, tt) in
+    let middle = body_bytes kind.body [] body in
+    let last = format_line last_format tt in
+    omega (arith, length-append first (second ++ (middle ++ last)), length-append second (middle ++ last), length-append middle last,
+    line_length (first_format kind.name) tt none_fit, line_length size_format (size, tt) size-fits, body_length kind.body [] body body-fits, line_length last_format tt none_fit)
+
 -- ---- the laws of a kind, and of an answer
 
 pub record KindLaw (kind : Kind) : Type 0 where
@@ -91,6 +105,7 @@ pub record KindLaw (kind : Kind) : Type 0 where
   pub named : (lines : List (List ℕ)) → kind_of kinds (record { number = 1; lines = format_line (first_format kind.name) tt ∷ lines }) ≡ Some kind
   pub spelled : (size : Fraction) (body : Body kind.body) → spelling (kind.answer size body) ≡ kind_bytes kind size body
   pub places : (size : Fraction) (body : Body kind.body) → Fits (fraction ∷ []) (size, tt) → BodyFits kind.body [] body → KeepsPlaces (kind.answer size body)
+  pub short : (body : Body kind.body) → BodyFits kind.body [] body → text_bound kind body < 2 ^ 23
 
 -- an answer as a size and a body of its kind
 pub record Written (answer : Answer) : Type 0 where

@@ -42,6 +42,7 @@ circle_law = record {
   sound = record { name = refl; parts = λ b. (refl, (refl, tt)) };
   named = λ lines. refl;
   spelled = circle_spelled;
+  short = λ b fits. omega arith;
   places = λ size b size-fits fits. record {
     size = (line_places (fraction ∷ []) (size, tt) size-fits).0;
     centre = (line_places (plane_ratio ∷ []) b.0 fits.0).0;
@@ -78,6 +79,7 @@ sphere_law = record {
   sound = record { name = refl; parts = λ b. (refl, (refl, tt)) };
   named = λ lines. refl;
   spelled = sphere_spelled;
+  short = λ b fits. omega arith;
   places = λ size b size-fits fits. record {
     size = (line_places (fraction ∷ []) (size, tt) size-fits).0;
     centre = (line_places (space_ratio ∷ []) b.0 fits.0).0;

@@ -1,5 +1,5 @@
 -- The texts of empty rectangles.
-use Rattle.std.proofs.Common.{◌≡◌, ℕ, List, [], ◌∷◌, ◌++◌, refl, append_assoc}
+use Rattle.std.proofs.Common.{◌≡◌, ℕ, List, [], ◌∷◌, ◌++◌, refl, append_assoc, arith}
 use Rattle.std.specs.Prelude.{codes}
 use Rattle.std.proofs.lemmas.List.{append-nil}
 use Rattle.bounds_model.specs.Fractions.{Fraction}
@@ -34,6 +34,7 @@ empty_law = record {
   sound = record { name = refl; parts = λ b. (refl, (refl, (refl, (refl, (refl, tt))))) };
   named = λ lines. refl;
   spelled = empty_spelled;
+  short = λ b fits. omega arith;
   places = λ size b size-fits fits.
       let box = line_places side_fields b.0 fits.0 in
       record {

@@ -70,6 +70,7 @@ rectangle_law = record {
   sound = record { name = refl; parts = λ b. (refl, (refl, (refl, (refl, (refl, tt))))) };
   named = λ lines. refl;
   spelled = rectangle_spelled;
+  short = λ b fits. omega arith;
   places = λ size b size-fits fits.
       let direction = line_places (number ∷ number ∷ []) b.0 fits.0 in
       let along = line_places (number ∷ number ∷ []) b.1.0 fits.1.0 in
@@ -141,6 +142,7 @@ strip_law = record {
   sound = record { name = refl; parts = λ b. (refl, (refl, (refl, (refl, tt)))) };
   named = λ lines. refl;
   spelled = strip_spelled;
+  short = λ b fits. omega arith;
   places = λ size b size-fits fits.
       let direction = line_places (number ∷ number ∷ []) b.0 fits.0 in
       let bounds = line_places (number ∷ number ∷ []) b.1.0 fits.1.0 in

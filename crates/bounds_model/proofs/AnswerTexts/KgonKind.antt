@@ -3,7 +3,8 @@ use Rattle.std.proofs.Common.{◌≡◌, ℕ, zero, suc, ◌+◌, ◌-◌, ◌*�
 use Rattle.std.specs.Prelude.{codes, All, nat_lt}
 use Rattle.std.specs.Fmt.{signed_decimal}
 use Rattle.std.specs.List.{list_all}
-use Rattle.std.proofs.lemmas.List.{append-nil, length-map, length-append, length-take, length-drop, take-append-drop, nil_from_length}
+use Rattle.std.proofs.Math.Nat.{mul-le-mul}
+use Rattle.std.proofs.lemmas.List.{append-nil, length-map, length-append, length-take, length-drop, take-append-drop, nil_from_length, length-replicate}
 use Rattle.std.proofs.lemmas.List.Folds.{list_all-append}
 use Rattle.std.proofs.lemmas.List.Elements.{All-nil, All-append, All-take, All-drop}
 use Rattle.std.proofs.lemmas.Bool.{lt-ltb}
@@ -117,6 +118,23 @@ widths_above_zero (suc longest) layers =
 amount_is : (corners layers n : ℕ) → corners ≡ suc n → width_sum (triangle n layers) ≡ layers * pairs_before corners corners
 amount_is corners layers n is = sum_triangle n layers ∙ ap (λ (k : ℕ). layers * k) (sym (pairs_are n)) ∙ ap (λ (c : ℕ). layers * pairs_before c c) (sym is)
 
+length-triangle : (longest layers : ℕ) → length (triangle longest layers) ≡ layers * longest
+length-triangle zero layers = omega arith
+length-triangle (suc longest) layers = omega (arith, length-append (replicate layers (suc longest)) (triangle longest layers), length-replicate layers (suc longest), length-triangle longest layers)
+
+pairs_most : (n : ℕ) → n ≤ 127 → pairs_up_to n ≤ 8128
+pairs_most n long =
+    let next : n + 1 ≤ 128 = omega arith in
+    let product : n * (n + 1) ≤ 127 * 128 = mul-le-mul long next in
+    omega (arith, twice_pairs n)
+
+-- ten layers over 128 corners at most
+few_potentials : (longest layers : ℕ) → longest ≤ 127 → layers ≤ 10 → (length (triangle longest layers) ≤ 1270) × (width_sum (triangle longest layers) ≤ 81280)
+few_potentials longest layers long deep =
+    let amount : layers * longest ≤ 10 * 127 = mul-le-mul deep long in
+    let whole : layers * pairs_up_to longest ≤ 10 * 8128 = mul-le-mul deep (pairs_most longest long) in
+    (omega (arith, length-triangle longest layers), omega (arith, sum_triangle longest layers))
+
 -- ---- polygon
 
 abbrev corners_count : Count
@@ -147,6 +165,12 @@ kgon_law = record {
   sound = record { name = refl; parts = λ b. (refl, (refl, (refl, (widths_above_zero (length b.0 + 0 - 1) b.1.1.0, tt)))) };
   named = λ lines. refl;
   spelled = kgon_spelled;
+  short = λ b fits.
+      let corners = (line_places (index 1 128 ∷ []) (length b.0 + 0, tt) fits.0.0).0.1 in
+      let layers = (line_places (index 0 10 ∷ []) (b.1.1.0, tt) fits.1.1.0).0.1 in
+      let amount = (rows_places (triangle (length b.0 + 0 - 1) b.1.1.0) b.1.1.1.0 fits.1.1.1.0).0 in
+      let few = few_potentials (length b.0 + 0 - 1) b.1.1.0 (omega (arith, corners)) layers in
+      omega (arith, few.0, few.1, amount);
   places = λ size b size-fits fits.
       let corners = count_places {Y = ℕ} (λ v. v.0) 1 128 0 b.0 fits.0.0 (omega arith) in
       let rows = rows_places (triangle (length b.0 + 0 - 1) b.1.1.0) b.1.1.1.0 fits.1.1.1.0 in

@@ -51,6 +51,7 @@ annulus_law = record {
   sound = record { name = refl; parts = λ b. (refl, (refl, (refl, (refl, tt)))) };
   named = λ lines. refl;
   spelled = annulus_spelled;
+  short = λ b fits. omega arith;
   places = λ size b size-fits fits. record {
     size = (line_places (fraction ∷ []) (size, tt) size-fits).0;
     centre = (line_places (plane_ratio ∷ []) b.0 fits.0).0;
@@ -96,6 +97,7 @@ distance_law = record {
   sound = record { name = refl; parts = λ b. (refl, (refl, (refl, (refl, tt)))) };
   named = λ lines. refl;
   spelled = distance_spelled;
+  short = λ b fits. omega arith;
   places = λ size b size-fits fits.
       let direction = line_places (number ∷ number ∷ number ∷ []) b.1.1.0 fits.1.1.0 in
       record {
@@ -164,6 +166,7 @@ centres_law = record {
   sound = record { name = refl; parts = λ b. (refl, (refl, tt)) };
   named = λ lines. refl;
   spelled = centres_spelled;
+  short = λ b fits. omega arith;
   places = λ size b size-fits fits. record {
     size = (line_places (fraction ∷ []) (size, tt) size-fits).0;
     square_count = count_places (λ v. v.0) 1 3 0 b.0 fits.0.0 (omega arith);

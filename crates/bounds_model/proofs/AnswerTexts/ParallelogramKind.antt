@@ -64,6 +64,7 @@ parallelogram_law = record {
   sound = record { name = refl; parts = λ b. (refl, (refl, (refl, (refl, tt)))) };
   named = λ lines. refl;
   spelled = parallelogram_spelled;
+  short = λ b fits. omega arith;
   places = λ size b size-fits fits.
       let one = line_places side_fields b.0 fits.0 in
       let two = line_places side_fields b.1.0 fits.1.0 in
