@@ -8,3 +8,4 @@ pub mod Reading
 pub mod SpelledParts
 pub mod SpelledCentres
 pub mod Spelling
+pub mod Laws

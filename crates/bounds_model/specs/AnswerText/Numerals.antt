@@ -32,9 +32,13 @@ abbrev pub whole_number : List ℕ → Option ℤ
 whole_number [] = None
 whole_number (b ∷ rest) = if b == 45 then natural_number rest >>= below_zero else natural_number (b ∷ rest) >>= λ n. Some (pos n)
 
--- two whole numbers parted by a slash
-abbrev pub fraction_number : List ℕ → Option Fraction
-fraction_number field = do
-  n ← whole_number (before_first (λ b. b == 47) field)
-  d ← whole_number (after_first (λ b. b == 47) field)
+-- the fraction of a numerator and a denominator as they are written
+abbrev pub fraction_of : List ℕ → List ℕ → Option Fraction
+fraction_of numerator denominator = do
+  n ← whole_number numerator
+  d ← whole_number denominator
   Some (record { n = n; d = d })
+
+-- two whole numbers, parted by a slash
+abbrev pub fraction_number : List ℕ → Option Fraction
+fraction_number field = fraction_of (before_first (λ b. b == 47) field) (after_first (λ b. b == 47) field)
