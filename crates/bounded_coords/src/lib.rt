@@ -1,26 +1,32 @@
 //! Points whose coordinates are in bounds, clouds of them, and counted access to their points.
 //!
-//! - `point`: points of the plane, made only inside the bound
+//! - `point`: points of the plane and of space, made only inside their bounds
 //! - `points`: lists of at most 10000 points
 //! - `cloud`: borrowed lists of 1 to 10000 points, plain and counted
 //! - `steps`: the counter of accesses
+//! - `frame`: boxes for the empty rectangle
 //! - `ask`: what is asked, and of which point sets
 //! - `memory`: want of memory, as every crate reports it
 #![tactic(auto)]
 
 mod ask;
 mod cloud;
+mod frame;
 mod memory;
 mod point;
 mod points;
 mod steps;
 
-pub use ask::{Ask, Sets};
+pub use ask::{Ask, Sets, fit};
 pub use cloud::{Cloud, Counted};
+pub use frame::Frame;
 pub use memory::OutOfMemory;
-pub use point::Point2;
-pub use points::{Points2, PushFault};
+pub use point::{Point2, Point3};
+pub use points::{Points, Points2, Points3, PushFault};
 pub use steps::Steps;
 
 /// A cloud of points of the plane.
 pub type Cloud2<'a> = Cloud<'a, Point2>;
+
+/// A cloud of points of space.
+pub type Cloud3<'a> = Cloud<'a, Point3>;

@@ -4,21 +4,26 @@ ghost use Rattle.bounded_coords.specs.Clouds.{points_of};
 ghost use Rattle.bounded_coords.specs.declared.points.PushFault.TheVariants.{Full};
 
 use crate::cloud::MOST_POINTS;
-use crate::{Cloud, Cloud2, Point2};
+use crate::{Cloud, Point2, Point3};
 use std::alloc::Global;
 use std::marker::Model;
 
-/// At most 10000 points of the plane, in the order in which they were pushed, repeats kept.
+/// At most 10000 points, in the order in which they were pushed, repeats kept.
 #[derive(Drop)]
-pub struct Points2 {
-    points: Vec<Point2>,
+pub struct Points<P> {
+    points: Vec<P>,
 }
 
-impl Model for Points2 {
-    ghost use Rattle.std.specs.Prelude.{List, ◌≤◌, length};
-    ghost use Rattle.bounds_model.specs.Plane.{PlanePoint};
+/// At most 10000 points of the plane.
+pub type Points2 = Points<Point2>;
 
-    ghost Value = { List PlanePoint };
+/// At most 10000 points of space.
+pub type Points3 = Points<Point3>;
+
+impl<P> Model for Points<P> {
+    ghost use Rattle.std.specs.Prelude.{List, ◌≤◌, length};
+
+    ghost Value = { List P };
 
     ghost view = { λ p. p.points.items };
 
@@ -34,18 +39,18 @@ pub enum PushFault {
     OutOfMemory,
 }
 
-impl Points2 {
+impl<P: Copy> Points<P> {
     /// The empty list. It takes no memory.
-    pub fn new(alloc: Global) -> Points2
+    pub fn new(alloc: Global) -> Points<P>
         ensures { result ≡ [] }
     {
-        Points2 {
+        Points {
             points: Vec::new(alloc),
         }
     }
 
     /// Adds a point at the end. A list that refuses it stays as it was.
-    pub fn push(&mut self, p: Point2) -> Result<(), PushFault>
+    pub fn push(&mut self, p: P) -> Result<(), PushFault>
         ensures added { OnOk result (self.new ≡ self.old ++ p ∷ []) }
         ensures same { OnErr result (self.new ≡ self.old) }
         ensures full { (result ≡ Err Full) ↔ (length self.old ≡ 10000) }
@@ -60,7 +65,7 @@ impl Points2 {
     }
 
     /// The points as a cloud, or None where there are none.
-    pub fn cloud(&self) -> Option<Cloud2<'_>>
+    pub fn cloud(&self) -> Option<Cloud<'_, P>>
         ensures empty { IsNone result ↔ (self.now ≡ []) }
         ensures points { IfSome result (λ c. points_of c ≡ self.now) }
     {
