@@ -1,17 +1,18 @@
 -- The corners that a checker accepts are the corners of the hull.
-use Rattle.std.proofs.Common.{◌≡◌, ◌≢◌, refl, sym, ◌∙◌, ap, ap₂, subst, ℕ, zero, suc, ◌+◌, ◌-◌, ◌<◌, ◌≤◌, ℤ, pos, neg_ℤ, ◌-ℤ◌, ◌*ℤ◌, ◌≤ℤ◌, ◌<ℤ◌, List, [], ◌∷◌, length, arith}
+use Rattle.std.proofs.Common.{◌≡◌, ◌≢◌, refl, sym, ◌∙◌, ap, ap₂, subst, ℕ, zero, suc, ◌+◌, ◌-◌, ◌<◌, ◌≤◌, ℤ, pos, neg_ℤ, ◌-ℤ◌, ◌*ℤ◌, ◌≤ℤ◌, ◌<ℤ◌, List, [], ◌∷◌, length, map, arith}
 use mathlib.Core.Logic.{inl, inr}
-use Rattle.std.specs.Prelude.{◌⊎◌, All, AllPairs, Contains}
+use Rattle.std.specs.Prelude.{◌⊎◌, All, AllPairs, Contains, slice_index_or}
 use Rattle.std.proofs.Math.Nat.{mod-eq_of_lt}
 use Rattle.std.proofs.lemmas.Int.{ints}
 use Rattle.std.proofs.lemmas.List.{get_or_default}
-use Rattle.std.proofs.lemmas.List.Elements.{All-contains, All-get_or}
+use Rattle.std.proofs.lemmas.List.Elements.{All-contains, All-get_or, All-map}
 use Rattle.integers.proofs.Identities.{den-ring, read, polys, lits}
 use Rattle.integers.proofs.Order.{combine2}
 use Rattle.bounds_model.specs.Plane.{PlanePoint, origin, point_at, vector, cross, IsBefore, IsLeastPoint}
 use Rattle.bounds_model.specs.Hull.{around, AreRing}
 use Rattle.bounds_model.specs.CornerTest.{GoAround, FirstIsOnce}
-use Rattle.bounds_model.specs.Laws.{PassingCornersAreCorners}
+use Rattle.bounds_model.specs.KgonAnswer.{corner_points}
+use Rattle.bounds_model.specs.Laws.{PassingCornersAreCorners, PassingKgonsListCorners}
 use Rattle.bounds_model.proofs.Turning.{IsAhead, ahead_of_before, ahead_trans, on_one_line, between_turns, turn_from, edge_turn, no_turn}
 
 -- below the length, the number around the circle is the number
@@ -155,3 +156,11 @@ passing_corners points (a ∷ b ∷ []) listed h = record {
   on_line = h.hold.on_line;
 }
 passing_corners points (a ∷ b ∷ c ∷ rest) listed h = ring points (a ∷ b ∷ c ∷ rest) (record { listed = listed; from_least = h.from_least; once = h.once; round = h.hold })
+
+-- the points of numbers below the length are points of the list
+pub named_points : (points : List PlanePoint) (numbers : List ℕ) → All (λ number. number < length points) numbers → All (Contains points) (map (point_at points) numbers)
+named_points points numbers h = All-map (Contains points) (point_at points) numbers (λ i d l. (slice_index_or numbers i d, h i d l, get_or_default points (slice_index_or numbers i d) (point_at points (slice_index_or numbers i d)) origin (h i d l)))
+
+-- the corners of a polygon that passes are the corners of the hull
+pub passing_kgon : PassingKgonsListCorners
+passing_kgon k points a h = passing_corners points (corner_points points a) (named_points points a.corners h.numbers) h.corners

@@ -9,7 +9,7 @@ use Rattle.bounds_model.specs.Answers.{Passes}
 use Rattle.bounds_model.specs.Answers.Answer.{circle, sphere}
 use Rattle.bounds_model.proofs.Decisions.{by_test, by_failed_test}
 use Rattle.bounds_model.proofs.DecideAnswers.{passes}
-use Rattle.bounds_model.proofs.Literals.{at, in_space, over, space_over, fraction, support}
+use Rattle.bounds_model.proofs.Literals.{minus, at, in_space, over, space_over, fraction, support}
 
 -- ---- a triangle with a right angle: the circle over its longest side
 
@@ -112,6 +112,32 @@ over_farthest = record { size = fraction 4 1; centre = over 2 0 1; supports = su
 
 over_farthest_fails : ¬ Passes ask_circle (plane sharper) (circle over_farthest)
 over_farthest_fails = by_failed_test (passes ask_circle (plane sharper) (circle over_farthest)) refl
+
+-- four points on a circle: two that face each other hold it, whichever they are
+abbrev unit_square : List PlanePoint
+unit_square = at 0 0 ∷ at 1 0 ∷ at 1 1 ∷ at 0 1 ∷ []
+
+abbrev over_diagonal : ℕ → ℕ → CircleAnswer
+over_diagonal a b = record { size = fraction 1 2; centre = over 1 1 2; supports = support a 1 ∷ support b 1 ∷ [] }
+
+over_one_passes : Passes ask_circle (plane unit_square) (circle (over_diagonal 0 2))
+over_one_passes = by_test (passes ask_circle (plane unit_square) (circle (over_diagonal 0 2))) refl
+
+over_other_passes : Passes ask_circle (plane unit_square) (circle (over_diagonal 1 3))
+over_other_passes = by_test (passes ask_circle (plane unit_square) (circle (over_diagonal 1 3))) refl
+
+over_side_fails : ¬ Passes ask_circle (plane unit_square) (circle (over_diagonal 0 1))
+over_side_fails = by_failed_test (passes ask_circle (plane unit_square) (circle (over_diagonal 0 1))) refl
+
+-- two points as far apart as points can be
+abbrev farthest : List PlanePoint
+farthest = at 200000 200000 ∷ record { x = minus 200000; y = minus 200000 } ∷ []
+
+abbrev around_farthest : CircleAnswer
+around_farthest = record { size = fraction 80000000000 1; centre = over 0 0 1; supports = support 0 1 ∷ support 1 1 ∷ [] }
+
+around_farthest_passes : Passes ask_circle (plane farthest) (circle around_farthest)
+around_farthest_passes = by_test (passes ask_circle (plane farthest) (circle around_farthest)) refl
 
 -- one point three times
 abbrev thrice : CircleAnswer

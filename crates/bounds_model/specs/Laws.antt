@@ -1,9 +1,10 @@
 -- What shows that the definitions are the right ones: statements on the definitions alone.
-use Rattle.std.specs.Prelude.{◌≡◌, ⊤, List, All, Contains, IsPermutation}
+use Rattle.std.specs.Prelude.{◌≡◌, ⊤, ℕ, List, All, Contains, IsPermutation}
 use Rattle.bounds_model.specs.Plane.{PlanePoint}
 use Rattle.bounds_model.specs.Fractions.{Fraction}
 use Rattle.bounds_model.specs.Hull.{AreCorners}
 use Rattle.bounds_model.specs.CornerTest.{CornersPass}
+use Rattle.bounds_model.specs.KgonAnswer.{KgonAnswer, corner_points, PassesKgon}
 use Rattle.bounds_model.specs.Asks.{Ask, Sets, Suits}
 use Rattle.bounds_model.specs.Asks.Ask.{ask_kgon, ask_distance}
 use Rattle.bounds_model.specs.Asks.Sets.{plane, space, two, bare}
@@ -24,6 +25,10 @@ PassingAnswersAreBest ask = (sets : Sets) (answer : Answer) → Passes ask sets 
 -- the corners that a checker accepts are the corners of the hull
 abbrev pub PassingCornersAreCorners : Type 0
 PassingCornersAreCorners = (points corners : List PlanePoint) → All (Contains points) corners → CornersPass points corners → AreCorners points corners
+
+-- so the corners that a passing polygon lists are the corners of the hull
+abbrev pub PassingKgonsListCorners : Type 0
+PassingKgonsListCorners = (k : ℕ) (points : List PlanePoint) (answer : KgonAnswer) → PassesKgon k points answer → AreCorners points (corner_points points answer)
 
 -- points have at most one list of corners
 abbrev pub CornersAreUnique : Type 0

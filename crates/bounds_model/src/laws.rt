@@ -1,6 +1,6 @@
 //! Laws of the definitions.
 
-ghost use Rattle.bounds_model.specs.Laws.{PassingAnswersHavePlaces, FittingPointsSuit, PassingAnswersAreBest, PassingCornersAreCorners, CornersAreUnique, BestSizeIsUnique, OptimumIsUnique, BestSizeHasNoOrder, BestAnswersHaveNoOrder};
+ghost use Rattle.bounds_model.specs.Laws.{PassingAnswersHavePlaces, FittingPointsSuit, PassingAnswersAreBest, PassingCornersAreCorners, PassingKgonsListCorners, CornersAreUnique, BestSizeIsUnique, OptimumIsUnique, BestSizeHasNoOrder, BestAnswersHaveNoOrder};
 ghost use Rattle.bounds_model.specs.Asks.Ask.{ask_circle, ask_sphere, ask_centres};
 
 /// An answer that passes has all its numbers in their places.
@@ -16,6 +16,11 @@ pub fn fitting_points_suit()
 /// The corners that a checker accepts are the corners of the hull.
 pub fn passing_corners_are_corners()
     ensures { PassingCornersAreCorners }
+{}
+
+/// The corners that a passing polygon lists are the corners of the hull.
+pub fn passing_kgons_list_corners()
+    ensures { PassingKgonsListCorners }
 {}
 
 /// Points have at most one list of corners.
