@@ -1,6 +1,0 @@
--- A polygon's corners are named by numbers of points.
-use Rattle.bounds_model.proofs.CornerLaw.{passing_kgon}
-use Rattle.bounds_model.proofs.laws.passing_kgons_list_corners.Goals as goal
-
-pub returns : goal.returns
-returns c = passing_kgon
