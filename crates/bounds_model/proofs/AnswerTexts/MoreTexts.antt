@@ -18,10 +18,12 @@ one_point = sphere (record {
   supports = record { point = 7; weight = pos 1 } ∷ [];
 })
 
+-- its spelling
 one_point_spelled : spelling one_point ≡ codes "answer 1 sphere\nsize 0/1\ncenter 3 0 5 1\nsupports 1\n7 1\nend\n"
 unfolding digits first_line size_line count_line last_line space_ratio_line weighted_line
 one_point_spelled = refl
 
+-- its text
 one_point_read : reading (codes "answer 1 sphere\nsize 0/1\ncenter 3 0 5 1\nsupports 1\n7 1\nend\n") ≡ Ok one_point
 one_point_read = refl
 
@@ -33,10 +35,12 @@ no_leaves = centres (record {
   leaves = [];
 })
 
+-- its spelling
 no_leaves_spelled : spelling no_leaves ≡ codes "answer 1 centres\nsize 0/1\nsquares 1\n5 5 1\nleaves 0\nend\n"
 unfolding digits first_line size_line count_line last_line square_line leaf_line
 no_leaves_spelled = refl
 
+-- its text
 no_leaves_read : reading (codes "answer 1 centres\nsize 0/1\nsquares 1\n5 5 1\nleaves 0\nend\n") ≡ Ok no_leaves
 no_leaves_read = refl
 
@@ -48,6 +52,7 @@ at_limits = circle (record {
   supports = record { point = 9999; weight = pos 0 } ∷ [];
 })
 
+-- its text
 at_limits_read : reading (codes "answer 1 circle\nsize 85070591730234615865843651857942052864/1\ncenter 4 3 2\nsupports 1\n9999 0\nend\n") ≡ Ok at_limits
 at_limits_read = refl
 

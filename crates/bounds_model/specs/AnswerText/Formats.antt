@@ -3,7 +3,7 @@ use Rattle.std.specs.Prelude.{ℕ, zero, suc, ◌+◌, ◌-◌, ℤ, Bool, true,
 use Rattle.std.specs.Str.{bytes_eq}
 use Rattle.bounds_model.specs.AnswerText.Numerals as steps
 use Rattle.bounds_model.specs.AnswerText.Lines.{fields_of}
-use Rattle.bounds_model.specs.AnswerText.Fields.{Field, index, naturals, Value, value_of, is_small, is_in_place}
+use Rattle.bounds_model.specs.AnswerText.Fields.{Field, bounded, naturals, Value, value_of, is_small, is_in_place}
 
 -- why a text is refused, and at which line
 pub data Refusal : Type 0 where
@@ -23,9 +23,11 @@ pub record LineFormat : Type 0 where
   pub words : List (List ℕ)
   pub fields : List Field
 
+-- a word, and fields behind it
 abbrev pub titled : List ℕ → List Field → LineFormat
 titled word fields = record { words = word ∷ []; fields = fields }
 
+-- fields alone
 abbrev pub untitled : List Field → LineFormat
 untitled fields = record { words = []; fields = fields }
 
@@ -50,10 +52,12 @@ values_of (field ∷ fields) words = steps.◌>>=◌ (value_of field words) (λ 
 abbrev pub form_of : (format : LineFormat) → List ℕ → Option (Values format.fields)
 form_of format line = steps.◌>>=◌ (fields_of line) (λ words. steps.◌>>=◌ (after_words format.words words) (values_of format.fields))
 
+-- no number of the fields is past the limit
 abbrev pub are_small : (fields : List Field) → Values fields → Bool
 are_small [] values = true
 are_small (field ∷ fields) values = is_small field values.0 && are_small fields values.1
 
+-- each field is in the range of its place
 abbrev pub are_in_place : (fields : List Field) → Values fields → Bool
 are_in_place [] values = true
 are_in_place (field ∷ fields) values = is_in_place field values.0 && are_in_place fields values.1
@@ -78,6 +82,7 @@ next_line format number (line ∷ lines) = do
   values ← judged format.fields number (form_of format line)
   Ok (values, record { number = number + 1; lines = lines })
 
+-- the next of the lines that are not yet read
 abbrev pub line_at : (format : LineFormat) → Unread → Result (Values format.fields × Unread) Refusal
 line_at format unread = next_line format unread.number unread.lines
 
@@ -105,8 +110,9 @@ pub record Count : Type 0 where
   pub low : ℕ
   pub high : ℕ
 
+-- the format of that line
 abbrev pub count_format : Count → LineFormat
-count_format count = titled count.word (index count.low count.high ∷ [])
+count_format count = titled count.word (bounded count.low count.high ∷ [])
 
 -- a part of a text
 pub data Part : Type 0 where
@@ -145,6 +151,7 @@ abbrev pub Body : List Part → Type 0
 Body [] = Unit {0}
 Body (part ∷ parts) = PartValue part × Body parts
 
+-- what the next lines say as these parts
 abbrev pub body_at : (parts : List Part) → List ℕ → Unread → Result (Body parts × Unread) Refusal
 body_at [] counts unread = Ok (tt, unread)
 body_at (part ∷ parts) counts unread = do

@@ -35,6 +35,7 @@ space_ratio_text c = pair_text c.x c.y ++ codes " " ++ pair_text c.z c.w
 unfoldable pub first_line : List ℕ → List ℕ
 first_line kind = codes "answer 1 " ++ kind ++ codes "\n"
 
+-- the line of the size
 unfoldable pub size_line : Fraction → List ℕ
 size_line size = codes "size " ++ fraction_text size ++ codes "\n"
 
@@ -50,12 +51,15 @@ pair_line word a b = word ++ codes " " ++ pair_text a b ++ codes "\n"
 unfoldable pub four_line : List ℕ → ℤ → ℤ → ℤ → ℤ → List ℕ
 four_line word a b c d = word ++ codes " " ++ pair_text a b ++ codes " " ++ pair_text c d ++ codes "\n"
 
+-- a word and a fraction
 unfoldable pub fraction_line : List ℕ → Fraction → List ℕ
 fraction_line word a = word ++ codes " " ++ fraction_text a ++ codes "\n"
 
+-- a word, and x and y over w
 unfoldable pub plane_ratio_line : List ℕ → PlaneRatio → List ℕ
 plane_ratio_line word c = word ++ codes " " ++ plane_ratio_text c ++ codes "\n"
 
+-- a word, and x, y and z over w
 unfoldable pub space_ratio_line : List ℕ → SpaceRatio → List ℕ
 space_ratio_line word c = word ++ codes " " ++ space_ratio_text c ++ codes "\n"
 
@@ -75,5 +79,6 @@ direction_line d = pair_text d.x d.y ++ codes "\n"
 unfoldable pub index_line : ℕ → List ℕ
 index_line n = decimal n ++ codes "\n"
 
+-- the last line
 unfoldable pub last_line : List ℕ
 last_line = codes "end\n"

@@ -19,10 +19,12 @@ use Rattle.bounds_model.specs.AnswerText.SpelledCentres.{centres_spelling}
 
 -- ---- circle and sphere
 
+-- circle
 abbrev pub circle_spelling : CircleAnswer → List ℕ
 circle_spelling a = first_line (codes "circle") ++ size_line a.size ++ plane_ratio_line (codes "center") a.centre
     ++ count_line (codes "supports") (length a.supports) ++ flat_map weighted_line a.supports ++ last_line
 
+-- sphere
 abbrev pub sphere_spelling : SphereAnswer → List ℕ
 sphere_spelling a = first_line (codes "sphere") ++ size_line a.size ++ space_ratio_line (codes "center") a.centre
     ++ count_line (codes "supports") (length a.supports) ++ flat_map weighted_line a.supports ++ last_line
@@ -37,6 +39,7 @@ quarter_line cone = pair_text cone.direction.x cone.direction.y ++ codes " " ++ 
 abbrev pub quarter_fan_lines : QuarterFan → List ℕ
 quarter_fan_lines fan = count_line (codes "fan") (length fan.cones + 1) ++ flat_map quarter_line fan.cones ++ direction_line fan.last
 
+-- rectangle
 abbrev pub rectangle_spelling : RectangleAnswer → List ℕ
 rectangle_spelling a = first_line (codes "rectangle") ++ size_line a.size
     ++ pair_line (codes "direction") a.direction.x a.direction.y ++ pair_line (codes "along") a.along.low a.along.high
@@ -46,9 +49,11 @@ rectangle_spelling a = first_line (codes "rectangle") ++ size_line a.size
 unfoldable pub half_line : HalfCone → List ℕ
 half_line cone = pair_text cone.direction.x cone.direction.y ++ codes " " ++ points_text cone.high cone.low ++ codes "\n"
 
+-- the number of directions, the cones, and the last direction
 abbrev pub half_fan_lines : HalfFan → List ℕ
 half_fan_lines fan = count_line (codes "fan") (length fan.cones + 1) ++ flat_map half_line fan.cones ++ direction_line fan.last
 
+-- strip
 abbrev pub strip_spelling : StripAnswer → List ℕ
 strip_spelling a = first_line (codes "strip") ++ size_line a.size
     ++ pair_line (codes "direction") a.direction.x a.direction.y ++ pair_line (codes "bounds") a.bounds.low a.bounds.high
@@ -73,9 +78,11 @@ chorded_lines [] last (chord ∷ rest) = last_chord_line last chord
 chorded_lines (cone ∷ cones) last [] = []
 chorded_lines (cone ∷ cones) last (chord ∷ chords) = chorded_line cone chord ++ chorded_lines cones last chords
 
+-- the number of directions, and the directions with their chords
 abbrev pub chorded_fan_lines : HalfFan → List Chord → List ℕ
 chorded_fan_lines fan chords = count_line (codes "fan") (length fan.cones + 1) ++ chorded_lines fan.cones fan.last chords
 
+-- parallelogram
 abbrev pub parallelogram_spelling : ParallelogramAnswer → List ℕ
 parallelogram_spelling a = first_line (codes "parallelogram") ++ size_line a.size
     ++ four_line (codes "first") a.first.x a.first.y a.first_bounds.low a.first_bounds.high
@@ -84,6 +91,7 @@ parallelogram_spelling a = first_line (codes "parallelogram") ++ size_line a.siz
 
 -- ---- annulus
 
+-- annulus
 abbrev pub annulus_spelling : AnnulusAnswer → List ℕ
 annulus_spelling a = first_line (codes "annulus") ++ size_line a.size ++ plane_ratio_line (codes "center") a.centre
     ++ fraction_line (codes "inner") a.inner ++ fraction_line (codes "outer") a.outer
@@ -96,9 +104,11 @@ abbrev pub blocker_text : Blocker → List ℕ
 blocker_text side = codes "box"
 blocker_text (point n) = decimal n
 
+-- a side and what it rests on
 unfoldable pub blocker_line : List ℕ → Blocker → List ℕ
 blocker_line word blocker = word ++ codes " " ++ blocker_text blocker ++ codes "\n"
 
+-- empty rectangle
 abbrev pub empty_spelling : EmptyAnswer → List ℕ
 empty_spelling a = first_line (codes "empty") ++ size_line a.size
     ++ four_line (codes "rectangle") a.box.left a.box.bottom a.box.right a.box.top
@@ -127,6 +137,7 @@ abbrev pub potential_lines : ℕ → ℕ → List ℤ → List ℕ
 potential_lines zero layers potentials = []
 potential_lines (suc behind) layers potentials = layer_lines layers (suc behind) potentials ++ potential_lines behind layers (drop (layers * suc behind) potentials)
 
+-- polygon
 abbrev pub kgon_spelling : KgonAnswer → List ℕ
 kgon_spelling a = first_line (codes "kgon") ++ size_line a.size
     ++ count_line (codes "corners") (length a.corners) ++ flat_map index_line a.corners
@@ -139,6 +150,7 @@ kgon_spelling a = first_line (codes "kgon") ++ size_line a.size
 unfoldable pub space_direction_line : SpacePoint → List ℕ
 space_direction_line d = codes "direction " ++ pair_text d.x d.y ++ codes " " ++ signed_decimal d.z ++ codes "\n"
 
+-- distance
 abbrev pub distance_spelling : DistanceAnswer → List ℕ
 distance_spelling a = first_line (codes "distance") ++ size_line a.size
     ++ space_ratio_line (codes "from") a.from ++ space_ratio_line (codes "to") a.to ++ space_direction_line a.direction
@@ -146,6 +158,7 @@ distance_spelling a = first_line (codes "distance") ++ size_line a.size
 
 -- ---- all kinds
 
+-- the spelling of an answer of any kind
 abbrev pub spelling : Answer → List ℕ
 spelling (circle a) = circle_spelling a
 spelling (sphere a) = sphere_spelling a
