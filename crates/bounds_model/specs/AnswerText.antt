@@ -5,6 +5,7 @@ pub mod Spelling
 pub mod Lines
 pub mod Numerals
 pub mod Fields
+pub mod LineFormats
 pub mod Formats
 pub mod Kinds
 pub mod Reading

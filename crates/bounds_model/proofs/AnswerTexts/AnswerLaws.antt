@@ -7,7 +7,8 @@ use Rattle.bounds_model.specs.Fractions.{Fraction}
 use Rattle.bounds_model.specs.Answers.{Answer}
 use Rattle.bounds_model.specs.AnswerText.Lines.{lines_of}
 use Rattle.bounds_model.specs.AnswerText.Fields.{fraction}
-use Rattle.bounds_model.specs.AnswerText.Formats.{Refusal, ◌>>=◌, Values, Unread, line_at, Body, body_at}
+use Rattle.bounds_model.specs.AnswerText.LineFormats.{Values}
+use Rattle.bounds_model.specs.AnswerText.Formats.{Refusal, ◌>>=◌, Unread, line_at, Body, body_at}
 use Rattle.bounds_model.specs.AnswerText.Kinds.{Kind, kinds, first_format, size_format, last_format}
 use Rattle.bounds_model.specs.AnswerText.Reading.{ended, answer_at, kind_of, answer_of, all_lines, reading_of}
 use Rattle.bounds_model.specs.AnswerText.Spelling.{spelling}

@@ -6,7 +6,8 @@ use Rattle.bounds_model.specs.Fractions.{Fraction}
 use Rattle.bounds_model.specs.BallAnswer.{Weighted, CircleAnswer, SphereAnswer, IsSupportPlace, CirclePlaces, SpherePlaces}
 use Rattle.bounds_model.specs.Answers.{circle, sphere}
 use Rattle.bounds_model.specs.AnswerText.Fields.{fraction, plane_ratio, space_ratio, natural, point_number}
-use Rattle.bounds_model.specs.AnswerText.Formats.{Values, Count, Body}
+use Rattle.bounds_model.specs.AnswerText.LineFormats.{Values}
+use Rattle.bounds_model.specs.AnswerText.Formats.{Count, Body}
 use Rattle.bounds_model.specs.AnswerText.Kinds.{circle_kind, sphere_kind, weighted}
 use Rattle.bounds_model.specs.AnswerText.SpelledParts.{weighted_line}
 use Rattle.bounds_model.specs.AnswerText.Spelling.{spelling}

@@ -5,7 +5,8 @@ use Rattle.std.specs.List.{list_all, concat, flat_map}
 use Rattle.std.proofs.lemmas.Bool.{eqb-true, leb-true}
 use Rattle.std.proofs.lemmas.List.{take_at, drop_at, take-append-drop}
 use Rattle.bounds_model.specs.AnswerText.Fields.{naturals, bounded}
-use Rattle.bounds_model.specs.AnswerText.Formats.{Refusal, ◌>>=◌, LineFormat, untitled, Values, Unread, line_at, lines_at, rows_at, count_format, Part, line, counted, count, rows, PartValue, counts_after, part_at, Body, body_at}
+use Rattle.bounds_model.specs.AnswerText.LineFormats.{LineFormat, untitled, Values}
+use Rattle.bounds_model.specs.AnswerText.Formats.{Refusal, ◌>>=◌, Unread, line_at, lines_at, rows_at, count_format, Part, line, counted, count, rows, PartValue, counts_after, part_at, Body, body_at}
 use Rattle.bounds_model.proofs.AnswerTexts.NumberLaws.{both_true}
 use Rattle.bounds_model.proofs.AnswerTexts.ValueLaws.{Fits, first_fits}
 use Rattle.bounds_model.proofs.AnswerTexts.FormLaws.{then_again, bind_ok, read_is, is_format, format_line, unread, line_again, line_back}

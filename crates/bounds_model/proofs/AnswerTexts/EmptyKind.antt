@@ -6,7 +6,8 @@ use Rattle.bounds_model.specs.Fractions.{Fraction}
 use Rattle.bounds_model.specs.EmptyAnswer.{Blocker, EmptyAnswer, EmptyPlaces}
 use Rattle.bounds_model.specs.Answers.{empty}
 use Rattle.bounds_model.specs.AnswerText.Fields.{fraction, blocker}
-use Rattle.bounds_model.specs.AnswerText.Formats.{titled, Body}
+use Rattle.bounds_model.specs.AnswerText.LineFormats.{titled}
+use Rattle.bounds_model.specs.AnswerText.Formats.{Body}
 use Rattle.bounds_model.specs.AnswerText.Kinds.{empty_kind, side_fields}
 use Rattle.bounds_model.specs.AnswerText.Spelling.{spelling, blocker_line}
 use Rattle.bounds_model.proofs.AnswerTexts.FormLaws.{format_line}

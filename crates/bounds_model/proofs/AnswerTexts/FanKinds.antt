@@ -11,7 +11,8 @@ use Rattle.bounds_model.specs.RectangleAnswer.{RectangleAnswer, RectanglePlaces}
 use Rattle.bounds_model.specs.StripAnswer.{StripAnswer, StripPlaces}
 use Rattle.bounds_model.specs.Answers.{rectangle, strip}
 use Rattle.bounds_model.specs.AnswerText.Fields.{fraction, number}
-use Rattle.bounds_model.specs.AnswerText.Formats.{untitled, Values, Count, Body}
+use Rattle.bounds_model.specs.AnswerText.LineFormats.{untitled, Values}
+use Rattle.bounds_model.specs.AnswerText.Formats.{Count, Body}
 use Rattle.bounds_model.specs.AnswerText.Kinds.{rectangle_kind, strip_kind, quarter_fields, quarter_cone, half_fields, half_cone}
 use Rattle.bounds_model.specs.AnswerText.Spelling.{spelling, quarter_line, half_line}
 use Rattle.bounds_model.proofs.AnswerTexts.FormLaws.{format_line}

@@ -7,11 +7,12 @@ use Rattle.std.proofs.lemmas.List.Folds.{list_all-append}
 use Rattle.std.proofs.lemmas.Slice.Eq.{bytes_eq-Decides}
 use Rattle.std.proofs.lemmas.Bool.{eqb-true}
 use Rattle.bounds_model.specs.AnswerText.Numerals as steps
-use Rattle.bounds_model.specs.AnswerText.Lines.{lines_of, fields_of}
+use Rattle.bounds_model.specs.AnswerText.Lines.{lines_of, words_of}
 use Rattle.bounds_model.specs.AnswerText.Fields.{Field, number, natural, naturals, bounded, fraction, plane_ratio, space_ratio, blocker, Value, is_in_place}
-use Rattle.bounds_model.specs.AnswerText.Formats.{Refusal, bad_answer, big_number, ◌>>=◌, LineFormat, Values, after_words, values_of, form_of, are_small, are_in_place, judged, Unread, next_line, line_at}
+use Rattle.bounds_model.specs.AnswerText.LineFormats.{LineFormat, Values, after_words, values_of, form_of, are_small, are_in_place}
+use Rattle.bounds_model.specs.AnswerText.Formats.{Refusal, bad_answer, big_number, ◌>>=◌, judged, Unread, next_line, line_at}
 use Rattle.bounds_model.proofs.AnswerTexts.NumberLaws.{bind_some, some_is, step_again, both_true, is_word}
-use Rattle.bounds_model.proofs.AnswerTexts.LineLaws.{line_bytes, are_words, lines_again, fields_again, fields_back}
+use Rattle.bounds_model.proofs.AnswerTexts.LineLaws.{line_bytes, are_words, lines_again, words_again, words_back}
 use Rattle.bounds_model.proofs.AnswerTexts.FieldLaws.{field_words}
 use Rattle.bounds_model.proofs.AnswerTexts.ValueLaws.{values_words, Fits, first_fits, values_are_words, values_again, values_back}
 
@@ -110,9 +111,9 @@ line_are_words format values sound fits =
     ∙ values_are_words format.fields values fits
 
 -- the fields of a line that has words
-fields_again_some : (words : List (List ℕ)) → 0 < length words → are_words words ≡ true → fields_of (line_bytes words) ≡ Some words
-fields_again_some [] some e = absurd (omega arith)
-fields_again_some (word ∷ words) some e = fields_again word words e
+words_again_some : (words : List (List ℕ)) → 0 < length words → are_words words ≡ true → words_of (line_bytes words) ≡ Some words
+words_again_some [] some e = absurd (omega arith)
+words_again_some (word ∷ words) some e = words_again word words e
 
 -- the first line of a text, where it has words
 lines_again_some : (words : List (List ℕ)) (rest : List ℕ) → 0 < length words → are_words words ≡ true → lines_of (line_bytes words ++ rest) ≡ line_bytes words ∷ lines_of rest
@@ -123,15 +124,15 @@ lines_again_some (word ∷ words) rest some e = lines_again word words rest e
 form_again : (format : LineFormat) (values : Values format.fields) → is_format format ≡ true → Fits format.fields values → form_of format (format_line format values) ≡ Some values
 form_again format values sound fits =
     let some = line_has_word format.words format.fields values (both_true (are_words format.words) (has_word format.words format.fields) sound).1 fits in
-    step_again (fields_of (format_line format values)) (line_words format values) _ _ (fields_again_some (line_words format values) some (line_are_words format values sound fits))
+    step_again (words_of (format_line format values)) (line_words format values) _ _ (words_again_some (line_words format values) some (line_are_words format values sound fits))
     (step_again (after_words format.words (line_words format values)) (values_words format.fields values) _ _ (after_words_again format.words (values_words format.fields values)) (values_again format.fields values fits))
 
 -- a line of this form was written so
 form_back : (format : LineFormat) (line : List ℕ) (values : Values format.fields) → form_of format line ≡ Some values → are_small format.fields values ≡ true → line ≡ format_line format values
 form_back format line values e small =
-    let r = bind_some (fields_of line) (λ words. steps.◌>>=◌ (after_words format.words words) (values_of format.fields)) values e in
+    let r = bind_some (words_of line) (λ words. steps.◌>>=◌ (after_words format.words words) (values_of format.fields)) values e in
     let q = bind_some (after_words format.words r.0) (values_of format.fields) values r.2 in
-    fields_back line r.0 r.1 ∙ ap line_bytes (after_words_back format.words r.0 q.0 q.1 ∙ ap (λ (ws : List (List ℕ)). format.words ++ ws) (values_back format.fields q.0 values q.2 small))
+    words_back line r.0 r.1 ∙ ap line_bytes (after_words_back format.words r.0 q.0 q.1 ∙ ap (λ (ws : List (List ℕ)). format.words ++ ws) (values_back format.fields q.0 values q.2 small))
 
 -- ---- the judgement of a line
 

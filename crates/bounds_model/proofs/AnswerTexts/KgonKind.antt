@@ -13,7 +13,8 @@ use Rattle.bounds_model.specs.Places.{IsNatural, point_limit}
 use Rattle.bounds_model.specs.KgonAnswer.{KgonAnswer, KgonPlaces, pairs_before}
 use Rattle.bounds_model.specs.Answers.{kgon}
 use Rattle.bounds_model.specs.AnswerText.Fields.{fraction, naturals, bounded, point_number}
-use Rattle.bounds_model.specs.AnswerText.Formats.{Values, Count, Body}
+use Rattle.bounds_model.specs.AnswerText.LineFormats.{Values}
+use Rattle.bounds_model.specs.AnswerText.Formats.{Count, Body}
 use Rattle.bounds_model.specs.AnswerText.Kinds.{kgon_kind, triangle}
 use Rattle.bounds_model.specs.AnswerText.SpelledParts.{index_line}
 use Rattle.bounds_model.specs.AnswerText.Spelling.{spelling, blank_numbers, potentials_line, layer_lines, potential_lines}

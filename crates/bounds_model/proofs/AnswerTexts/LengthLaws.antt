@@ -10,7 +10,8 @@ use Rattle.std.proofs.lemmas.Fmt.{length-decimal-le_wide}
 use Rattle.bounds_model.specs.EmptyAnswer.{Blocker, side, point}
 use Rattle.bounds_model.specs.Places.{number_limit}
 use Rattle.bounds_model.specs.AnswerText.Fields.{Field, number, natural, naturals, bounded, fraction, plane_ratio, space_ratio, blocker, Value, is_small, is_in_place}
-use Rattle.bounds_model.specs.AnswerText.Formats.{LineFormat, untitled, Values, count_format, Part, line, counted, count, rows, PartValue, counts_after, Body}
+use Rattle.bounds_model.specs.AnswerText.LineFormats.{LineFormat, untitled, Values}
+use Rattle.bounds_model.specs.AnswerText.Formats.{count_format, Part, line, counted, count, rows, PartValue, counts_after, Body}
 use Rattle.bounds_model.specs.AnswerText.Spelling.{blocker_text}
 use Rattle.bounds_model.proofs.AnswerTexts.NumberLaws.{both_true}
 use Rattle.bounds_model.proofs.AnswerTexts.LineLaws.{line_bytes}

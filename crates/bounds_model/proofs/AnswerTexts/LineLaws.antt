@@ -1,11 +1,11 @@
--- A text is its lines, and a line that is made of words has these words as its fields.
+-- A text is its lines, and a line is its words.
 use Rattle.std.proofs.Common.{◌≡◌, ℕ, Bool, true, false, not, ◌&&◌, cond, List, [], ◌∷◌, ◌++◌, refl, sym, ap, ◌∙◌, append_assoc, arith}
 use Rattle.std.specs.Prelude.{Option, Some, None, ◌==◌, nat_lt}
 use Rattle.std.specs.List.{list_all, concat}
 use Rattle.std.proofs.lemmas.List.{append-nil}
 use Rattle.std.proofs.lemmas.Bool.{eqb-true}
 use Rattle.std.proofs.lemmas.Bool.Decides.{nat_tests}
-use Rattle.bounds_model.specs.AnswerText.Lines.{with_byte, lines_of, field_byte, fields_of}
+use Rattle.bounds_model.specs.AnswerText.Lines.{with_byte, lines_of, word_byte, words_of}
 use Rattle.bounds_model.proofs.AnswerTexts.NumberLaws.{some_is, both_true, not_true, is_word}
 
 -- the words of a line, parted by blanks and ended by a line feed
@@ -86,31 +86,31 @@ concat-lines_of (b ∷ bytes) = concat_byte b (lines_of bytes) ∙ ap (λ (rest 
 
 -- ---- fields
 
--- a blank before a line begins an empty field
-blank_fields : (line field : List ℕ) (fields : List (List ℕ)) → fields_of line ≡ Some (field ∷ fields) → fields_of (32 ∷ line) ≡ Some ([] ∷ field ∷ fields)
-blank_fields [] field fields e = absurd cc
-blank_fields (c ∷ rest) field fields e = ap (field_byte 32) e
+-- a blank before a line begins an empty word
+blank_words : (line field : List ℕ) (fields : List (List ℕ)) → words_of line ≡ Some (field ∷ fields) → words_of (32 ∷ line) ≡ Some ([] ∷ field ∷ fields)
+blank_words [] field fields e = absurd cc
+blank_words (c ∷ rest) field fields e = ap (word_byte 32) e
 
--- bytes without a blank before a line belong to its first field
-pub field_begins : (front : List ℕ) (c : ℕ) (rest field : List ℕ) (fields : List (List ℕ)) → list_all (λ b. not (b == 32)) front ≡ true → fields_of (c ∷ rest) ≡ Some (field ∷ fields)
-    → fields_of (front ++ c ∷ rest) ≡ Some ((front ++ field) ∷ fields)
-field_begins [] c rest field fields w e = e
-field_begins (b ∷ []) c rest field fields w e =
+-- bytes without a blank before a line belong to its first word
+pub word_begins : (front : List ℕ) (c : ℕ) (rest field : List ℕ) (fields : List (List ℕ)) → list_all (λ b. not (b == 32)) front ≡ true → words_of (c ∷ rest) ≡ Some (field ∷ fields)
+    → words_of (front ++ c ∷ rest) ≡ Some ((front ++ field) ∷ fields)
+word_begins [] c rest field fields w e = e
+word_begins (b ∷ []) c rest field fields w e =
     let parts = both_true (not (b == 32)) true w in
-    ap (field_byte b) e ∙ ap (λ (t : Bool). Some (cond t ([] ∷ field ∷ fields) ((b ∷ field) ∷ fields))) (not_true (b == 32) parts.0)
-field_begins (b ∷ d ∷ front) c rest field fields w e =
+    ap (word_byte b) e ∙ ap (λ (t : Bool). Some (cond t ([] ∷ field ∷ fields) ((b ∷ field) ∷ fields))) (not_true (b == 32) parts.0)
+word_begins (b ∷ d ∷ front) c rest field fields w e =
     let parts = both_true (not (b == 32)) (list_all (λ g. not (g == 32)) (d ∷ front)) w in
-    ap (field_byte b) (field_begins (d ∷ front) c rest field fields parts.1 e)
+    ap (word_byte b) (word_begins (d ∷ front) c rest field fields parts.1 e)
     ∙ ap (λ (t : Bool). Some (cond t ([] ∷ (d ∷ front ++ field) ∷ fields) ((b ∷ d ∷ front ++ field) ∷ fields))) (not_true (b == 32) parts.0)
 
--- the last field ends with the line feed
-pub fields_at_feed : (front : List ℕ) → list_all (λ b. not (b == 32)) front ≡ true → fields_of (front ++ 10 ∷ []) ≡ Some (front ∷ [])
-fields_at_feed front w = field_begins front 10 [] [] [] w refl ∙ ap (λ (x : List ℕ). Some (x ∷ [])) (append-nil front)
+-- the last word ends with the line feed
+pub words_at_feed : (front : List ℕ) → list_all (λ b. not (b == 32)) front ≡ true → words_of (front ++ 10 ∷ []) ≡ Some (front ∷ [])
+words_at_feed front w = word_begins front 10 [] [] [] w refl ∙ ap (λ (x : List ℕ). Some (x ∷ [])) (append-nil front)
 
--- a field ends with a blank
-pub fields_at_blank : (front rest field : List ℕ) (fields : List (List ℕ)) → list_all (λ b. not (b == 32)) front ≡ true → fields_of rest ≡ Some (field ∷ fields) → fields_of (front ++ 32 ∷ rest) ≡ Some (front ∷ field ∷ fields)
-fields_at_blank front rest field fields w e =
-    field_begins front 32 rest [] (field ∷ fields) w (blank_fields rest field fields e) ∙ ap (λ (x : List ℕ). Some (x ∷ field ∷ fields)) (append-nil front)
+-- a word ends with a blank
+pub words_at_blank : (front rest field : List ℕ) (fields : List (List ℕ)) → list_all (λ b. not (b == 32)) front ≡ true → words_of rest ≡ Some (field ∷ fields) → words_of (front ++ 32 ∷ rest) ≡ Some (front ∷ field ∷ fields)
+words_at_blank front rest field fields w e =
+    word_begins front 32 rest [] (field ∷ fields) w (blank_words rest field fields e) ∙ ap (λ (x : List ℕ). Some (x ∷ field ∷ fields)) (append-nil front)
 
 -- a word has no blank
 word_has_no_blank : (word : List ℕ) → is_word word ≡ true → list_all (λ b. not (b == 32)) word ≡ true
@@ -119,12 +119,12 @@ word_has_no_blank (b ∷ word) w =
     let parts = both_true (nat_lt 32 b) (is_word word) w in
     ap (λ (t : Bool). not t && list_all (λ c. not (c == 32)) word) (no_blank b parts.0) ∙ word_has_no_blank word parts.1
 
--- a line that is made of words has them as its fields
-pub fields_again : (word : List ℕ) (words : List (List ℕ)) → are_words (word ∷ words) ≡ true → fields_of (line_bytes (word ∷ words)) ≡ Some (word ∷ words)
-fields_again word [] w = fields_at_feed word (word_has_no_blank word (both_true (is_word word) true w).0)
-fields_again word (next ∷ words) w =
+-- a line that is made of words has these words
+pub words_again : (word : List ℕ) (words : List (List ℕ)) → are_words (word ∷ words) ≡ true → words_of (line_bytes (word ∷ words)) ≡ Some (word ∷ words)
+words_again word [] w = words_at_feed word (word_has_no_blank word (both_true (is_word word) true w).0)
+words_again word (next ∷ words) w =
     let parts = both_true (is_word word) (are_words (next ∷ words)) w in
-    fields_at_blank word (line_bytes (next ∷ words)) next words (word_has_no_blank word parts.0) (fields_again next words parts.1)
+    words_at_blank word (line_bytes (next ∷ words)) next words (word_has_no_blank word parts.0) (words_again next words parts.1)
 
 -- a byte before a line
 byte_line : (b : ℕ) (field : List ℕ) (fields : List (List ℕ)) → line_bytes ((b ∷ field) ∷ fields) ≡ b ∷ line_bytes (field ∷ fields)
@@ -142,14 +142,14 @@ last_byte_cases true b words is e = ap (λ (c : ℕ). c ∷ []) (eqb-true b 10 i
 last_byte_cases false b words is e = absurd cc
 
 -- one byte more
-fields_back_step : (b : ℕ) (line : List ℕ) (fields : Option (List (List ℕ))) (words : List (List ℕ)) → ((found : List (List ℕ)) → fields ≡ Some found → line ≡ line_bytes found) → field_byte b fields ≡ Some words → b ∷ line ≡ line_bytes words
-fields_back_step b line None words back e = absurd cc
-fields_back_step b line (Some []) words back e = absurd cc
-fields_back_step b line (Some (field ∷ fields)) words back e =
+words_back_step : (b : ℕ) (line : List ℕ) (fields : Option (List (List ℕ))) (words : List (List ℕ)) → ((found : List (List ℕ)) → fields ≡ Some found → line ≡ line_bytes found) → word_byte b fields ≡ Some words → b ∷ line ≡ line_bytes words
+words_back_step b line None words back e = absurd cc
+words_back_step b line (Some []) words back e = absurd cc
+words_back_step b line (Some (field ∷ fields)) words back e =
     ap (λ (x : List ℕ). b ∷ x) (back (field ∷ fields) refl) ∙ sym (byte_line_cases (b == 32) b field fields words refl (some_is _ words e))
 
--- a line is made of its fields
-pub fields_back : (line : List ℕ) (words : List (List ℕ)) → fields_of line ≡ Some words → line ≡ line_bytes words
-fields_back [] words e = absurd cc
-fields_back (b ∷ []) words e = last_byte_cases (b == 10) b words refl e
-fields_back (b ∷ c ∷ rest) words e = fields_back_step b (c ∷ rest) (fields_of (c ∷ rest)) words (λ found f. fields_back (c ∷ rest) found f) e
+-- a line is made of its words
+pub words_back : (line : List ℕ) (words : List (List ℕ)) → words_of line ≡ Some words → line ≡ line_bytes words
+words_back [] words e = absurd cc
+words_back (b ∷ []) words e = last_byte_cases (b == 10) b words refl e
+words_back (b ∷ c ∷ rest) words e = words_back_step b (c ∷ rest) (words_of (c ∷ rest)) words (λ found f. words_back (c ∷ rest) found f) e

@@ -7,7 +7,7 @@ use Rattle.std.proofs.lemmas.List.Elements.{All-nil, All-cons, All-head, All-tai
 use Rattle.bounds_model.specs.Numbers.{HasCount}
 use Rattle.bounds_model.specs.Places.{number_limit}
 use Rattle.bounds_model.specs.AnswerText.Fields.{Field, bounded}
-use Rattle.bounds_model.specs.AnswerText.Formats.{untitled, Values}
+use Rattle.bounds_model.specs.AnswerText.LineFormats.{untitled, Values}
 use Rattle.bounds_model.proofs.AnswerTexts.ValueLaws.{Fits}
 use Rattle.bounds_model.proofs.AnswerTexts.BodyLaws.{AllFit}
 use Rattle.bounds_model.proofs.AnswerTexts.PlaceLaws.{is_limited, FieldPlaces, line_places, line_fits}

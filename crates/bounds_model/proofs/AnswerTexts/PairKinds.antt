@@ -11,7 +11,8 @@ use Rattle.bounds_model.specs.DistanceAnswer.{DistanceAnswer, DistancePlaces}
 use Rattle.bounds_model.specs.CentresAnswer.{Leaf, CentresAnswer, CentresPlaces}
 use Rattle.bounds_model.specs.Answers.{annulus, distance, centres}
 use Rattle.bounds_model.specs.AnswerText.Fields.{fraction, number, plane_ratio, space_ratio, natural, point_number}
-use Rattle.bounds_model.specs.AnswerText.Formats.{titled, untitled, Values, Count, Body}
+use Rattle.bounds_model.specs.AnswerText.LineFormats.{titled, untitled, Values}
+use Rattle.bounds_model.specs.AnswerText.Formats.{Count, Body}
 use Rattle.bounds_model.specs.AnswerText.Kinds.{annulus_kind, distance_kind, centres_kind, weighted_pair, leaf}
 use Rattle.bounds_model.specs.AnswerText.SpelledParts.{weighted_pair_line}
 use Rattle.bounds_model.specs.AnswerText.SpelledCentres.{square_line, leaf_line}

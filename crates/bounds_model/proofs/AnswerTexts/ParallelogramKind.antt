@@ -11,7 +11,8 @@ use Rattle.bounds_model.specs.Fans.{HalfCone}
 use Rattle.bounds_model.specs.ParallelogramAnswer.{Chord, ChordPlaces, ParallelogramAnswer, ParallelogramPlaces}
 use Rattle.bounds_model.specs.Answers.{parallelogram}
 use Rattle.bounds_model.specs.AnswerText.Fields.{fraction, bounded}
-use Rattle.bounds_model.specs.AnswerText.Formats.{untitled, Values, count_format, Body}
+use Rattle.bounds_model.specs.AnswerText.LineFormats.{untitled, Values}
+use Rattle.bounds_model.specs.AnswerText.Formats.{count_format, Body}
 use Rattle.bounds_model.specs.AnswerText.Kinds.{parallelogram_kind, side_fields, chord_fields, chord, chorded_fields, chorded_cone, cone_chord, last_fields, last_vector, last_chord}
 use Rattle.bounds_model.specs.AnswerText.SpelledParts.{count_line}
 use Rattle.bounds_model.specs.AnswerText.Spelling.{spelling, chorded_line, last_chord_line, chorded_lines}

@@ -10,7 +10,7 @@ use Rattle.bounds_model.specs.Fractions.{HaveNoCommonFactor}
 use Rattle.bounds_model.specs.EmptyAnswer.{Blocker, side, point, IsBlockerBelow}
 use Rattle.bounds_model.specs.Places.{number_limit, point_limit, IsNumber, IsNatural, IsFraction, IsPlaneRatio, IsSpaceRatio}
 use Rattle.bounds_model.specs.AnswerText.Fields.{Field, number, natural, naturals, bounded, fraction, plane_ratio, space_ratio, blocker, Value, is_small, is_in_place, is_lowest, is_blocker, common_factor}
-use Rattle.bounds_model.specs.AnswerText.Formats.{Values}
+use Rattle.bounds_model.specs.AnswerText.LineFormats.{Values}
 use Rattle.bounds_model.proofs.AnswerTexts.NumberLaws.{both_true}
 use Rattle.bounds_model.proofs.AnswerTexts.FieldLaws.{within}
 use Rattle.bounds_model.proofs.AnswerTexts.ValueLaws.{Fits, first_fits, rest_fits, both_fit, none_fit}

@@ -4,7 +4,7 @@ use Rattle.std.specs.Prelude.{Option, Some}
 use Rattle.std.proofs.lemmas.List.Folds.{list_all-append}
 use Rattle.bounds_model.specs.AnswerText.Numerals as steps
 use Rattle.bounds_model.specs.AnswerText.Fields.{Field, Value, value_of, is_small, is_in_place}
-use Rattle.bounds_model.specs.AnswerText.Formats.{Values, values_of, are_small, are_in_place}
+use Rattle.bounds_model.specs.AnswerText.LineFormats.{Values, values_of, are_small, are_in_place}
 use Rattle.bounds_model.proofs.AnswerTexts.NumberLaws.{bind_some, some_is, step_again, both_true, is_word}
 use Rattle.bounds_model.proofs.AnswerTexts.LineLaws.{are_words}
 use Rattle.bounds_model.proofs.AnswerTexts.FieldLaws.{field_words, field_words_are_words, value_again}

@@ -1,4 +1,4 @@
--- The kinds of fields: their form, the numbers in them, and the ranges of their places.
+-- The kinds of fields, each of one word or several: their form, the numbers in them, and the ranges of their places.
 use Rattle.std.specs.Prelude.{ℕ, zero, suc, ◌%◌, ℤ, pos, int_le, nat_abs, nat_le, Bool, true, ◌&&◌, ◌==◌, List, [], ◌∷◌, length, Option, Some, None}
 use Rattle.std.specs.List.{list_all}
 use Rattle.std.specs.Str.{bytes_eq}
@@ -47,7 +47,7 @@ naturals_of (suc count) (word ∷ words) = do
   others ← naturals_of count words
   Some (pos n ∷ others.0, others.1)
 
--- what rests a side of an empty rectangle
+-- what a side of an empty rectangle rests on
 abbrev pub blocker_of : List ℕ → Option Blocker
 blocker_of word = if bytes_eq word (codes "box") then Some side else natural_number word >>= λ n. Some (point n)
 

@@ -11,7 +11,8 @@ use Rattle.bounds_model.specs.AnnulusAnswer.{WeightedPair}
 use Rattle.bounds_model.specs.CentresAnswer.{Leaf}
 use Rattle.bounds_model.specs.Answers.{Answer, circle, sphere, rectangle, parallelogram, strip, annulus, empty, kgon, distance, centres}
 use Rattle.bounds_model.specs.AnswerText.Fields.{Field, number, natural, bounded, fraction, plane_ratio, space_ratio, blocker, point_number}
-use Rattle.bounds_model.specs.AnswerText.Formats.{LineFormat, titled, untitled, Values, Part, line, counted, count, rows, Body}
+use Rattle.bounds_model.specs.AnswerText.LineFormats.{LineFormat, titled, untitled, Values}
+use Rattle.bounds_model.specs.AnswerText.Formats.{Part, line, counted, count, rows, Body}
 
 -- a kind of answers: its name, its format, and the answer of a size and what the format reads
 pub record Kind : Type 0 where
