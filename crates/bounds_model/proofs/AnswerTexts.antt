@@ -24,3 +24,4 @@ pub mod Worked
 pub mod WorkedTexts
 pub mod MoreTexts
 pub mod RefusedTexts
+pub mod Unended

@@ -153,3 +153,9 @@ pub words_back : (line : List ℕ) (words : List (List ℕ)) → words_of line �
 words_back [] words e = absurd cc
 words_back (b ∷ []) words e = last_byte_cases (b == 10) b words refl e
 words_back (b ∷ c ∷ rest) words e = words_back_step b (c ∷ rest) (words_of (c ∷ rest)) words (λ found f. words_back (c ∷ rest) found f) e
+
+-- a line without a line feed has no words
+pub words_without_feed : (line : List ℕ) → list_all (λ b. not (b == 10)) line ≡ true → words_of line ≡ None
+words_without_feed [] w = refl
+words_without_feed (b ∷ []) w = ap (λ (t : Bool). cond t (Some ([] ∷ [])) None) (not_true (b == 10) (both_true (not (b == 10)) true w).0)
+words_without_feed (b ∷ c ∷ rest) w = ap (word_byte b) (words_without_feed (c ∷ rest) (both_true (not (b == 10)) (list_all (λ d. not (d == 10)) (c ∷ rest)) w).1)
