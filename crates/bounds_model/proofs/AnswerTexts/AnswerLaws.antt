@@ -163,16 +163,22 @@ kind_bytes_again known kind size body more sound named size-fits body-fits =
     (again.0, found_again known kind (kind_bytes kind size body ++ more) (ended (kind.answer size body) again.0 (lines_of more)) found again.1)
 
 -- an answer with the text of a body reads as that body does
-text_again : (answer made : Answer) (bytes : List ℕ) (m : ℕ) (more : List ℕ) → made ≡ answer → spelling answer ≡ bytes → reading_of kinds (bytes ++ more) ≡ ended made m (lines_of more)
-    → reading_of kinds (spelling answer ++ more) ≡ ended answer m (lines_of more)
-text_again answer made bytes m more is text e = ap (λ (x : List ℕ). reading_of kinds (x ++ more)) text ∙ e ∙ ap (λ (a : Answer). ended a m (lines_of more)) is
+text_again : (known : List Kind) (answer made : Answer) (bytes : List ℕ) (m : ℕ) (more : List ℕ) → made ≡ answer → spelling answer ≡ bytes → reading_of known (bytes ++ more) ≡ ended made m (lines_of more)
+    → reading_of known (spelling answer ++ more) ≡ ended answer m (lines_of more)
+text_again known answer made bytes m more is text e = ap (λ (x : List ℕ). reading_of known (x ++ more)) text ∙ e ∙ ap (λ (a : Answer). ended a m (lines_of more)) is
+
+-- what an answer's spelling reads as where its kind is known, whatever follows
+pub known_again : (known : List Kind) (answer : Answer) (more : List ℕ) (w : Written answer)
+    → ((lines : List (List ℕ)) → kind_of known (record { number = 1; lines = format_line (first_format w.kind.name) tt ∷ lines }) ≡ Some w.kind)
+    → (m : ℕ) × (reading_of known (spelling answer ++ more) ≡ ended answer m (lines_of more))
+known_again known answer more w named =
+    let again = kind_bytes_again known w.kind w.size w.body more w.law.sound named w.size_fits w.body_fits in
+    let text : spelling answer ≡ kind_bytes w.kind w.size w.body = ap spelling (sym w.is) ∙ w.law.spelled w.size w.body in
+    (again.0, text_again known answer (w.kind.answer w.size w.body) (kind_bytes w.kind w.size w.body) again.0 more w.is text again.1)
 
 -- what an answer's spelling reads as, whatever follows
 pub written_again : (answer : Answer) (more : List ℕ) → Written answer → (m : ℕ) × (reading_of kinds (spelling answer ++ more) ≡ ended answer m (lines_of more))
-written_again answer more w =
-    let again = kind_bytes_again kinds w.kind w.size w.body more w.law.sound w.law.named w.size_fits w.body_fits in
-    let text : spelling answer ≡ kind_bytes w.kind w.size w.body = ap spelling (sym w.is) ∙ w.law.spelled w.size w.body in
-    (again.0, text_again answer (w.kind.answer w.size w.body) (kind_bytes w.kind w.size w.body) again.0 more w.is text again.1)
+written_again answer more w = known_again kinds answer more w w.law.named
 
 -- a kind that was found is one of the kinds
 pub found_kind : (P : Kind → Type 0) (known : List Kind) (test : Kind → Bool) (kind : Kind) → AllByRecursion P known → find test known ≡ Some kind → P kind

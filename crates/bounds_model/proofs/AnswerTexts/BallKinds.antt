@@ -9,8 +9,7 @@ use Rattle.bounds_model.specs.AnswerText.Fields.{fraction, plane_ratio, space_ra
 use Rattle.bounds_model.specs.AnswerText.LineFormats.{Values}
 use Rattle.bounds_model.specs.AnswerText.Formats.{Count, Body}
 use Rattle.bounds_model.specs.AnswerText.Kinds.{circle_kind, sphere_kind, weighted}
-use Rattle.bounds_model.specs.AnswerText.SpelledParts.{weighted_line}
-use Rattle.bounds_model.specs.AnswerText.Spelling.{spelling}
+use Rattle.bounds_model.specs.AnswerText.Spelling.{spelling, weighted_line}
 use Rattle.bounds_model.proofs.AnswerTexts.AnswerLaws.{kind_bytes, KindLaw, Written}
 use Rattle.bounds_model.proofs.AnswerTexts.PlaceLaws.{line_places, line_fits}
 use Rattle.bounds_model.proofs.AnswerTexts.ListPlaces.{all_places, all_fit, count_places, count_fits, map_back}

@@ -3,12 +3,13 @@ use Rattle.std.proofs.Common.{◌≡◌, refl, ℕ, zero, suc, ◌+◌, ◌^◌,
 use Rattle.std.specs.Prelude.{codes, count_by, ◌==◌}
 use Rattle.std.specs.Fmt.{digits}
 use Rattle.bounds_model.specs.Answers.{Answer, circle, sphere, centres}
-use Rattle.bounds_model.specs.AnswerText.SpelledParts.{first_line, size_line, count_line, space_ratio_line, weighted_line, last_line}
+use Rattle.bounds_model.specs.AnswerText.SpelledParts.{first_line, size_line, count_line, last_line}
 use Rattle.bounds_model.specs.AnswerText.SpelledCentres.{square_line, leaf_line}
-use Rattle.bounds_model.specs.AnswerText.Spelling.{spelling}
+use Rattle.bounds_model.specs.AnswerText.Spelling.{spelling, space_ratio_line, weighted_line}
+use Rattle.bounds_model.specs.AnswerText.Kinds.{centres_kind}
 use Rattle.bounds_model.specs.AnswerText.Formats.{bad_answer}
-use Rattle.bounds_model.specs.AnswerText.Reading.{reading}
-use Rattle.bounds_model.proofs.AnswerTexts.Worked.{circle_text}
+use Rattle.bounds_model.specs.AnswerText.Reading.{reading, reading_of}
+use Rattle.bounds_model.proofs.AnswerTexts.Worked.{circle_text, the_centres, centres_text}
 
 -- a sphere around one point
 abbrev one_point : Answer
@@ -55,6 +56,16 @@ at_limits = circle (record {
 -- its text
 at_limits_read : reading (codes "answer 1 circle\nsize 85070591730234615865843651857942052864/1\ncenter 4 3 2\nsupports 1\n9999 0\nend\n") ≡ Ok at_limits
 at_limits_read = refl
+
+-- ---- some kinds alone
+
+-- where centres alone are known, their text reads as before
+centres_known : reading_of (centres_kind ∷ []) centres_text ≡ Ok the_centres
+centres_known = refl
+
+-- and the first line of another kind is refused
+circle_unknown : reading_of (centres_kind ∷ []) circle_text ≡ Err (bad_answer 1)
+circle_unknown = refl
 
 -- ---- beginnings
 

@@ -14,9 +14,8 @@ use Rattle.bounds_model.specs.AnswerText.Fields.{fraction, number, plane_ratio, 
 use Rattle.bounds_model.specs.AnswerText.LineFormats.{titled, untitled, Values}
 use Rattle.bounds_model.specs.AnswerText.Formats.{Count, Body}
 use Rattle.bounds_model.specs.AnswerText.Kinds.{annulus_kind, distance_kind, centres_kind, weighted_pair, leaf}
-use Rattle.bounds_model.specs.AnswerText.SpelledParts.{weighted_pair_line}
 use Rattle.bounds_model.specs.AnswerText.SpelledCentres.{square_line, leaf_line}
-use Rattle.bounds_model.specs.AnswerText.Spelling.{spelling, space_direction_line}
+use Rattle.bounds_model.specs.AnswerText.Spelling.{spelling, space_direction_line, weighted_pair_line}
 use Rattle.bounds_model.proofs.AnswerTexts.FormLaws.{format_line}
 use Rattle.bounds_model.proofs.AnswerTexts.AnswerLaws.{kind_bytes, KindLaw, Written}
 use Rattle.bounds_model.proofs.AnswerTexts.PlaceLaws.{line_places, line_fits}

@@ -54,16 +54,19 @@ found_spells kind bytes answer law found = record {
   spelled = sym (concat-lines_of bytes) ∙ found.text ∙ sym (law.spelled found.size found.body) ∙ ap spelling found.is;
 }
 
--- whatever kind was found
-known_back : (known : List Kind) (bytes : List ℕ) (answer : Answer) → AllByRecursion KindLaw known → (found : Option Kind) → kind_of known (all_lines bytes) ≡ found → answer_of found (all_lines bytes) ≡ Ok answer → Spells bytes answer
-known_back known bytes answer laws None is e = absurd cc
-known_back known bytes answer laws (Some kind) is e =
-    let law = found_kind KindLaw known (λ k. is_ok (line_at (first_format k.name) (all_lines bytes))) kind laws is in
-    found_spells kind bytes answer law (answer_back kind (all_lines bytes) answer law.sound e)
+-- whatever kinds are known, a text that reads as an answer spells it
+pub known_back : (known : List Kind) (bytes : List ℕ) (answer : Answer) → AllByRecursion KindLaw known → reading_of known bytes ≡ Ok answer → Spells bytes answer
+known_back known bytes answer laws e = found_back (kind_of known (all_lines bytes)) refl e
+  where
+    found_back : (found : Option Kind) → kind_of known (all_lines bytes) ≡ found → answer_of found (all_lines bytes) ≡ Ok answer → Spells bytes answer
+    found_back None is f = absurd cc
+    found_back (Some kind) is f =
+        let law = found_kind KindLaw known (λ k. is_ok (line_at (first_format k.name) (all_lines bytes))) kind laws is in
+        found_spells kind bytes answer law (answer_back kind (all_lines bytes) answer law.sound f)
 
 -- a text that reads as an answer spells it
 read_back : (bytes : List ℕ) (answer : Answer) → reading_of kinds bytes ≡ Ok answer → Spells bytes answer
-read_back bytes answer e = known_back kinds bytes answer kind_laws (kind_of kinds (all_lines bytes)) refl e
+read_back bytes answer e = known_back kinds bytes answer kind_laws e
 
 -- ---- the laws
 

@@ -1,9 +1,9 @@
 -- Each worked text is the spelling of its answer, and reads as it.
 use Rattle.std.proofs.Common.{◌≡◌, refl, Ok}
 use Rattle.std.specs.Fmt.{digits}
-use Rattle.bounds_model.specs.AnswerText.SpelledParts.{first_line, size_line, count_line, pair_line, four_line, fraction_line, plane_ratio_line, space_ratio_line, weighted_line, weighted_pair_line, direction_line, index_line, last_line}
+use Rattle.bounds_model.specs.AnswerText.SpelledParts.{first_line, size_line, count_line, pair_line, four_line, fraction_line, plane_ratio_line, direction_line, index_line, last_line}
 use Rattle.bounds_model.specs.AnswerText.SpelledCentres.{square_line, leaf_line}
-use Rattle.bounds_model.specs.AnswerText.Spelling.{spelling, quarter_line, half_line, chorded_line, last_chord_line, blocker_line, potentials_line, space_direction_line}
+use Rattle.bounds_model.specs.AnswerText.Spelling.{spelling, quarter_line, half_line, chorded_line, last_chord_line, blocker_line, potentials_line, space_direction_line, space_ratio_line, weighted_line, weighted_pair_line}
 use Rattle.bounds_model.specs.AnswerText.Reading.{reading}
 use Rattle.bounds_model.proofs.AnswerTexts.Worked.{the_circle, circle_text, the_rectangle, rectangle_text, the_strip, strip_text, the_parallelogram, parallelogram_text, the_annulus, annulus_text, the_empty, empty_text, the_kgon, kgon_text, the_distance, distance_text, the_centres, centres_text}
 

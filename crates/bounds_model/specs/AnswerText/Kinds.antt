@@ -66,7 +66,7 @@ span v = record { low = v.0; high = v.1.0 }
 
 -- ---- circle and sphere
 
--- circle
+-- a circle: its centre and its supports
 abbrev pub circle_kind : Kind
 circle_kind = record {
   name = codes "circle";
@@ -74,7 +74,7 @@ circle_kind = record {
   answer = λ size b. circle (record { size = size; centre = b.0.0; supports = map weighted b.1.0 });
 }
 
--- sphere
+-- a sphere, likewise
 abbrev pub sphere_kind : Kind
 sphere_kind = record {
   name = codes "sphere";
@@ -98,7 +98,7 @@ quarter_cone v = record {
   under = v.1.1.1.1.1.0;
 }
 
--- rectangle
+-- a rectangle: its direction, its bounds, and a fan over a quarter turn
 abbrev pub rectangle_kind : Kind
 rectangle_kind = record {
   name = codes "rectangle";
@@ -121,7 +121,7 @@ half_fields = number ∷ number ∷ point_number ∷ point_number ∷ []
 abbrev pub half_cone : Values half_fields → HalfCone
 half_cone v = record { direction = record { x = v.0; y = v.1.0 }; high = v.1.1.0; low = v.1.1.1.0 }
 
--- strip
+-- a strip: its normal, its bounds, and a fan over half a turn
 abbrev pub strip_kind : Kind
 strip_kind = record {
   name = codes "strip";
@@ -179,7 +179,7 @@ last_vector v = record { x = v.0; y = v.1.0 }
 abbrev pub last_chord : Values last_fields → Chord
 last_chord v = chord v.1.1
 
--- parallelogram
+-- a parallelogram: two normals with their bounds, and a fan with a chord for each direction
 abbrev pub parallelogram_kind : Kind
 parallelogram_kind = record {
   name = codes "parallelogram";
@@ -198,7 +198,7 @@ parallelogram_kind = record {
 
 -- ---- annulus
 
--- annulus
+-- a ring: its centre, its radii and its pairs
 abbrev pub annulus_kind : Kind
 annulus_kind = record {
   name = codes "annulus";
@@ -215,7 +215,7 @@ annulus_kind = record {
 
 -- ---- empty rectangle
 
--- empty rectangle
+-- an empty rectangle: its box, and what each side rests on
 abbrev pub empty_kind : Kind
 empty_kind = record {
   name = codes "empty";
@@ -243,7 +243,7 @@ abbrev pub potential_widths : List ℕ → List ℕ
 potential_widths (layers ∷ chosen ∷ corners ∷ []) = triangle (corners - 1) layers
 potential_widths counts = []
 
--- polygon
+-- a polygon: all corners, the chosen ones, and the potentials in layers
 abbrev pub kgon_kind : Kind
 kgon_kind = record {
   name = codes "kgon";
@@ -261,7 +261,7 @@ kgon_kind = record {
 
 -- ---- distance
 
--- distance
+-- a distance: its two ends, its direction and its pairs
 abbrev pub distance_kind : Kind
 distance_kind = record {
   name = codes "distance";
@@ -282,7 +282,7 @@ distance_kind = record {
 abbrev pub leaf : Values (point_number ∷ point_number ∷ []) → Leaf
 leaf v = record { first = v.0; second = v.1.0 }
 
--- centres
+-- centres: the squares and the leaves
 abbrev pub centres_kind : Kind
 centres_kind = record {
   name = codes "centres";
