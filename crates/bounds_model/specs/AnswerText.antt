@@ -1,11 +1,12 @@
--- The text of an answer: its one spelling, and what a text reads as.
-pub mod Numerals
-pub mod Lines
-pub mod Fields
-pub mod Formats
-pub mod Kinds
-pub mod Reading
+-- The text of an answer: its one spelling, what a text reads as, and the laws that join the two.
 pub mod SpelledParts
 pub mod SpelledCentres
 pub mod Spelling
+pub mod Lines
+pub mod Numerals
+pub mod Fields
+pub mod LineFormats
+pub mod Formats
+pub mod Kinds
+pub mod Reading
 pub mod Laws

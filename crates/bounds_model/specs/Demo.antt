@@ -37,6 +37,7 @@ right_coordinate s = pos (drawn s % 8000) +ℤ pos 1
 
 -- ---- points, from the state before the first of them
 
+-- points of the plane
 abbrev pub plane_points : ℕ → ℕ → List PlanePoint
 plane_points s zero = []
 plane_points s (suc count) =

@@ -39,6 +39,7 @@ pub data Cause : Type 0 where
   write_fault : Cause
   out_of_memory : Cause
 
+-- what a file is called
 abbrev pub file_name : InputFile → List ℕ
 file_name points_file = codes "points"
 file_name answer_file = codes "answer"

@@ -1,12 +1,13 @@
 -- The texts of empty rectangles.
-use Rattle.std.proofs.Common.{◌≡◌, ℕ, List, [], ◌∷◌, ◌++◌, refl, append_assoc, arith}
+use Rattle.std.proofs.Common.{◌≡◌, ℕ, List, [], ◌∷◌, refl, append_assoc, arith}
 use Rattle.std.specs.Prelude.{codes}
 use Rattle.std.proofs.lemmas.List.{append-nil}
 use Rattle.bounds_model.specs.Fractions.{Fraction}
 use Rattle.bounds_model.specs.EmptyAnswer.{Blocker, EmptyAnswer, EmptyPlaces}
-use Rattle.bounds_model.specs.Answers.{Answer, empty}
+use Rattle.bounds_model.specs.Answers.{empty}
 use Rattle.bounds_model.specs.AnswerText.Fields.{fraction, blocker}
-use Rattle.bounds_model.specs.AnswerText.Formats.{titled, Values, Body}
+use Rattle.bounds_model.specs.AnswerText.LineFormats.{titled}
+use Rattle.bounds_model.specs.AnswerText.Formats.{Body}
 use Rattle.bounds_model.specs.AnswerText.Kinds.{empty_kind, side_fields}
 use Rattle.bounds_model.specs.AnswerText.Spelling.{spelling, blocker_line}
 use Rattle.bounds_model.proofs.AnswerTexts.FormLaws.{format_line}
@@ -14,10 +15,12 @@ use Rattle.bounds_model.proofs.AnswerTexts.AnswerLaws.{kind_bytes, KindLaw, Writ
 use Rattle.bounds_model.proofs.AnswerTexts.PlaceLaws.{line_places, line_fits}
 use Rattle.bounds_model.proofs.AnswerTexts.SpelledLaws.{first_is, size_is, last_is, four_is}
 
+-- the spelled line of a blocker is that of its format
 blocker_is : (word : List ℕ) (b : Blocker) → blocker_line word b ≡ format_line (titled word (blocker ∷ [])) (b, tt)
 unfolding blocker_line
 blocker_is word b = simp append_assoc
 
+-- the spelling of an empty rectangle is the text of its format
 empty_spelled : (size : Fraction) (b : Body empty_kind.body) → spelling (empty_kind.answer size b) ≡ kind_bytes empty_kind size b
 empty_spelled size b =
     let first = first_is (codes "empty") in
@@ -29,6 +32,7 @@ empty_spelled size b =
     let top = blocker_is (codes "top") b.1.1.1.1.0.0 in
     simp (append_assoc, append-nil, first, second, box, left, bottom, right, top, last_is)
 
+-- empty rectangles keep the laws
 pub empty_law : KindLaw empty_kind
 empty_law = record {
   sound = record { name = refl; parts = λ b. (refl, (refl, (refl, (refl, (refl, tt))))) };
@@ -50,6 +54,7 @@ empty_law = record {
       };
 }
 
+-- an empty rectangle that keeps its places is one that its format writes
 pub empty_written : (a : EmptyAnswer) → EmptyPlaces a → Written (empty a)
 empty_written a places = record {
   kind = empty_kind;
@@ -58,7 +63,14 @@ empty_written a places = record {
   body = ((a.box.left, (a.box.bottom, (a.box.right, (a.box.top, tt)))), ((a.left, tt), ((a.bottom, tt), ((a.right, tt), ((a.top, tt), tt)))));
   is = refl;
   size_fits = line_fits (fraction ∷ []) (a.size, tt) refl (places.size, tt);
-  body_fits = (line_fits side_fields (a.box.left, (a.box.bottom, (a.box.right, (a.box.top, tt)))) refl (places.box_left, (places.box_bottom, (places.box_right, (places.box_top, tt)))),
-  (line_fits (blocker ∷ []) (a.left, tt) refl (places.left, tt), (line_fits (blocker ∷ []) (a.bottom, tt) refl (places.bottom, tt),
-  (line_fits (blocker ∷ []) (a.right, tt) refl (places.right, tt), (line_fits (blocker ∷ []) (a.top, tt) refl (places.top, tt), tt)))));
+  body_fits = (
+    line_fits side_fields (a.box.left, (a.box.bottom, (a.box.right, (a.box.top, tt)))) refl (places.box_left, (places.box_bottom, (places.box_right, (places.box_top, tt)))),
+    (
+      line_fits (blocker ∷ []) (a.left, tt) refl (places.left, tt),
+      (
+        line_fits (blocker ∷ []) (a.bottom, tt) refl (places.bottom, tt),
+        (line_fits (blocker ∷ []) (a.right, tt) refl (places.right, tt), (line_fits (blocker ∷ []) (a.top, tt) refl (places.top, tt), tt)),
+      ),
+    ),
+  );
 }

@@ -1,18 +1,20 @@
 -- One line: what was written is read again, and what was read was written so.
-use Rattle.std.proofs.Common.{◌≡◌, ℕ, zero, suc, ◌+◌, ◌<◌, ◌≤◌, Bool, true, false, not, ◌&&◌, cond, List, [], ◌∷◌, ◌++◌, length, refl, sym, ap, subst, ◌∙◌, append_assoc, arith, Ok, Err}
+use Rattle.std.proofs.Common.{◌≡◌, ℕ, zero, suc, ◌+◌, ◌<◌, Bool, true, false, not, ◌&&◌, cond, List, [], ◌∷◌, ◌++◌, length, refl, sym, ap, subst, ◌∙◌, arith, Ok, Err}
 use Rattle.std.specs.Prelude.{Option, Some, None, Result, nat_lt, ◌==◌}
-use Rattle.std.specs.List.{list_all, concat}
+use Rattle.std.specs.List.{concat}
 use Rattle.std.specs.Str.{bytes_eq}
 use Rattle.std.proofs.lemmas.List.Folds.{list_all-append}
 use Rattle.std.proofs.lemmas.Slice.Eq.{bytes_eq-Decides}
 use Rattle.std.proofs.lemmas.Bool.{eqb-true}
 use Rattle.bounds_model.specs.AnswerText.Numerals as steps
-use Rattle.bounds_model.specs.AnswerText.Lines.{lines_of, fields_of}
-use Rattle.bounds_model.specs.AnswerText.Fields.{Field, number, natural, naturals, index, fraction, plane_ratio, space_ratio, blocker, Value, value_of, is_small, is_in_place}
-use Rattle.bounds_model.specs.AnswerText.Formats.{Refusal, bad_answer, big_number, ◌>>=◌, LineFormat, Values, after_words, values_of, form_of, are_small, are_in_place, judged, Unread, next_line, line_at}
+use Rattle.bounds_model.specs.AnswerText.Lines.{lines_of, words_of}
+use Rattle.bounds_model.specs.AnswerText.Fields.{Field, number, natural, naturals, bounded, fraction, plane_ratio, space_ratio, blocker, Value, is_in_place}
+use Rattle.bounds_model.specs.AnswerText.LineFormats.{LineFormat, Values, after_words, values_of, form_of, are_small, are_in_place}
+use Rattle.bounds_model.specs.AnswerText.Formats.{Refusal, bad_answer, big_number, ◌>>=◌, judged, Unread, next_line, line_at}
 use Rattle.bounds_model.proofs.AnswerTexts.NumberLaws.{bind_some, some_is, step_again, both_true, is_word}
-use Rattle.bounds_model.proofs.AnswerTexts.LineLaws.{line_bytes, are_words, lines_again, fields_again, fields_back}
-use Rattle.bounds_model.proofs.AnswerTexts.FieldLaws.{field_words, field_words_are_words, value_again, value_back}
+use Rattle.bounds_model.proofs.AnswerTexts.LineLaws.{line_bytes, are_words, lines_again, words_again, words_back}
+use Rattle.bounds_model.proofs.AnswerTexts.FieldLaws.{field_words}
+use Rattle.bounds_model.proofs.AnswerTexts.ValueLaws.{values_words, Fits, first_fits, values_are_words, values_again, values_back}
 
 -- ---- tools
 
@@ -25,84 +27,30 @@ pub bind_ok : {A B : Type 0} (r : Result A Refusal) (f : A → Result B Refusal)
 bind_ok (Ok x) f y e = (x, refl, e)
 bind_ok (Err refusal) f y e = absurd cc
 
+-- what was not refused
 abbrev read : {A : Type 0} → A → Result A Refusal
 read x = Ok x
 
+-- two readings that were not refused
 pub read_is : {A : Type 0} (x y : A) → read x ≡ read y → x ≡ y
 read_is x y e = cc
 
--- ---- the fields of a line
-
-abbrev pub values_words : (fields : List Field) → Values fields → List (List ℕ)
-values_words [] values = []
-values_words (field ∷ fields) values = field_words field values.0 ++ values_words fields values.1
-
--- the numbers of a line are within the limit and in the ranges of their places
-pub record Fits (fields : List Field) (values : Values fields) : Type 0 where
-  pub small : are_small fields values ≡ true
-  pub place : are_in_place fields values ≡ true
-
-pub first_fits : (field : Field) (fields : List Field) (values : Values (field ∷ fields)) → Fits (field ∷ fields) values → (is_small field values.0 ≡ true) × (is_in_place field values.0 ≡ true)
-first_fits field fields values fits = ((both_true (is_small field values.0) (are_small fields values.1) fits.small).0, (both_true (is_in_place field values.0) (are_in_place fields values.1) fits.place).0)
-
-pub rest_fits : (field : Field) (fields : List Field) (values : Values (field ∷ fields)) → Fits (field ∷ fields) values → Fits fields values.1
-rest_fits field fields values fits = record {
-  small = (both_true (is_small field values.0) (are_small fields values.1) fits.small).1;
-  place = (both_true (is_in_place field values.0) (are_in_place fields values.1) fits.place).1;
-}
-
-pub both_fit : (field : Field) (fields : List Field) (values : Values (field ∷ fields)) → is_small field values.0 ≡ true → is_in_place field values.0 ≡ true → Fits fields values.1 → Fits (field ∷ fields) values
-both_fit field fields values small place fits = record {
-  small = ap (λ (t : Bool). t && are_small fields values.1) small ∙ fits.small;
-  place = ap (λ (t : Bool). t && are_in_place fields values.1) place ∙ fits.place;
-}
-
-pub none_fit : Fits [] tt
-none_fit = record { small = refl; place = refl }
-
-values_are_words : (fields : List Field) (values : Values fields) → Fits fields values → are_words (values_words fields values) ≡ true
-values_are_words [] values fits = refl
-values_are_words (field ∷ fields) values fits =
-    let first = field_words_are_words field values.0 (first_fits field fields values fits).0 in
-    list_all-append is_word (field_words field values.0) (values_words fields values.1) ∙ ap (λ (t : Bool). t && are_words (values_words fields values.1)) first
-    ∙ values_are_words fields values.1 (rest_fits field fields values fits)
-
-values_again : (fields : List Field) (values : Values fields) → Fits fields values → values_of fields (values_words fields values) ≡ Some values
-values_again [] values fits = refl
-values_again (field ∷ fields) values fits =
-    let first = first_fits field fields values fits in
-    step_again (value_of field (values_words (field ∷ fields) values)) (values.0, values_words fields values.1) _ _ (value_again field values.0 (values_words fields values.1) first.0 first.1)
-    (step_again (values_of fields (values_words fields values.1)) values.1 _ _ (values_again fields values.1 (rest_fits field fields values fits)) refl)
-
-values_back : (fields : List Field) (words : List (List ℕ)) (values : Values fields) → values_of fields words ≡ Some values → are_small fields values ≡ true → words ≡ values_words fields values
-values_back [] [] values e small = refl
-values_back [] (word ∷ words) values e small = absurd cc
-values_back (field ∷ fields) words values e small =
-    let r = bind_some (value_of field words) (λ first. steps.◌>>=◌ {B = Values (field ∷ fields)} (values_of fields first.1) (λ others. Some (first.0, others))) values e in
-    let q = bind_some (values_of fields r.0.1) (both r.0.0) values r.2 in
-    let is : ◌≡◌ {A = Values (field ∷ fields)} (r.0.0, q.0) values = some_is {A = Values (field ∷ fields)} (r.0.0, q.0) values q.2 in
-    let parts = both_true (is_small field values.0) (are_small fields values.1) small in
-    let first-is : r.0.0 ≡ values.0 = ap (λ (v : Values (field ∷ fields)). v.0) is in
-    let rest-is : q.0 ≡ values.1 = ap (λ (v : Values (field ∷ fields)). v.1) is in
-    let others = values_back fields r.0.1 values.1 (q.1 ∙ ap (λ (v : Values fields). Some v) rest-is) parts.1 in
-    value_back field words values.0 r.0.1 (r.1 ∙ ap (λ (v : Value field). Some (v, r.0.1)) first-is) parts.0 ∙ ap (λ (ws : List (List ℕ)). field_words field values.0 ++ ws) others
-  where
-    both : Value field → Values fields → Option (Values (field ∷ fields))
-    both v vs = Some (v, vs)
-
 -- ---- the words that a line begins with
 
+-- the words of a format are found again
 after_words_again : (words rest : List (List ℕ)) → after_words words (words ++ rest) ≡ Some rest
 after_words_again [] rest = refl
 after_words_again (word ∷ words) rest =
     ap (λ (t : Bool). cond t (after_words words (words ++ rest)) None) ((bytes_eq-Decides word word).1 refl) ∙ after_words_again words rest
 
+-- one word of a format, and the others
 after_words_cases : (t : Bool) (expected word : List ℕ) (words others rest : List (List ℕ)) → bytes_eq expected word ≡ t → (after_words others words ≡ Some rest → words ≡ others ++ rest)
     → cond t (after_words others words) None ≡ Some rest → word ∷ words ≡ (expected ∷ others) ++ rest
 after_words_cases true expected word words others rest test back e =
     ap (λ (w : List ℕ). w ∷ words) (sym ((bytes_eq-Decides expected word).0 test)) ∙ ap (λ (ws : List (List ℕ)). expected ∷ ws) (back e)
 after_words_cases false expected word words others rest test back e = absurd cc
 
+-- what stands behind the words of a format
 after_words_back : (expected words rest : List (List ℕ)) → after_words expected words ≡ Some rest → words ≡ expected ++ rest
 after_words_back [] words rest e = some_is words rest e
 after_words_back (word ∷ expected) [] rest e = absurd cc
@@ -111,6 +59,7 @@ after_words_back (first ∷ expected) (word ∷ words) rest e =
 
 -- ---- the form of a line
 
+-- the words of a line
 abbrev pub line_words : (format : LineFormat) → Values format.fields → List (List ℕ)
 line_words format values = format.words ++ values_words format.fields values
 
@@ -123,6 +72,7 @@ abbrev takes_word : Field → Bool
 takes_word (naturals count) = nat_lt 0 count
 takes_word field = true
 
+-- there is a word
 abbrev has_word : List (List ℕ) → List Field → Bool
 has_word [] [] = false
 has_word [] (field ∷ fields) = takes_word field
@@ -132,6 +82,7 @@ has_word (word ∷ words) fields = true
 abbrev pub is_format : LineFormat → Bool
 is_format format = are_words format.words && has_word format.words format.fields
 
+-- a field has a word
 field_has_word : (field : Field) (v : Value field) (rest : List (List ℕ)) → takes_word field ≡ true → is_in_place field v ≡ true → 0 < length (field_words field v ++ rest)
 field_has_word number v rest takes place = omega arith
 field_has_word natural v rest takes place = omega arith
@@ -140,45 +91,52 @@ field_has_word (naturals (suc count)) [] rest takes place =
     let none : 0 ≡ suc count = eqb-true 0 (suc count) (both_true (0 == suc count) true place).0 in
     absurd (omega arith)
 field_has_word (naturals (suc count)) (z ∷ zs) rest takes place = omega arith
-field_has_word (index low high) v rest takes place = omega arith
+field_has_word (bounded low high) v rest takes place = omega arith
 field_has_word fraction v rest takes place = omega arith
 field_has_word plane_ratio v rest takes place = omega arith
 field_has_word space_ratio v rest takes place = omega arith
 field_has_word blocker v rest takes place = omega arith
 
+-- a line has a word
 line_has_word : (words : List (List ℕ)) (fields : List Field) (values : Values fields) → has_word words fields ≡ true → Fits fields values → 0 < length (words ++ values_words fields values)
 line_has_word [] [] values has fits = absurd cc
 line_has_word [] (field ∷ fields) values has fits = field_has_word field values.0 (values_words fields values.1) has (first_fits field fields values fits).1
 line_has_word (word ∷ words) fields values has fits = omega arith
 
+-- a line is made of words
 line_are_words : (format : LineFormat) (values : Values format.fields) → is_format format ≡ true → Fits format.fields values → are_words (line_words format values) ≡ true
 line_are_words format values sound fits =
     list_all-append is_word format.words (values_words format.fields values)
     ∙ ap (λ (t : Bool). t && are_words (values_words format.fields values)) (both_true (are_words format.words) (has_word format.words format.fields) sound).0
     ∙ values_are_words format.fields values fits
 
-fields_again_some : (words : List (List ℕ)) → 0 < length words → are_words words ≡ true → fields_of (line_bytes words) ≡ Some words
-fields_again_some [] some e = absurd (omega arith)
-fields_again_some (word ∷ words) some e = fields_again word words e
+-- the fields of a line that has words
+words_again_some : (words : List (List ℕ)) → 0 < length words → are_words words ≡ true → words_of (line_bytes words) ≡ Some words
+words_again_some [] some e = absurd (omega arith)
+words_again_some (word ∷ words) some e = words_again word words e
 
+-- the first line of a text, where it has words
 lines_again_some : (words : List (List ℕ)) (rest : List ℕ) → 0 < length words → are_words words ≡ true → lines_of (line_bytes words ++ rest) ≡ line_bytes words ∷ lines_of rest
 lines_again_some [] rest some e = absurd (omega arith)
 lines_again_some (word ∷ words) rest some e = lines_again word words rest e
 
+-- a line that was written has its form
 form_again : (format : LineFormat) (values : Values format.fields) → is_format format ≡ true → Fits format.fields values → form_of format (format_line format values) ≡ Some values
 form_again format values sound fits =
     let some = line_has_word format.words format.fields values (both_true (are_words format.words) (has_word format.words format.fields) sound).1 fits in
-    step_again (fields_of (format_line format values)) (line_words format values) _ _ (fields_again_some (line_words format values) some (line_are_words format values sound fits))
+    step_again (words_of (format_line format values)) (line_words format values) _ _ (words_again_some (line_words format values) some (line_are_words format values sound fits))
     (step_again (after_words format.words (line_words format values)) (values_words format.fields values) _ _ (after_words_again format.words (values_words format.fields values)) (values_again format.fields values fits))
 
+-- a line of this form was written so
 form_back : (format : LineFormat) (line : List ℕ) (values : Values format.fields) → form_of format line ≡ Some values → are_small format.fields values ≡ true → line ≡ format_line format values
 form_back format line values e small =
-    let r = bind_some (fields_of line) (λ words. steps.◌>>=◌ (after_words format.words words) (values_of format.fields)) values e in
+    let r = bind_some (words_of line) (λ words. steps.◌>>=◌ (after_words format.words words) (values_of format.fields)) values e in
     let q = bind_some (after_words format.words r.0) (values_of format.fields) values r.2 in
-    fields_back line r.0 r.1 ∙ ap line_bytes (after_words_back format.words r.0 q.0 q.1 ∙ ap (λ (ws : List (List ℕ)). format.words ++ ws) (values_back format.fields q.0 values q.2 small))
+    words_back line r.0 r.1 ∙ ap line_bytes (after_words_back format.words r.0 q.0 q.1 ∙ ap (λ (ws : List (List ℕ)). format.words ++ ws) (values_back format.fields q.0 values q.2 small))
 
 -- ---- the judgement of a line
 
+-- fields that fit are accepted
 judged_again : (fields : List Field) (line : ℕ) (values : Values fields) → Fits fields values → judged fields line (Some values) ≡ Ok values
 judged_again fields line values fits =
     ap (λ (t : Bool). choice t (choice_place (are_in_place fields values))) fits.small ∙ ap choice_place fits.place
@@ -189,12 +147,14 @@ judged_again fields line values fits =
     choice : Bool → Result (Values fields) Refusal → Result (Values fields) Refusal
     choice t other = cond (not t) (Err (big_number line)) other
 
+-- what the tests of a line say
 judged_cases : (small place : Bool) (fields : List Field) (line : ℕ) (found values : Values fields) → cond (not small) (Err (big_number line)) (cond (not place) (Err (bad_answer line)) (Ok found)) ≡ Ok values
     → (found ≡ values) × (small ≡ true) × (place ≡ true)
 judged_cases true true fields line found values e = (read_is found values e, refl, refl)
 judged_cases true false fields line found values e = absurd cc
 judged_cases false place fields line found values e = absurd cc
 
+-- fields that were accepted fit
 judged_back : (fields : List Field) (line : ℕ) (found : Option (Values fields)) (values : Values fields) → judged fields line found ≡ Ok values → (found ≡ Some values) × Fits fields values
 judged_back fields line None values e = absurd cc
 judged_back fields line (Some found) values e =

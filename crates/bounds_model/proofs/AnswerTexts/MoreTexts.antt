@@ -3,12 +3,13 @@ use Rattle.std.proofs.Common.{◌≡◌, refl, ℕ, zero, suc, ◌+◌, ◌^◌,
 use Rattle.std.specs.Prelude.{codes, count_by, ◌==◌}
 use Rattle.std.specs.Fmt.{digits}
 use Rattle.bounds_model.specs.Answers.{Answer, circle, sphere, centres}
-use Rattle.bounds_model.specs.AnswerText.SpelledParts.{first_line, size_line, count_line, space_ratio_line, weighted_line, last_line}
+use Rattle.bounds_model.specs.AnswerText.SpelledParts.{first_line, size_line, count_line, last_line}
 use Rattle.bounds_model.specs.AnswerText.SpelledCentres.{square_line, leaf_line}
-use Rattle.bounds_model.specs.AnswerText.Spelling.{spelling}
+use Rattle.bounds_model.specs.AnswerText.Spelling.{spelling, space_ratio_line, weighted_line}
+use Rattle.bounds_model.specs.AnswerText.Kinds.{centres_kind}
 use Rattle.bounds_model.specs.AnswerText.Formats.{bad_answer}
-use Rattle.bounds_model.specs.AnswerText.Reading.{reading}
-use Rattle.bounds_model.proofs.AnswerTexts.Worked.{circle_text}
+use Rattle.bounds_model.specs.AnswerText.Reading.{reading, reading_of}
+use Rattle.bounds_model.proofs.AnswerTexts.Worked.{circle_text, the_centres, centres_text}
 
 -- a sphere around one point
 abbrev one_point : Answer
@@ -18,10 +19,12 @@ one_point = sphere (record {
   supports = record { point = 7; weight = pos 1 } ∷ [];
 })
 
+-- its spelling
 one_point_spelled : spelling one_point ≡ codes "answer 1 sphere\nsize 0/1\ncenter 3 0 5 1\nsupports 1\n7 1\nend\n"
 unfolding digits first_line size_line count_line last_line space_ratio_line weighted_line
 one_point_spelled = refl
 
+-- its text
 one_point_read : reading (codes "answer 1 sphere\nsize 0/1\ncenter 3 0 5 1\nsupports 1\n7 1\nend\n") ≡ Ok one_point
 one_point_read = refl
 
@@ -33,10 +36,12 @@ no_leaves = centres (record {
   leaves = [];
 })
 
+-- its spelling
 no_leaves_spelled : spelling no_leaves ≡ codes "answer 1 centres\nsize 0/1\nsquares 1\n5 5 1\nleaves 0\nend\n"
 unfolding digits first_line size_line count_line last_line square_line leaf_line
 no_leaves_spelled = refl
 
+-- its text
 no_leaves_read : reading (codes "answer 1 centres\nsize 0/1\nsquares 1\n5 5 1\nleaves 0\nend\n") ≡ Ok no_leaves
 no_leaves_read = refl
 
@@ -48,8 +53,19 @@ at_limits = circle (record {
   supports = record { point = 9999; weight = pos 0 } ∷ [];
 })
 
+-- its text
 at_limits_read : reading (codes "answer 1 circle\nsize 85070591730234615865843651857942052864/1\ncenter 4 3 2\nsupports 1\n9999 0\nend\n") ≡ Ok at_limits
 at_limits_read = refl
+
+-- ---- some kinds alone
+
+-- where centres alone are known, their text reads as before
+centres_known : reading_of (centres_kind ∷ []) centres_text ≡ Ok the_centres
+centres_known = refl
+
+-- and the first line of another kind is refused
+circle_unknown : reading_of (centres_kind ∷ []) circle_text ≡ Err (bad_answer 1)
+circle_unknown = refl
 
 -- ---- beginnings
 

@@ -1,7 +1,6 @@
 -- A number that was written is read again, and a number that was read was written so.
-use Rattle.std.proofs.Common.{◌≡◌, ℕ, zero, suc, ◌+◌, ◌*◌, ◌/◌, ◌%◌, ◌^◌, ◌<◌, ◌≤◌, ℤ, pos, negsuc, nat_abs, Bool, true, false, not, ◌&&◌, cond, List, [], ◌∷◌, ◌++◌, length, get_or, refl, sym, ap, subst, ◌∙◌, append_assoc, arith}
+use Rattle.std.proofs.Common.{◌≡◌, ℕ, zero, suc, ◌+◌, ◌*◌, ◌/◌, ◌%◌, ◌^◌, ◌<◌, ◌≤◌, Bool, true, false, not, ◌&&◌, cond, List, [], ◌∷◌, ◌++◌, length, get_or, refl, sym, ap, ◌∙◌, append_assoc, arith}
 use Rattle.std.specs.Prelude.{Option, Some, None, decimal, ◌==◌, nat_lt}
-use Rattle.std.specs.Fmt.{signed_decimal}
 use Rattle.std.specs.List.{list_all}
 use Rattle.std.specs.Char.{digit_value, is_ascii_digit}
 use Rattle.std.specs.Str.{all_ascii_digits}
@@ -9,10 +8,9 @@ use Rattle.std.specs.Str.Parse.{AllDigits, digits_value, digits_value_after}
 use Rattle.std.proofs.lemmas.List.{append-nil, length-append, get_or_append_left}
 use Rattle.std.proofs.lemmas.Str.{digit_value_digit}
 use Rattle.std.proofs.lemmas.Str.Parse.{digit_from_value, tells_all_ascii_digits, numerals_by_value}
-use Rattle.std.proofs.lemmas.Bool.{eqb-true}
 use Rattle.std.proofs.lemmas.Bool.Decides.{nat_tests}
 use Rattle.std.proofs.lemmas.Fmt.{decimal_digit, decimal_step_wide, decimal_by_steps_wide, decimal_is_IsNumeral_wide}
-use Rattle.bounds_model.specs.AnswerText.Numerals.{◌>>=◌, is_numeral, natural_number, below_zero, whole_number}
+use Rattle.bounds_model.specs.AnswerText.Numerals.{◌>>=◌, is_numeral, natural_number}
 
 -- ---- tools
 
@@ -21,9 +19,11 @@ pub bind_some : {A B : Type 0} (r : Option A) (f : A → Option B) (y : B) → (
 bind_some (Some x) f y e = (x, refl, e)
 bind_some None f y e = absurd cc
 
+-- something
 abbrev given : {A : Type 0} → A → Option A
 given x = Some x
 
+-- two things that are given
 pub some_is : {A : Type 0} (x y : A) → given x ≡ given y → x ≡ y
 some_is x y e = cc
 
@@ -49,9 +49,11 @@ not_true false e = refl
 
 -- ---- words: lists of bytes above the blank
 
+-- each byte is above the blank
 abbrev pub is_word : List ℕ → Bool
 is_word bytes = list_all (λ b. nat_lt 32 b) bytes
 
+-- digits are a word
 digits_are_word : (ds : List ℕ) → AllDigits 10 ds → is_word ds ≡ true
 digits_are_word [] d = refl
 digits_are_word (c ∷ cs) d =
@@ -65,12 +67,14 @@ digits_are_word (c ∷ cs) d =
 abbrev Leads : ℕ → List ℕ → Type 0
 Leads n ds = (0 < length ds) × (0 < n → 48 < get_or ds 0 0) × (n ≡ 0 → length ds ≡ 1)
 
+-- the digits of a number are like that
 decimal_leads : (n : ℕ) → n < 10 ^ 64 → Leads n (decimal n)
 decimal_leads = decimal_by_steps_wide Leads (λ n l. (omega arith, λ p. omega arith, λ e. refl)) more
   where
     more : (n : ℕ) (ds : List ℕ) → 10 ≤ n → Leads (n / 10) ds → Leads n (ds ++ ((48 + n % 10) ∷ []))
     more n ds h l = (omega (arith, length-append ds ((48 + n % 10) ∷ [])), λ p. omega (arith, get_or_append_left ds ((48 + n % 10) ∷ []) 0 0 l.0, l.1 (omega arith)), λ e. absurd (omega arith))
 
+-- such digits are a numeral
 numeral_from_digits : (ds : List ℕ) → AllDigits 10 ds → 0 < length ds → (get_or ds 0 0 ≡ 48 → length ds ≡ 1) → is_numeral ds ≡ true
 numeral_from_digits [] d some lead = absurd (omega arith)
 numeral_from_digits (c ∷ []) d some lead = (both_true (is_ascii_digit c) true ((numerals_by_value _ tells_all_ascii_digits).from (c ∷ []) d)).0
@@ -79,6 +83,7 @@ numeral_from_digits (c ∷ e ∷ cs) d some lead =
     let first : (c == 48) ≡ false = grind (arith, nat_tests) in
     rw (first, (numerals_by_value _ tells_all_ascii_digits).from (c ∷ e ∷ cs) d) refl
 
+-- the digits of a number are a numeral
 pub is_numeral-decimal : (n : ℕ) → n < 10 ^ 64 → is_numeral (decimal n) ≡ true
 is_numeral-decimal n h =
     let l = decimal_leads n h in
@@ -88,16 +93,20 @@ is_numeral-decimal n h =
     elim_zero zero never = refl
     elim_zero (suc m) never = absurd (never (omega arith))
 
+-- a number that was written is read again
 pub natural_again : (n : ℕ) → n < 10 ^ 64 → natural_number (decimal n) ≡ Some n
 natural_again n h = ap (λ b. cond b (Some (digits_value 10 (decimal n))) None) (is_numeral-decimal n h) ∙ ap (λ k. Some k) (decimal_is_IsNumeral_wide n h).1
 
+-- a number is written as a word
 pub is_word-decimal : (n : ℕ) → n < 10 ^ 64 → is_word (decimal n) ≡ true
 is_word-decimal n h = digits_are_word (decimal n) (decimal_is_IsNumeral_wide n h).0.1
 
+-- more digits make no smaller number
 le_value_after : (n : ℕ) (ds : List ℕ) → n ≤ digits_value_after 10 n ds
 le_value_after n [] = omega arith
 le_value_after n (c ∷ cs) = omega (arith, le_value_after (n * 10 + digit_value c) cs)
 
+-- the digits of a number behind those of another
 decimal_value_after : (n : ℕ) (ds : List ℕ) → 0 < n → AllDigits 10 ds → digits_value_after 10 n ds < 10 ^ 64 → decimal (digits_value_after 10 n ds) ≡ decimal n ++ ds
 decimal_value_after n [] some d small = sym (append-nil (decimal n))
 decimal_value_after n (c ∷ cs) some d small =
@@ -109,6 +118,7 @@ decimal_value_after n (c ∷ cs) some d small =
     ∙ ap (λ x. x ++ cs) (decimal_step_wide m (omega arith) (omega (arith, le_value_after m cs)) ∙ (λ i. decimal (front i) ++ (end i ∷ [])))
     ∙ append_assoc (decimal n) (c ∷ []) cs
 
+-- a numeral has digits alone
 numeral_digits : (ds : List ℕ) → is_numeral ds ≡ true → AllDigits 10 ds
 numeral_digits [] e = absurd cc
 numeral_digits (c ∷ []) e = (numerals_by_value _ tells_all_ascii_digits).to (c ∷ []) (rw e refl)
@@ -131,6 +141,7 @@ decimal_value (c ∷ f ∷ cs) e small =
     decimal_value_after (0 * 10 + digit_value c) (f ∷ cs) (omega (arith, never)) d.1 small
     ∙ ap (λ x. x ++ (f ∷ cs)) (decimal_digit (0 * 10 + digit_value c) (omega (arith, d.0)) ∙ ap (λ x. x ∷ []) is)
 
+-- a number that was read was written so
 pub natural_back : (word : List ℕ) (n : ℕ) → natural_number word ≡ Some n → n < 10 ^ 64 → word ≡ decimal n
 natural_back word n e small =
     let g = guard_some (is_numeral word) (Some (digits_value 10 word)) n e in
@@ -141,6 +152,7 @@ natural_back word n e small =
 pub numeral_begins : (b : ℕ) (rest : List ℕ) → is_numeral (b ∷ rest) ≡ true → (47 < b) × (b < 58)
 numeral_begins b rest e = let in_range = digit_from_value b (numeral_digits (b ∷ rest) e).0 in (omega arith, omega arith)
 
+-- digits are no slashes
 no_slash_digits : (ds : List ℕ) → AllDigits 10 ds → list_all (λ b. not (b == 47)) ds ≡ true
 no_slash_digits [] d = refl
 no_slash_digits (c ∷ cs) d =
@@ -148,5 +160,6 @@ no_slash_digits (c ∷ cs) d =
     let other : (c == 47) ≡ false = grind (arith, nat_tests) in
     rw (other, no_slash_digits cs d.1) refl
 
+-- a number is written without a slash
 pub no_slash-decimal : (n : ℕ) → n < 10 ^ 64 → list_all (λ b. not (b == 47)) (decimal n) ≡ true
 no_slash-decimal n h = no_slash_digits (decimal n) (decimal_is_IsNumeral_wide n h).0.1

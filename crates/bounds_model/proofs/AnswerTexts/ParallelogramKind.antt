@@ -1,17 +1,18 @@
 -- The texts of parallelograms.
-use Rattle.std.proofs.Common.{◌≡◌, ℕ, zero, suc, ◌+◌, ◌≤◌, List, [], ◌∷◌, ◌++◌, length, map, refl, sym, ap, subst, ◌∙◌, append_assoc, arith}
+use Rattle.std.proofs.Common.{◌≡◌, ℕ, suc, ◌+◌, ◌≤◌, List, [], ◌∷◌, ◌++◌, length, map, refl, sym, ap, ◌∙◌, append_assoc, arith}
 use Rattle.std.specs.Prelude.{codes, All}
 use Rattle.std.specs.List.{flat_map}
 use Rattle.std.proofs.lemmas.List.{append-nil, length-map, length-append}
-use Rattle.std.proofs.lemmas.List.Elements.{All-nil, All-cons, All-head, All-tail, All-append}
+use Rattle.std.proofs.lemmas.List.Elements.{All-nil, All-cons, All-head, All-tail, All-append, All-same}
 use Rattle.bounds_model.specs.Fractions.{Fraction}
 use Rattle.bounds_model.specs.Plane.{PlanePoint}
 use Rattle.bounds_model.specs.Places.{IsPair, point_limit}
 use Rattle.bounds_model.specs.Fans.{HalfCone}
 use Rattle.bounds_model.specs.ParallelogramAnswer.{Chord, ChordPlaces, ParallelogramAnswer, ParallelogramPlaces}
-use Rattle.bounds_model.specs.Answers.{Answer, parallelogram}
-use Rattle.bounds_model.specs.AnswerText.Fields.{fraction, number, natural, index, point_number}
-use Rattle.bounds_model.specs.AnswerText.Formats.{untitled, Values, Count, count_format, Body}
+use Rattle.bounds_model.specs.Answers.{parallelogram}
+use Rattle.bounds_model.specs.AnswerText.Fields.{fraction, bounded}
+use Rattle.bounds_model.specs.AnswerText.LineFormats.{untitled, Values}
+use Rattle.bounds_model.specs.AnswerText.Formats.{count_format, Body}
 use Rattle.bounds_model.specs.AnswerText.Kinds.{parallelogram_kind, side_fields, chord_fields, chord, chorded_fields, chorded_cone, cone_chord, last_fields, last_vector, last_chord}
 use Rattle.bounds_model.specs.AnswerText.SpelledParts.{count_line}
 use Rattle.bounds_model.specs.AnswerText.Spelling.{spelling, chorded_line, last_chord_line, chorded_lines}
@@ -25,30 +26,38 @@ use Rattle.bounds_model.proofs.AnswerTexts.FanKinds.{fan_count, directions_of_al
 
 -- ---- chords
 
+-- a chord as the fields of a line
 chord_parts : Chord → Values chord_fields
 chord_parts k = (k.a, (k.b, (k.c, (k.beta, (k.gamma, (k.k, tt))))))
 
+-- a chord of such fields keeps its places
 chord_place : (v : Values chord_fields) → FieldPlaces chord_fields v → ChordPlaces (chord v)
 chord_place v p = record { a = p.0.1; b = p.1.0.1; c = p.1.1.0.1; beta = p.1.1.1.0; gamma = p.1.1.1.1.0; k = p.1.1.1.1.1.0 }
 
+-- the fields of a chord that keeps its places
 chord_fields_place : (v : Values chord_fields) → ChordPlaces (chord v) → FieldPlaces chord_fields v
 chord_fields_place v p = ((omega arith, p.a), ((omega arith, p.b), ((omega arith, p.c), (p.beta, (p.gamma, (p.k, tt))))))
 
+-- the spelled line of a cone and a chord is that of its format
 chorded_is : (v : Values chorded_fields) → chorded_line (chorded_cone v) (cone_chord v) ≡ format_line (untitled chorded_fields) v
 unfolding chorded_line
 chorded_is v = simp append_assoc
 
+-- the spelled line of the last direction is that of its format
 last_chord_is : (v : Values last_fields) → last_chord_line (last_vector v) (last_chord v) ≡ format_line (untitled last_fields) v
 unfolding last_chord_line
 last_chord_is v = simp append_assoc
 
+-- the spelled lines of all directions are those of the formats
 chorded_are : (vs : List (Values chorded_fields)) (end : Values last_fields) → chorded_lines (map chorded_cone vs) (last_vector end) (map cone_chord vs ++ last_chord end ∷ []) ≡ flat_map (format_line (untitled chorded_fields)) vs ++ format_line (untitled last_fields) end
 chorded_are [] end = last_chord_is end
 chorded_are (v ∷ vs) end = (λ i. chorded_is v i ++ chorded_are vs end i) ∙ sym (append_assoc (format_line (untitled chorded_fields) v) (flat_map (format_line (untitled chorded_fields)) vs) (format_line (untitled last_fields) end))
 
+-- the numbers of the cone are those of points
 abbrev HalfPoints : HalfCone → Type 0
 HalfPoints c = (c.high ≤ point_limit) × (c.low ≤ point_limit)
 
+-- the spelling of a parallelogram is the text of its format
 parallelogram_spelled : (size : Fraction) (b : Body parallelogram_kind.body) → spelling (parallelogram_kind.answer size b) ≡ kind_bytes parallelogram_kind size b
 parallelogram_spelled size b =
     let first = first_is (codes "parallelogram") in
@@ -59,6 +68,7 @@ parallelogram_spelled size b =
     let cones = chorded_are b.1.1.0 b.1.1.1.0 in
     simp (append_assoc, append-nil, first, second, one, two, amount, cones, last_is)
 
+-- parallelograms keep the laws
 pub parallelogram_law : KindLaw parallelogram_kind
 parallelogram_law = record {
   sound = record { name = refl; parts = λ b. (refl, (refl, (refl, (refl, tt)))) };
@@ -99,6 +109,7 @@ pub record Chorded (cones : List HalfCone) (chords : List Chord) : Type 0 where
   pub cones_are : map chorded_cone each ≡ cones
   pub chords_are : map cone_chord each ++ left ∷ [] ≡ chords
 
+-- cones and chords, one more of these, as lines
 chorded : (cones : List HalfCone) (chords : List Chord) → length chords ≡ suc (length cones) → Chorded cones chords
 unfolding chord_parts
 chorded [] [] e = absurd (omega arith)
@@ -114,9 +125,11 @@ chorded (c ∷ cones) (k ∷ chords) e =
       chords_are = ap (λ (xs : List Chord). k ∷ xs) others.chords_are;
     }
 
+-- the cone keeps its places
 abbrev HalfPlace : HalfCone → Type 0
 HalfPlace c = IsPair c.direction × HalfPoints c
 
+-- lines of cones and chords that keep their places fit
 chorded_fit : (vs : List (Values chorded_fields)) (left : Chord) → All HalfPlace (map chorded_cone vs) → All ChordPlaces (map cone_chord vs ++ left ∷ []) → AllFit (untitled chorded_fields) vs × ChordPlaces left
 chorded_fit [] left cones chords = (tt, All-head ChordPlaces left [] chords)
 chorded_fit (v ∷ vs) left cones chords =
@@ -125,6 +138,7 @@ chorded_fit (v ∷ vs) left cones chords =
     let q = All-head ChordPlaces (cone_chord v) (map cone_chord vs ++ left ∷ []) chords in
     ((line_fits chorded_fields v refl (p.0.x, (p.0.y, ((omega arith, p.1.0), ((omega arith, p.1.1), chord_fields_place v.1.1.1.1 q)))), others.0), others.1)
 
+-- a parallelogram that keeps its places is one that its format writes
 pub parallelogram_written : (a : ParallelogramAnswer) → ParallelogramPlaces a → Written (parallelogram a)
 unfolding chord_parts
 parallelogram_written a places =
@@ -132,7 +146,7 @@ parallelogram_written a places =
     let as-many : length a.chords ≡ suc (length a.fan.cones) = omega (arith, places.chord_for_each, length-append (map (λ (c : HalfCone). c.direction) a.fan.cones) (a.fan.last ∷ []), length-map a.fan.cones (λ (c : HalfCone). c.direction)) in
     let split = chorded a.fan.cones a.chords as-many in
     let cones : All HalfPlace a.fan.cones = λ k d l. (directions.0 k d l, places.fan.points k d l) in
-    let fits = chorded_fit split.each split.left (subst (λ (xs : List HalfCone). All HalfPlace xs) (sym split.cones_are) cones) (subst (λ (xs : List Chord). All ChordPlaces xs) (sym split.chords_are) places.chords) in
+    let fits = chorded_fit split.each split.left (All-same HalfPlace (map chorded_cone split.each) a.fan.cones split.cones_are cones) (All-same ChordPlaces (map cone_chord split.each ++ split.left ∷ []) a.chords split.chords_are places.chords) in
     let amount : length split.each ≡ length a.fan.cones = omega (arith, length-map split.each chorded_cone, ap length split.cones_are) in
     record {
       kind = parallelogram_kind;
@@ -149,8 +163,14 @@ parallelogram_written a places =
         chords = split.chords_are i;
       });
       size_fits = line_fits (fraction ∷ []) (a.size, tt) refl (places.size, tt);
-      body_fits = (line_fits side_fields (a.first.x, (a.first.y, (a.first_bounds.low, (a.first_bounds.high, tt)))) refl (places.first.x, (places.first.y, (places.first_bounds.low, (places.first_bounds.high, tt)))),
-      (line_fits side_fields (a.second.x, (a.second.y, (a.second_bounds.low, (a.second_bounds.high, tt)))) refl (places.second.x, (places.second.y, (places.second_bounds.low, (places.second_bounds.high, tt)))),
-      ((line_fits (index 2 10003 ∷ []) (length split.each + 1, tt) refl ((omega (arith, places.fan.count.at_least), omega (arith, places.fan.count.at_most)), tt), fits.0),
-      (line_fits last_fields (a.fan.last.x, (a.fan.last.y, chord_parts split.left)) refl (directions.1.x, (directions.1.y, chord_fields_place (chord_parts split.left) fits.1)), tt))));
+      body_fits = (
+        line_fits side_fields (a.first.x, (a.first.y, (a.first_bounds.low, (a.first_bounds.high, tt)))) refl (places.first.x, (places.first.y, (places.first_bounds.low, (places.first_bounds.high, tt)))),
+        (
+          line_fits side_fields (a.second.x, (a.second.y, (a.second_bounds.low, (a.second_bounds.high, tt)))) refl (places.second.x, (places.second.y, (places.second_bounds.low, (places.second_bounds.high, tt)))),
+          (
+            (line_fits (bounded 2 10003 ∷ []) (length split.each + 1, tt) refl ((omega (arith, places.fan.count.at_least), omega (arith, places.fan.count.at_most)), tt), fits.0),
+            (line_fits last_fields (a.fan.last.x, (a.fan.last.y, chord_parts split.left)) refl (directions.1.x, (directions.1.y, chord_fields_place (chord_parts split.left) fits.1)), tt),
+          ),
+        ),
+      );
     }

@@ -146,6 +146,10 @@ big_and_blank = refl
 not_lowest : reading (codes "answer 1 circle\nsize 50/8\ncenter 4 3 2\nsupports 2\n1 1\n2 1\nend\n") ≡ Err (bad_answer 2)
 not_lowest = refl
 
+-- a radius that is not in lowest terms
+square_not_lowest : reading (codes "answer 1 centres\nsize 6/4\nsquares 1\n3 3 2\nleaves 1\n0 1\nend\n") ≡ Err (bad_answer 2)
+square_not_lowest = refl
+
 -- a zero that is not written 0/1
 zero_size : reading (codes "answer 1 circle\nsize 0/4\ncenter 4 3 2\nsupports 2\n1 1\n2 1\nend\n") ≡ Err (bad_answer 2)
 zero_size = refl

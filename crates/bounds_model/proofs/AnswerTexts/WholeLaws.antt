@@ -1,9 +1,8 @@
 -- Whole numbers and fractions: what was written is read again, and what was read was written so.
-use Rattle.std.proofs.Common.{◌≡◌, ℕ, zero, suc, ◌+◌, ◌^◌, ◌<◌, ◌≤◌, ℤ, pos, negsuc, nat_abs, Bool, true, false, not, ◌&&◌, cond, List, [], ◌∷◌, ◌++◌, length, get_or, take, drop, refl, sym, ap, subst, ◌∙◌, append_assoc, arith, inl, inr}
-use Rattle.std.specs.Prelude.{Option, Some, None, decimal, ◌==◌, nat_lt, codes}
+use Rattle.std.proofs.Common.{◌≡◌, ℕ, zero, suc, ◌+◌, ◌^◌, ◌<◌, ◌≤◌, ℤ, pos, negsuc, nat_abs, Bool, true, false, not, ◌&&◌, cond, List, [], ◌∷◌, ◌++◌, length, take, drop, refl, sym, ap, subst, ◌∙◌, append_assoc, arith, inl, inr}
+use Rattle.std.specs.Prelude.{Option, Some, decimal, ◌==◌, nat_lt}
 use Rattle.std.specs.Fmt.{signed_decimal}
-use Rattle.std.specs.List.{list_all, prefix_len, position_or_len, before_first, after_first}
-use Rattle.std.specs.Char.{is_ascii_digit}
+use Rattle.std.specs.List.{list_all, position_or_len, before_first, after_first}
 use Rattle.std.proofs.lemmas.List.{take_at, drop_at, length-drop, nil_from_length}
 use Rattle.std.proofs.lemmas.List.Sums.{split_at_first, passes_at_first}
 use Rattle.std.proofs.lemmas.List.Folds.{list_all-append}
@@ -16,6 +15,7 @@ use Rattle.bounds_model.proofs.AnswerTexts.NumberLaws.{bind_some, some_is, both_
 
 -- ---- whole numbers
 
+-- digits are a whole number
 digits_are_whole : (word : List ℕ) → is_numeral word ≡ true → whole_number word ≡ (natural_number word >>= λ n. Some (pos n))
 digits_are_whole [] e = absurd cc
 digits_are_whole (b ∷ rest) e =
@@ -23,6 +23,7 @@ digits_are_whole (b ∷ rest) e =
     let first : (b == 45) ≡ false = grind (arith, nat_tests) in
     ap (λ t. cond t (natural_number rest >>= below_zero) (natural_number (b ∷ rest) >>= λ n. Some (pos n))) first
 
+-- a whole number that was written is read again
 pub whole_again : (z : ℤ) → nat_abs z < 10 ^ 64 → whole_number (signed_decimal z) ≡ Some z
 whole_again (pos n) small = digits_are_whole (decimal n) (is_numeral-decimal n small) ∙ ap (λ r. r >>= λ k. Some (pos k)) (natural_again n small)
 whole_again (negsuc n) small = ap (λ r. r >>= below_zero) (natural_again (suc n) small)
@@ -42,6 +43,7 @@ positive_back word n z read e small =
     let below : n < 10 ^ 64 = subst (λ (y : ℤ). nat_abs y < 10 ^ 64) (sym is) small in
     natural_back word n read below ∙ ap signed_decimal is
 
+-- with a minus sign and without
 whole_cases : (t : Bool) (b : ℕ) (rest : List ℕ) (z : ℤ) → (b == 45) ≡ t → cond t (natural_number rest >>= below_zero) (natural_number (b ∷ rest) >>= λ n. Some (pos n)) ≡ Some z
     → nat_abs z < 10 ^ 64 → b ∷ rest ≡ signed_decimal z
 whole_cases true b rest z test e small =
@@ -51,19 +53,23 @@ whole_cases false b rest z test e small =
     let r = bind_some (natural_number (b ∷ rest)) (λ n. Some (pos n)) z e in
     positive_back (b ∷ rest) r.0 z r.1 r.2 small
 
+-- a whole number that was read was written so
 pub whole_back : (word : List ℕ) (z : ℤ) → whole_number word ≡ Some z → nat_abs z < 10 ^ 64 → word ≡ signed_decimal z
 whole_back [] z e small = absurd cc
 whole_back (b ∷ rest) z e small = whole_cases (b == 45) b rest z refl e small
 
+-- a whole number is written as a word
 pub is_word-signed : (z : ℤ) → nat_abs z < 10 ^ 64 → is_word (signed_decimal z) ≡ true
 is_word-signed (pos n) small = is_word-decimal n small
 is_word-signed (negsuc n) small = is_word-decimal (suc n) small
 
 -- ---- fractions
 
+-- the byte is a slash
 abbrev is_slash : ℕ → Bool
 is_slash b = b == 47
 
+-- a whole number is written without a slash
 no_slash-signed : (z : ℤ) → nat_abs z < 10 ^ 64 → list_all (λ b. not (b == 47)) (signed_decimal z) ≡ true
 no_slash-signed (pos n) small = no_slash-decimal n small
 no_slash-signed (negsuc n) small = no_slash-decimal (suc n) small
@@ -76,28 +82,34 @@ slash_place (c ∷ front) back e =
     let more : 1 + position_or_len is_slash (front ++ 47 ∷ back) ≡ suc (length front) = omega (arith, slash_place front back parts.1) in
     ap (λ (t : Bool). cond t (1 + position_or_len is_slash (front ++ 47 ∷ back)) 0) parts.0 ∙ more
 
+-- what stands before the first slash
 before_slash : (front back : List ℕ) → list_all (λ b. not (b == 47)) front ≡ true → before_first is_slash (front ++ 47 ∷ back) ≡ front
 before_slash front back e = ap (λ k. take k (front ++ 47 ∷ back)) (slash_place front back e) ∙ take_at front (47 ∷ back) (length front) refl
 
+-- one byte more is left out
 drop_next : (k : ℕ) (xs : List ℕ) (x : ℕ) (ys : List ℕ) → drop k xs ≡ x ∷ ys → drop (suc k) xs ≡ ys
 drop_next zero [] x ys e = absurd cc
 drop_next zero (y ∷ xs) x ys e = ap (drop 1) e
 drop_next (suc k) [] x ys e = absurd cc
 drop_next (suc k) (y ∷ xs) x ys e = drop_next k xs x ys e
 
+-- what stands behind the first slash
 after_slash : (front back : List ℕ) → list_all (λ b. not (b == 47)) front ≡ true → after_first is_slash (front ++ 47 ∷ back) ≡ back
 after_slash front back e =
     let place : position_or_len is_slash (front ++ 47 ∷ back) + 1 ≡ suc (length front) = omega (arith, slash_place front back e) in
     ap (λ k. drop k (front ++ 47 ∷ back)) place ∙ drop_next (length front) (front ++ 47 ∷ back) 47 back (drop_at front (47 ∷ back) (length front) refl)
 
+-- a fraction is two numbers around a slash
 fraction_text_is : (a : Fraction) → fraction_text a ≡ signed_decimal a.n ++ 47 ∷ signed_decimal a.d
 fraction_text_is a = append_assoc (signed_decimal a.n) (47 ∷ []) (signed_decimal a.d)
 
+-- the parts of a fraction are read again
 fraction_of_parts : (a : Fraction) → nat_abs a.n < 10 ^ 64 → nat_abs a.d < 10 ^ 64 → fraction_of (signed_decimal a.n) (signed_decimal a.d) ≡ Some a
 fraction_of_parts a n-small d-small =
     ap (λ (r : Option ℤ). r >>= λ n. whole_number (signed_decimal a.d) >>= λ d. Some (record { n = n; d = d })) (whole_again a.n n-small)
     ∙ ap (λ (r : Option ℤ). r >>= λ d. Some (record { n = a.n; d = d })) (whole_again a.d d-small)
 
+-- a fraction that was written is read again
 pub fraction_again : (a : Fraction) → nat_abs a.n < 10 ^ 64 → nat_abs a.d < 10 ^ 64 → fraction_number (fraction_text a) ≡ Some a
 fraction_again a n-small d-small =
     let front = before_slash (signed_decimal a.n) (signed_decimal a.d) (no_slash-signed a.n n-small) in
@@ -117,6 +129,7 @@ slash_splits word z e = elim (cases_lt (position_or_len is_slash word) (length w
     drop_past : (k : ℕ) (xs : List ℕ) → length xs ≤ k → drop k xs ≡ []
     drop_past k xs le = nil_from_length (drop k xs) (omega (arith, length-drop k xs))
 
+-- a fraction that was read was written so
 pub fraction_back : (word : List ℕ) (a : Fraction) → fraction_number word ≡ Some a → nat_abs a.n < 10 ^ 64 → nat_abs a.d < 10 ^ 64 → word ≡ fraction_text a
 fraction_back word a e n-small d-small =
     parts_back (before_first is_slash word) (after_first is_slash word) a e n-small d-small word (λ z read. slash_splits word z read)
@@ -131,6 +144,7 @@ fraction_back word a e n-small d-small =
         let back-is : back ≡ signed_decimal f.d = whole_back back f.d (q.1 ∙ ap (λ (g : Fraction). Some g.d) is) d-small in
         splits q.0 q.1 ∙ ap (λ (x : List ℕ). x ++ 47 ∷ back) front-is ∙ ap (λ (x : List ℕ). signed_decimal f.n ++ 47 ∷ x) back-is ∙ sym (fraction_text_is f)
 
+-- a fraction is written as a word
 pub is_word-fraction : (a : Fraction) → nat_abs a.n < 10 ^ 64 → nat_abs a.d < 10 ^ 64 → is_word (fraction_text a) ≡ true
 is_word-fraction a n-small d-small =
     let whole = list_all-append (λ b. nat_lt 32 b) (signed_decimal a.n) (47 ∷ signed_decimal a.d) in
