@@ -1,4 +1,4 @@
--- The text of an answer: its one spelling, what a text reads as, and the laws that join the two.
+-- The text of an answer: its one spelling, and what a text reads as.
 pub mod SpelledParts
 pub mod SpelledCentres
 pub mod Spelling
@@ -9,4 +9,3 @@ pub mod LineFormats
 pub mod Formats
 pub mod Kinds
 pub mod Reading
-pub mod Laws
