@@ -18,6 +18,10 @@ end_twice = refl
 no_last_feed : reading (codes "answer 1 circle\nsize 25/4\ncenter 4 3 2\nsupports 2\n1 1\n2 1\nend") ≡ Err (bad_answer 7)
 no_last_feed = refl
 
+-- a number past the limit in a last line without its line feed
+unended_big : reading (codes "answer 1 circle\nsize 25/4\ncenter 4 3 85070591730234615865843651857942052865") ≡ Err (bad_answer 3)
+unended_big = refl
+
 -- with a byte behind the last line
 more_bytes : reading (codes "answer 1 circle\nsize 25/4\ncenter 4 3 2\nsupports 2\n1 1\n2 1\nend\n ") ≡ Err (bad_answer 8)
 more_bytes = refl
