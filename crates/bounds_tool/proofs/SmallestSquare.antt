@@ -4,7 +4,8 @@ use Rattle.std.specs.Int.{int_max}
 use Rattle.std.proofs.lemmas.Int.{ints}
 use Rattle.std.proofs.lemmas.List.Elements.{All-cons, All-nil}
 use Rattle.integers.specs.Extremes.{greatest, least}
-use Rattle.integers.proofs.Extremes.{below_greatest, above_least, left-le-max, right-le-max}
+use Rattle.integers.proofs.Extremes.{below_greatest, above_least}
+use Rattle.integers.proofs.MaxMin.{left-le-max, right-le-max}
 use Rattle.integers.proofs.Identities.{den-ring, read, polys, lits, below_lits}
 use Rattle.integers.proofs.Order.{nonneg_mul, le_by, le_of_mul_le, mul_le_left, nonneg_difference, combine1}
 use Rattle.bounds_model.specs.Plane.{PlanePoint, PlaneRatio, point_at, origin}

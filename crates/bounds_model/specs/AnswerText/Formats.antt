@@ -5,7 +5,7 @@ use Rattle.bounds_model.specs.AnswerText.LineFormats.{LineFormat, titled, untitl
 
 -- why a text is refused, and at which line
 pub data Refusal : Type 0 where
-  bad_answer : ℕ → Refusal  -- the line is not what the lines before it call for
+  bad_answer : ℕ → Refusal  -- the line is not what the lines before it call for, or a number is outside the range of its place
   big_number : ℕ → Refusal  -- a number of the line is past the limit
 
 -- one step after another, up to the first refusal

@@ -1,5 +1,5 @@
 -- The one spelling of an answer.
-use Rattle.std.specs.Prelude.{ℕ, zero, suc, ◌+◌, ◌-◌, ◌*◌, ℤ, List, [], ◌∷◌, ◌++◌, length, take, drop, decimal, codes}
+use Rattle.std.specs.Prelude.{◌≡◌, ℕ, zero, suc, ◌+◌, ◌-◌, ◌*◌, ℤ, List, [], ◌∷◌, ◌++◌, length, take, drop, decimal, codes}
 use Rattle.std.specs.Fmt.{signed_decimal}
 use Rattle.std.specs.List.{flat_map}
 use Rattle.bounds_model.specs.Plane.{PlanePoint}
@@ -13,7 +13,7 @@ use Rattle.bounds_model.specs.AnnulusAnswer.{WeightedPair, AnnulusAnswer}
 use Rattle.bounds_model.specs.EmptyAnswer.{Blocker, side, point, EmptyAnswer}
 use Rattle.bounds_model.specs.KgonAnswer.{KgonAnswer}
 use Rattle.bounds_model.specs.DistanceAnswer.{DistanceAnswer}
-use Rattle.bounds_model.specs.Answers.{Answer, circle, sphere, rectangle, parallelogram, strip, annulus, empty, kgon, distance, centres}
+use Rattle.bounds_model.specs.Answers.{Answer, HasPlaces, circle, sphere, rectangle, parallelogram, strip, annulus, empty, kgon, distance, centres}
 use Rattle.bounds_model.specs.AnswerText.SpelledParts.{pair_text, points_text, first_line, size_line, count_line, pair_line, four_line, fraction_line, plane_ratio_line, direction_line, index_line, last_line}
 use Rattle.bounds_model.specs.AnswerText.SpelledCentres.{centres_spelling}
 
@@ -164,7 +164,7 @@ kgon_spelling a = first_line (codes "kgon") ++ size_line a.size
 
 -- ---- distance
 
--- the direction from one set to the other
+-- the direction from the second set to the first
 unfoldable pub space_direction_line : SpacePoint → List ℕ
 space_direction_line d = codes "direction " ++ pair_text d.x d.y ++ codes " " ++ signed_decimal d.z ++ codes "\n"
 
@@ -188,3 +188,8 @@ spelling (empty a) = empty_spelling a
 spelling (kgon a) = kgon_spelling a
 spelling (distance a) = distance_spelling a
 spelling (centres a) = centres_spelling a
+
+-- the bytes are the spelling of the answer, which keeps its places
+pub record Spells (bytes : List ℕ) (answer : Answer) : Type 0 where
+  pub places : HasPlaces answer
+  pub spelled : bytes ≡ spelling answer

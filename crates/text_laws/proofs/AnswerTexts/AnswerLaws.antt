@@ -12,7 +12,7 @@ use Rattle.bounds_model.specs.AnswerText.Formats.{Refusal, ◌>>=◌, Unread, li
 use Rattle.bounds_model.specs.AnswerText.Kinds.{Kind, kinds, first_format, size_format, last_format}
 use Rattle.bounds_model.specs.AnswerText.Reading.{ended, answer_at, kind_of, answer_of, all_lines, reading_of}
 use Rattle.bounds_model.specs.AnswerText.Spelling.{spelling}
-use Rattle.text_laws.specs.Laws.{KeepsPlaces}
+use Rattle.bounds_model.specs.Answers.{HasPlaces}
 use Rattle.text_laws.proofs.AnswerTexts.NumberLaws.{some_is}
 use Rattle.text_laws.proofs.AnswerTexts.ValueLaws.{Fits, none_fit}
 use Rattle.text_laws.proofs.AnswerTexts.FormLaws.{then_again, bind_ok, read_is, is_format, format_line, unread, format_lines, line_again, line_back}
@@ -127,7 +127,7 @@ pub record KindLaw (kind : Kind) : Type 0 where
   pub sound : IsKind kind
   pub named : (lines : List (List ℕ)) → kind_of kinds (record { number = 1; lines = format_line (first_format kind.name) tt ∷ lines }) ≡ Some kind
   pub spelled : (size : Fraction) (body : Body kind.body) → spelling (kind.answer size body) ≡ kind_bytes kind size body
-  pub places : (size : Fraction) (body : Body kind.body) → Fits (fraction ∷ []) (size, tt) → BodyFits kind.body [] body → KeepsPlaces (kind.answer size body)
+  pub places : (size : Fraction) (body : Body kind.body) → Fits (fraction ∷ []) (size, tt) → BodyFits kind.body [] body → HasPlaces (kind.answer size body)
   pub short : (body : Body kind.body) → BodyFits kind.body [] body → text_bound kind body < 2 ^ 23
 
 -- an answer as a size and a body of its kind

@@ -9,7 +9,9 @@ use Rattle.bounds_model.specs.AnswerText.Formats.{line_at}
 use Rattle.bounds_model.specs.AnswerText.Kinds.{Kind, kinds, first_format}
 use Rattle.bounds_model.specs.AnswerText.Reading.{ended, kind_of, answer_of, all_lines, reading_of}
 use Rattle.bounds_model.specs.AnswerText.Spelling.{spelling}
-use Rattle.text_laws.specs.Laws.{KeepsPlaces, Spells, ReadsWhatIsSpelled, SpellsOne, BeginsNoOther, IsSpelledShort}
+use Rattle.text_laws.specs.Laws.{ReadsWhatIsSpelled, SpellsOne, BeginsNoOther, IsSpelledShort}
+use Rattle.bounds_model.specs.Answers.{HasPlaces}
+use Rattle.bounds_model.specs.AnswerText.Spelling.{Spells}
 use Rattle.text_laws.proofs.AnswerTexts.LineLaws.{concat-lines_of}
 use Rattle.text_laws.proofs.AnswerTexts.FormLaws.{read_is}
 use Rattle.text_laws.proofs.AnswerTexts.AnswerLaws.{kind_bytes, text_length, Found, answer_back, ended_back, KindLaw, Written, written_again, found_kind}
@@ -21,7 +23,7 @@ use Rattle.text_laws.proofs.AnswerTexts.EmptyKind.{empty_law, empty_written}
 use Rattle.text_laws.proofs.AnswerTexts.KgonKind.{kgon_law, kgon_written}
 
 -- each answer that keeps its places is one of its kind
-pub written : (answer : Answer) → KeepsPlaces answer → Written answer
+pub written : (answer : Answer) → HasPlaces answer → Written answer
 written (circle a) places = circle_written a places
 written (sphere a) places = sphere_written a places
 written (rectangle a) places = rectangle_written a places
@@ -50,7 +52,7 @@ read_again answer bytes s =
 -- a text that was read as an answer of a kind spells it
 found_spells : (kind : Kind) (bytes : List ℕ) (answer : Answer) → KindLaw kind → Found kind (concat (lines_of bytes)) answer → Spells bytes answer
 found_spells kind bytes answer law found = record {
-  places = subst KeepsPlaces found.is (law.places found.size found.body found.size_fits found.body_fits);
+  places = subst HasPlaces found.is (law.places found.size found.body found.size_fits found.body_fits);
   spelled = sym (concat-lines_of bytes) ∙ found.text ∙ sym (law.spelled found.size found.body) ∙ ap spelling found.is;
 }
 
