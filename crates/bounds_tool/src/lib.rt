@@ -7,11 +7,13 @@
 //! - `square`, `printing`: the output for one centre, and its text
 #![tactic(auto)]
 
+mod cause;
 mod command;
 mod point_file;
 mod printing;
 mod square;
 mod status;
+mod telling;
 mod words;
 
 pub use command::run;

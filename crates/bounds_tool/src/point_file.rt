@@ -1,9 +1,10 @@
 //! The points of a file.
-ghost use Rattle.std.specs.Prelude.{◌≡◌, ◌⊎◌, ◌+◌, ◌≤◌, max, [], IsTrue, IfSome, IfOk, IfErr, OnOk, Err};
+ghost use Rattle.std.specs.Prelude.{◌≡◌, ◌+◌, ◌≤◌, max, [], IsTrue, IfSome, IfOk, IfErr, OnOk};
 ghost use Rattle.bnd_io.specs.Files.{Continues, bytes_of};
-ghost use Rattle.bounds_tool.specs.Run.{accepted, judged_bytes, point_file_limit, IsRefusal, FileFault};
+ghost use Rattle.bounds_tool.specs.Causes.{meant};
+ghost use Rattle.bounds_tool.specs.Run.{accepted, judged_bytes, point_file_limit, FileCause};
 
-use crate::Status;
+use crate::cause::Cause;
 use bnd_io::{Files, LoadFault, load};
 use bounded_coords::Ask;
 use point_text::{Form, OwnedSets, TextFault, parse};
@@ -12,35 +13,34 @@ use std::alloc::Global;
 // The most bytes of a point file.
 const POINT_FILE_LIMIT: u32 = 1 << 21;
 
-/// Opens a file, reads it to its end or to its limit, and then judges its text. An `Err` is the status that the run ends
-/// with.
+/// Opens a file, reads it to its end or to its limit, and then judges its text.
 pub(crate) fn read_points<F: Files>(
     alloc: Global,
     name: &str,
     files: &mut F,
-) -> Result<OwnedSets, Status>
+) -> Result<OwnedSets, Cause>
     ensures continues { Continues (F.state files.old) (F.state files.new) }
     ensures points { IfOk result (λ sets. IfSome (F.state files.old).told (λ folder. judged_bytes (bytes_of folder name.now) ≡ accepted sets)) }
     ensures to_its_end { OnOk result (IsTrue (F.state files.new).ended) }
     ensures some { IfOk result (λ sets. sets ≡ [] → ⊥) }
     ensures most { (F.state files.new).taken ≤ max (F.state files.old).taken (point_file_limit + 1) }
-
-    ensures input { result ≡ Err Status.Input → IfSome (F.state files.old).told (λ folder. IsRefusal (judged_bytes (bytes_of folder name.now))) }
-    ensures read { result ≡ Err Status.Read → FileFault F.last_count name.now (F.state files.old) (F.state files.new) }
-    ensures others { IfErr result (λ status. (status ≡ Status.Input) ⊎ (status ≡ Status.Read) ⊎ (status ≡ Status.Memory)) }
+    ensures cause { IfErr result (λ cause. FileCause F.last_count name.now (F.state files.old) (F.state files.new) (meant cause)) }
 {
     if files.open(name).is_err() {
-        return Err(Status::Read);
+        return Err(Cause::PointsNotOpened);
     }
     let bytes = match load(alloc, files, POINT_FILE_LIMIT) {
         Ok(bytes) => bytes,
-        Err(LoadFault::ReadFailed) => return Err(Status::Read),
-        Err(LoadFault::TooLong) => return Err(Status::Input),
-        Err(LoadFault::OutOfMemory) => return Err(Status::Memory),
+        Err(LoadFault::ReadFailed) => return Err(Cause::PointsNotRead),
+        Err(LoadFault::TooLong) => return Err(Cause::PointsTooLong),
+        Err(LoadFault::OutOfMemory) => return Err(Cause::OutOfMemory),
     };
     match parse(alloc, bytes.as_slice(), Form::Text, &Ask::Centres(1)) {
         Ok(sets) => Ok(sets),
-        Err(TextFault::OutOfMemory) => Err(Status::Memory),
-        Err(_) => Err(Status::Input),
+        Err(TextFault::BadLine(line)) => Err(Cause::BadLine(line)),
+        Err(TextFault::OutOfRange(line)) => Err(Cause::OutOfRange(line)),
+        Err(TextFault::TooMany(line)) => Err(Cause::TooMany(line)),
+        Err(TextFault::NoPoints(set)) => Err(Cause::NoPoints(set)),
+        Err(TextFault::OutOfMemory) => Err(Cause::OutOfMemory),
     }
 }

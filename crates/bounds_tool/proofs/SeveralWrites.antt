@@ -1,0 +1,34 @@
+-- What a sink receives from several writes, the last of which may fail.
+use Rattle.std.proofs.Common.{◌≡◌, ◌⊎◌, ℕ, ◌+◌, ◌<◌, ◌≤◌, List, ◌++◌, take, length, inl, inr, sym, subst, arith, length-append}
+use Rattle.std.proofs.Math.Seq.{take-append-add}
+use Rattle.std.proofs.lemmas.List.{take-append-le}
+use Rattle.std.specs.declared.option.Option.{Option}
+use Rattle.std.specs.declared.option.Option.TheVariants.{Some, None}
+use Rattle.std.specs.Prelude.{Result, Ok, Err, OnErr}
+use Rattle.bnd_io.specs.Faults.{Rose}
+use Rattle.bnd_io.specs.Sinks.{SinkState, SinkContinues, Appended, AppendedPrefix}
+use Rattle.bnd_io.proofs.Writes.{Appended-append}
+
+-- a count that rose later rose
+pub Rose-earlier : (last : Option ℕ) (first before now : ℕ) → first ≤ before → Rose last before now → Rose last first now
+Rose-earlier None first before now h r = omega arith
+Rose-earlier (Some last) first before now h (inl r) = inl (omega arith)
+Rose-earlier (Some last) first before now h (inr e) = inr e
+
+-- a whole piece and then a prefix of the next one are a prefix of both
+pub AppendedPrefix-append : (a b c : SinkState) (xs ys : List ℕ) → Appended a b xs → SinkContinues b c → AppendedPrefix b c ys → AppendedPrefix a c (xs ++ ys)
+AppendedPrefix-append a b c xs ys first on then =
+    (length xs + then.0, omega (arith, then.1, length-append xs ys), subst (λ piece. Appended a c piece) (sym (take-append-add xs ys then.0)) (Appended-append a b c xs (take then.0 ys) first on then.2))
+
+-- a prefix of the first piece is a prefix of both
+pub AppendedPrefix-first : (a b : SinkState) (xs ys : List ℕ) → AppendedPrefix a b xs → AppendedPrefix a b (xs ++ ys)
+AppendedPrefix-first a b xs ys h = (h.0, omega (arith, h.1, length-append xs ys), subst (λ piece. Appended a b piece) (sym (take-append-le h.0 xs ys h.1)) h.2)
+
+-- what holds anyway holds of an error
+pub on_any_err : {T E P : Type 0} (r : Result T E) → P → OnErr r P
+on_any_err (Ok x) p = tt
+on_any_err (Err e) p = p
+
+-- one write after another
+pub SinkContinues-trans : (a b c : SinkState) → SinkContinues a b → SinkContinues b c → SinkContinues a c
+SinkContinues-trans a b c h k = record { faults = omega (arith, h.faults, k.faults); told = λ t. h.told (k.told t) }

@@ -1,0 +1,28 @@
+use Rattle.std.proofs.Common.{◌++◌, decimal, ◌≡◌, ◌∙◌, subst}
+use Rattle.std.proofs.lemmas.Result.{on_err_weaker}
+use Rattle.bnd_io.specs.Sinks.{Appended, AppendedPrefix}
+use Rattle.bounds_tool.proofs.SeveralWrites.{AppendedPrefix-append, AppendedPrefix-first, SinkContinues-trans, on_any_err}
+use Rattle.bounds_tool.proofs.telling.write_numbered.Goals as goal
+
+pub returns-in_err-write_all-2-clause-prefix : goal.returns-in_err-write_all-2-clause-prefix
+returns-in_err-write_all-2-clause-prefix g c =
+    let at = g.E.Sink.state in
+    let digits : c.as_bytes.result.now ≡ decimal c.args.number = c.as_bytes.ensures.value ∙ c.format.ensures.text in
+    let prefix : AppendedPrefix (at c.write_all.new.out) (at c.write_all-2.new.out) (decimal c.args.number) =
+    subst (λ piece. AppendedPrefix (at c.write_all.new.out) (at c.write_all-2.new.out) piece) digits c.in_err-write_all-2.ensures.prefix in
+    on_any_err c.from_residual-in_err-write_all-2.result
+    (AppendedPrefix-append (at c.args.err.now) (at c.write_all.new.out) (at c.write_all-2.new.out) c.args.before.now (decimal c.args.number ++ c.args.after.now)
+    c.in_ok-write_all.ensures.written c.in_err-write_all-2.ensures.continues
+    (AppendedPrefix-first (at c.write_all.new.out) (at c.write_all-2.new.out) (decimal c.args.number) c.args.after.now prefix))
+
+pub returns-clause-prefix : goal.returns-clause-prefix
+returns-clause-prefix g c =
+    let at = g.E.Sink.state in
+    let digits : c.as_bytes.result.now ≡ decimal c.args.number = c.as_bytes.ensures.value ∙ c.format.ensures.text in
+    let second : Appended (at c.write_all.new.out) (at c.write_all-2.new.out) (decimal c.args.number) =
+    subst (λ piece. Appended (at c.write_all.new.out) (at c.write_all-2.new.out) piece) digits c.in_ok-write_all-2.ensures.written in
+    on_err_weaker c.write_all-3.result
+    (λ third. AppendedPrefix-append (at c.args.err.now) (at c.write_all.new.out) (at c.write_all-3.new.out) c.args.before.now (decimal c.args.number ++ c.args.after.now)
+    c.in_ok-write_all.ensures.written (SinkContinues-trans (at c.write_all.new.out) (at c.write_all-2.new.out) (at c.write_all-3.new.out) c.in_ok-write_all-2.ensures.continues c.write_all-3.ensures.continues)
+    (AppendedPrefix-append (at c.write_all.new.out) (at c.write_all-2.new.out) (at c.write_all-3.new.out) (decimal c.args.number) c.args.after.now second c.write_all-3.ensures.continues third))
+    c.write_all-3.ensures.prefix
