@@ -42,14 +42,14 @@ pub space_clamped : (x y z : ℤ) → space_meaning (Some (clamped x) ∷ Some (
 space_clamped x y z =
     let point : ℤ → ℤ → ℤ → Meaning SpacePoint = λ x y z. says_point (record { x = x; y = y; z = z }) in
     let parted = λ (x y z : ℤ). cond_and (is_within space_limit x && is_within space_limit y) (is_within space_limit z) (point x y z) out_of_bounds
-        ∙ cond_and (is_within space_limit x) (is_within space_limit y) (cond (is_within space_limit z) (point x y z) out_of_bounds) out_of_bounds in
+    ∙ cond_and (is_within space_limit x) (is_within space_limit y) (cond (is_within space_limit z) (point x y z) out_of_bounds) out_of_bounds in
     let last : ℤ → ℤ → ℤ → Meaning SpacePoint = λ x y z. cond (is_within space_limit z) (point x y z) out_of_bounds in
     let second : ℤ → ℤ → ℤ → Meaning SpacePoint = λ x y z. cond (is_within space_limit y) (last x y z) out_of_bounds in
     parted (clamped x) (clamped y) (clamped z)
     ∙ (through_clamp space_limit x (omega arith) (λ x. second x (clamped y) (clamped z)) out_of_bounds
     ∙ (ap (λ m. cond (is_within space_limit x) m out_of_bounds)
-      (through_clamp space_limit y (omega arith) (λ y. last x y (clamped z)) out_of_bounds
-      ∙ ap (λ m. cond (is_within space_limit y) m out_of_bounds) (through_clamp space_limit z (omega arith) (point x y) out_of_bounds))
+    (through_clamp space_limit y (omega arith) (λ y. last x y (clamped z)) out_of_bounds
+    ∙ ap (λ m. cond (is_within space_limit y) m out_of_bounds) (through_clamp space_limit z (omega arith) (point x y) out_of_bounds))
     ∙ sym (parted x y z)))
 
 -- ---- fields

@@ -130,7 +130,7 @@ two_numbers = refl
 
 apart : sets_of_text ask_distance (codes "0 0 0\n---\n3 0 0\n0 3 0\n0 0 3\n")
     ≡ Ok (two (at_height (pos 0) (pos 0) (pos 0) ∷ [])
-      (at_height (pos 3) (pos 0) (pos 0) ∷ at_height (pos 0) (pos 3) (pos 0) ∷ at_height (pos 0) (pos 0) (pos 3) ∷ []))
+    (at_height (pos 3) (pos 0) (pos 0) ∷ at_height (pos 0) (pos 3) (pos 0) ∷ at_height (pos 0) (pos 0) (pos 3) ∷ []))
 unfolding sets_of_text
 apart = refl
 

@@ -32,4 +32,3 @@ text_lines_cut b [] = elim (is_line_feed b) as (λ v. is_line_feed b ≡ v → I
 text_lines_cut b (c ∷ rest) =
     let later : IsCut (c ∷ rest) = text_lines_cut c rest in
     elim (is_line_feed b) as (λ v. is_line_feed b ≡ v → IsCut (b ∷ c ∷ rest)) [ true ↦ cut_at_feed b (c ∷ rest) | false ↦ λ other. cut_past b (c ∷ rest) other later ] refl
-

@@ -24,7 +24,7 @@ lines-preserved-in-EndOfSet g c =
     let next = c.end_set.new.self in
     rw c.cut.ensures.after
     (HasRead-more meaning c.args.bytes.now c.lines.rest.now c.lines.number c.lines.sets next ends_set read some says refl
-      (rw (sets_of-end read.before) (c.end_set.ensures.sets (sets_of read.before) read.keeps)) (omega (arith, c.end_set.ensures.count)))
+    (rw (sets_of-end read.before) (c.end_set.ensures.sets (sets_of read.before) read.keeps)) (omega (arith, c.end_set.ensures.count)))
 
 pub lines-preserved : goal.lines-preserved
 lines-preserved g c =
@@ -37,7 +37,7 @@ lines-preserved g c =
     let free : length (last_set sets) < most_points = omega (arith, read.keeps.room, other) in
     rw c.cut.ensures.after
     (HasRead-more meaning c.args.bytes.now c.lines.rest.now c.lines.number c.lines.sets c.add.new.self (says_point c.in-Point.p) read some says (point_taken read.before c.in-Point.p free)
-      (rw (sets_of-point read.before c.in-Point.p) (c.in-Ok.ensures.sets sets read.keeps)) (omega (arith, c.in-Ok.ensures.count)))
+    (rw (sets_of-point read.before c.in-Point.p) (c.in-Ok.ensures.sets sets read.keeps)) (omega (arith, c.in-Ok.ensures.count)))
 
 pub returns-in-Err-Full-clause-refused : goal.returns-in-Err-Full-clause-refused
 returns-in-Err-Full-clause-refused g c =

@@ -21,7 +21,7 @@ unfolding sets_of_text
 returns-in_err-read_sets-in-Distance c =
     rw c.in-Distance.is
     (judged_exit space_sets (meanings space_meaning c.args.bytes.now) _ c.from_residual-in_err-read_sets-in-Distance.result c.from_residual-in_err-read_sets-in-Distance.ensures.1
-      c.in_err-read_sets-in-Distance.ensures.refused)
+    c.in_err-read_sets-in-Distance.ensures.refused)
 
 pub returns-in_ok-read_sets-in-Distance : goal.returns-in_ok-read_sets-in-Distance
 unfolding sets_of_text
@@ -35,7 +35,7 @@ unfolding sets_of_text
 returns-in_err-read_sets-in-Empty c =
     rw c.in-Empty.is
     (judged_exit plane_set_or_bare (meanings plane_meaning c.args.bytes.now) _ c.from_residual-in_err-read_sets-in-Empty.result c.from_residual-in_err-read_sets-in-Empty.ensures.1
-      c.in_err-read_sets-in-Empty.ensures.refused)
+    c.in_err-read_sets-in-Empty.ensures.refused)
 
 pub returns-in_ok-read_sets-in-Empty : goal.returns-in_ok-read_sets-in-Empty
 unfolding sets_of_text
@@ -48,7 +48,7 @@ pub returns-in_err-read_sets-in_default : goal.returns-in_err-read_sets-in_defau
 returns-in_err-read_sets-in_default c =
     rw (plane_text c.args.ask.now c.args.bytes.now c.in_default.not-Sphere c.in_default.not-Distance c.in_default.not-Empty)
     (judged_exit plane_set (meanings plane_meaning c.args.bytes.now) _ c.from_residual-in_err-read_sets-in_default.result c.from_residual-in_err-read_sets-in_default.ensures.1
-      c.in_err-read_sets-in_default.ensures.refused)
+    c.in_err-read_sets-in_default.ensures.refused)
 
 pub returns-in_ok-read_sets-in_default : goal.returns-in_ok-read_sets-in_default
 returns-in_ok-read_sets-in_default c =
