@@ -1,59 +1,70 @@
 -- Clamped coordinates are as good as the coordinates themselves.
-use Rattle.std.proofs.Common.{◌≡◌, ◌∙◌, refl, ap, ℤ, pos, negsuc, neg_ℤ, ◌+◌, ◌&&◌, Bool, true, false, cond, min, [], ◌∷◌, Option, Some, None, arith, suc}
+use Rattle.std.proofs.Common.{◌≡◌, ◌∙◌, refl, sym, ap, ℕ, ℤ, pos, negsuc, neg_ℤ, ◌+◌, ◌≤◌, ◌&&◌, Bool, true, false, cond, min, List, [], ◌∷◌, Option, Some, None, arith, suc}
 use Rattle.std.proofs.lemmas.Int.{ints}
 use Rattle.std.proofs.lemmas.Bool.Decides.{nat_tests}
 use Rattle.std.specs.Option.{option_map}
-use Rattle.bounds_model.specs.Plane.{plane_limit}
-use Rattle.bounds_model.specs.PointText.{is_within, says_point, bad_form, out_of_bounds, numbers_meaning}
+use Rattle.bounds_model.specs.Plane.{PlanePoint, plane_limit}
+use Rattle.bounds_model.specs.Space.{SpacePoint, space_limit}
+use Rattle.bounds_model.specs.PointText.{Meaning, is_within, says_point, bad_form, out_of_bounds, plane_meaning, space_meaning}
 use Rattle.point_text.specs.Clamps.{clamped}
+use Rattle.point_text.specs.Lines.{HasNoNumber}
 
 -- a number is in bounds where its clamped one is
-clamped_test : (z : ℤ) → is_within plane_limit (clamped z) ≡ is_within plane_limit z
-clamped_test (pos n) = grind (arith, nat_tests)
-clamped_test (negsuc n) = grind (arith, ints, nat_tests)
+clamped_test : (limit : ℕ) (z : ℤ) → limit ≤ 200000 → is_within limit (clamped z) ≡ is_within limit z
+clamped_test limit (pos n) small = grind (arith, nat_tests)
+clamped_test limit (negsuc n) small = grind (arith, ints, nat_tests)
 
 -- a number in bounds is its own clamped number
-clamped_same : (z : ℤ) → is_within plane_limit z ≡ true → clamped z ≡ z
-clamped_same (pos n) test = ap pos (grind (arith, nat_tests))
-clamped_same (negsuc n) test =
+clamped_same : (limit : ℕ) (z : ℤ) → limit ≤ 200000 → is_within limit z ≡ true → clamped z ≡ z
+clamped_same limit (pos n) small test = ap pos (grind (arith, nat_tests))
+clamped_same limit (negsuc n) small test =
     let same : min (n + 1) 200001 ≡ suc n = grind (arith, nat_tests) in
     ap (λ m. neg_ℤ (pos m)) same
 
--- clamping two numbers does not change what they mean
-pub meaning_clamped : (x y : ℤ) → numbers_meaning (Some (clamped x) ∷ Some (clamped y) ∷ []) ≡ numbers_meaning (Some x ∷ Some y ∷ [])
-meaning_clamped x y =
-    let P : Bool → Bool → Type 0 = λ u v. is_within plane_limit x ≡ u → is_within plane_limit y ≡ v
-    → cond (u && v) (says_point (record { x = clamped x; y = clamped y })) out_of_bounds ≡ cond (u && v) (says_point (record { x = x; y = y })) out_of_bounds in
-    ap (λ v. cond (v && is_within plane_limit (clamped y)) (says_point (record { x = clamped x; y = clamped y })) out_of_bounds) (clamped_test x)
-    ∙ (ap (λ v. cond (is_within plane_limit x && v) (says_point (record { x = clamped x; y = clamped y })) out_of_bounds) (clamped_test y)
-    ∙ elim (is_within plane_limit x) as (λ u. P u (is_within plane_limit y)) [
-      | true ↦ elim (is_within plane_limit y) as (λ v. P true v) [
-        | true ↦ λ left right. let same_x = clamped_same x left in let same_y = clamped_same y right in cc
-        | false ↦ λ left right. refl
-      ]
-      | false ↦ λ left right. refl
-    ] refl refl)
+-- what a coordinate in bounds leads to, and anything else, does not change where the coordinate is clamped
+through_clamp : {A : Type 0} (limit : ℕ) (z : ℤ) → limit ≤ 200000 → (inside : ℤ → A) (outside : A)
+    → cond (is_within limit (clamped z)) (inside (clamped z)) outside ≡ cond (is_within limit z) (inside z) outside
+through_clamp limit z small inside outside =
+    ap (λ v. cond v (inside (clamped z)) outside) (clamped_test limit z small)
+    ∙ elim (is_within limit z) as (λ v. is_within limit z ≡ v → cond v (inside (clamped z)) outside ≡ cond v (inside z) outside) [
+      | true ↦ λ test. ap inside (clamped_same limit z small test)
+      | false ↦ λ test. refl
+    ] refl
 
--- ---- two fields
+-- ---- points of clamped coordinates
 
--- two fields whose clamped numbers are these mean what these numbers mean
-pub two_numbers : (a b : Option ℤ) (x y : ℤ) → Some x ≡ option_map clamped a → Some y ≡ option_map clamped b → numbers_meaning (Some x ∷ Some y ∷ []) ≡ numbers_meaning (a ∷ b ∷ [])
-two_numbers None b x y first second = cc
-two_numbers (Some u) None x y first second = cc
-two_numbers (Some u) (Some v) x y first second = ap (λ z. numbers_meaning (Some z ∷ Some y ∷ [])) same_x ∙ (ap (λ z. numbers_meaning (Some (clamped u) ∷ Some z ∷ [])) same_y ∙ meaning_clamped u v) where
-  same_x : x ≡ clamped u
-  same_x = cc
+cond_and : {A : Type 0} (a b : Bool) (x y : A) → cond (a && b) x y ≡ cond a (cond b x y) y
+cond_and true b x y = refl
+cond_and false b x y = refl
 
-  same_y : y ≡ clamped v
-  same_y = cc
+-- clamping three numbers does not change what they mean
+pub space_clamped : (x y z : ℤ) → space_meaning (Some (clamped x) ∷ Some (clamped y) ∷ Some (clamped z) ∷ []) ≡ space_meaning (Some x ∷ Some y ∷ Some z ∷ [])
+space_clamped x y z =
+    let point : ℤ → ℤ → ℤ → Meaning SpacePoint = λ x y z. says_point (record { x = x; y = y; z = z }) in
+    let parted = λ (x y z : ℤ). cond_and (is_within space_limit x && is_within space_limit y) (is_within space_limit z) (point x y z) out_of_bounds
+    ∙ cond_and (is_within space_limit x) (is_within space_limit y) (cond (is_within space_limit z) (point x y z) out_of_bounds) out_of_bounds in
+    let last : ℤ → ℤ → ℤ → Meaning SpacePoint = λ x y z. cond (is_within space_limit z) (point x y z) out_of_bounds in
+    let second : ℤ → ℤ → ℤ → Meaning SpacePoint = λ x y z. cond (is_within space_limit y) (last x y z) out_of_bounds in
+    parted (clamped x) (clamped y) (clamped z)
+    ∙ (through_clamp space_limit x (omega arith) (λ x. second x (clamped y) (clamped z)) out_of_bounds
+    ∙ (ap (λ m. cond (is_within space_limit x) m out_of_bounds)
+    (through_clamp space_limit y (omega arith) (λ y. last x y (clamped z)) out_of_bounds
+    ∙ ap (λ m. cond (is_within space_limit y) m out_of_bounds) (through_clamp space_limit z (omega arith) (point x y) out_of_bounds))
+    ∙ sym (parted x y z)))
 
--- two fields of which the first is no number are no point
-pub first_bad : (a b : Option ℤ) → None ≡ option_map clamped a → bad_form ≡ numbers_meaning (a ∷ b ∷ [])
-first_bad None b none = refl
-first_bad (Some u) b none = cc
+-- ---- fields
 
--- nor are two fields of which the second is none
-pub second_bad : (a b : Option ℤ) → None ≡ option_map clamped b → bad_form ≡ numbers_meaning (a ∷ b ∷ [])
-second_bad None None none = refl
-second_bad (Some u) None none = refl
-second_bad a (Some v) none = cc
+-- a field whose clamped number is this one has a number
+pub number_clamped : (a : Option ℤ) (x : ℤ) → Some x ≡ option_map clamped a → (z : ℤ) × (x ≡ clamped z) × (a ≡ Some z)
+number_clamped None x e = cc
+number_clamped (Some z) x e = (z, cc, refl)
+
+-- three clamped numbers mean what the numbers of the three fields mean
+pub three_numbers : (x y z u v w : ℤ) (fields behind further rest : List (Option ℤ)) → x ≡ clamped u → fields ≡ Some u ∷ behind → y ≡ clamped v → behind ≡ Some v ∷ further
+    → z ≡ clamped w → further ≡ Some w ∷ rest → rest ≡ [] → space_meaning (Some x ∷ Some y ∷ Some z ∷ []) ≡ space_meaning fields
+three_numbers x y z u v w fields behind further rest is_u first is_v second is_w third end = ap space_meaning same ∙ (space_clamped u v w ∙ sym (ap space_meaning all)) where
+  same : Some x ∷ Some y ∷ Some z ∷ [] ≡ Some (clamped u) ∷ Some (clamped v) ∷ Some (clamped w) ∷ []
+  same = cc
+
+  all : fields ≡ Some u ∷ Some v ∷ Some w ∷ []
+  all = cc

@@ -1,5 +1,9 @@
 pub mod Places
+pub mod FieldCuts
 pub mod LineCuts
-pub mod Reading
 pub mod Clamping
+pub mod SetLaws
+pub mod Reading
+pub mod Judging
+pub mod SuitedSets
 mod Examples

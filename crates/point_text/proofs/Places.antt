@@ -27,10 +27,10 @@ place_missing p xs e =
 
 -- ---- the parts of a list whose head is known
 
-position-cons_no : (p : ℕ → Bool) (b : ℕ) (xs : List ℕ) → p b ≡ false → position_or_len p (b ∷ xs) ≡ suc (position_or_len p xs)
+pub position-cons_no : (p : ℕ → Bool) (b : ℕ) (xs : List ℕ) → p b ≡ false → position_or_len p (b ∷ xs) ≡ suc (position_or_len p xs)
 position-cons_no p b xs other = simp other (omega arith)
 
-position-cons_yes : (p : ℕ → Bool) (b : ℕ) (xs : List ℕ) → p b ≡ true → position_or_len p (b ∷ xs) ≡ 0
+pub position-cons_yes : (p : ℕ → Bool) (b : ℕ) (xs : List ℕ) → p b ≡ true → position_or_len p (b ∷ xs) ≡ 0
 position-cons_yes p b xs this = simp this
 
 pub before_first-cons_no : (p : ℕ → Bool) (b : ℕ) (xs : List ℕ) → p b ≡ false → before_first p (b ∷ xs) ≡ b ∷ before_first p xs

@@ -1,45 +1,51 @@
-//! One line of a text.
-ghost use Rattle.std.specs.Prelude.{◌≡◌, ◌<◌, ◌==◌, [], ◌∷◌, length, IfSome};
-ghost use Rattle.std.specs.List.{before_first, after_first, position_from};
-ghost use Rattle.bounds_model.specs.PointText.{line_meaning, numbers_meaning};
-ghost use Rattle.point_text.specs.Lines.{meaning_of};
+//! What one line says.
+ghost use Rattle.std.specs.Prelude.{◌≡◌, ◌∷◌, [], List, Option, ℤ, map, Some, MatchOption};
+ghost use Rattle.bounds_model.specs.PointText.{Meaning, number, fields_of, line_meaning, plane_meaning, space_meaning};
+ghost use Rattle.point_text.specs.Clamps.{clamped};
+ghost use Rattle.point_text.specs.Lines.{meaning_of, numbers_of, HasNoNumber};
 
+use crate::cuts::{content_of, next_field};
 use crate::number::read_number;
-use bounded_coords::Point2;
+use bounded_coords::{Point2, Point3};
 
-/// What a line says.
-pub(crate) enum Line {
+/// What a line says, where `P` are the points.
+pub(crate) enum Line<P> {
+    /// Nothing: it has no fields.
+    Nothing,
+    /// That a set ends and the next begins.
+    EndOfSet,
     /// This point.
-    Point(Point2),
-    /// Something else than two numbers parted by a space.
+    Point(P),
+    /// Something else.
     Bad,
-    /// Two numbers, one of which is out of bounds.
+    /// As many numbers as a point has, one of which is out of bounds.
     OutOfRange,
 }
 
-/// The index of the first byte of this value.
-fn place_of(text: &[u8], byte: u8) -> Option<usize>
-    ensures place { result ≡ position_from (λ b. b == byte) 0 text.now }
-    ensures within { IfSome result (λ i. i < length text.now) }
-{
-    text.iter().position(|b| *b == byte)
+/// A point that a line can say.
+pub(crate) trait TextPoint: Copy {
+    /// What a line says whose fields have these numbers.
+    ghost numbers_meaning: { List (Option ℤ) → Meaning Self };
+
+    /// Reads the fields of a line as the coordinates of a point.
+    fn read_fields(fields: &[u8]) -> Line<Self>
+        ensures { meaning_of result ≡ numbers_meaning (numbers_of fields.now) };
 }
 
-/// What stands before the first byte of this value and what stands after it, or all and nothing
-/// where there is no such byte.
-pub(crate) fn cut(text: &[u8], byte: u8) -> (&[u8], &[u8])
-    ensures before { result.0.now ≡ before_first (λ b. b == byte) text.now }
-    ensures after { result.1.now ≡ after_first (λ b. b == byte) text.now }
+/// The number of the first field, clamped, and what stands behind the field. None where there is no
+/// field or it is no number.
+fn next_number(fields: &[u8]) -> Option<(i64, &[u8])>
+    ensures { MatchOption result (HasNoNumber (numbers_of fields.now))
+        (λ parts. (z : ℤ) × (parts.0 ≡ clamped z) × (numbers_of fields.now ≡ Some z ∷ numbers_of parts.1.now)) }
 {
-    match place_of(text, byte) {
-        Some(place) => (&text[..place], &text[place + 1..]),
-        None => (text, &[]),
-    }
+    let (field, rest) = next_field(fields)?;
+    let number = read_number(field)?;
+    Some((number, rest))
 }
 
 /// What a line of these two numbers says.
-fn line_of(x: i64, y: i64) -> Line
-    ensures { meaning_of result ≡ numbers_meaning (Some x ∷ Some y ∷ []) }
+fn plane_line(x: i64, y: i64) -> Line<Point2>
+    ensures { meaning_of result ≡ plane_meaning (Some x ∷ Some y ∷ []) }
 {
     match Point2::new(x, y) {
         Some(p) => Line::Point(p),
@@ -47,16 +53,63 @@ fn line_of(x: i64, y: i64) -> Line
     }
 }
 
-/// Reads a line, which is given without its line feed.
-pub(crate) fn read_line(line: &[u8]) -> Line
-    ensures { meaning_of result ≡ line_meaning line.now }
+impl TextPoint for Point2 {
+    ghost numbers_meaning = { plane_meaning };
+
+    fn read_fields(fields: &[u8]) -> Line<Point2> {
+        let Some((x, rest)) = next_number(fields) else {
+            return Line::Bad;
+        };
+        let Some((y, rest)) = next_number(rest) else {
+            return Line::Bad;
+        };
+        match next_field(rest) {
+            Some(_) => Line::Bad,
+            None => plane_line(x, y),
+        }
+    }
+}
+
+/// What a line of these three numbers says.
+fn space_line(x: i64, y: i64, z: i64) -> Line<Point3>
+    ensures { meaning_of result ≡ space_meaning (Some x ∷ Some y ∷ Some z ∷ []) }
 {
-    let (first, second) = cut(line, b' ');
-    let Some(x) = read_number(first) else {
-        return Line::Bad;
+    match Point3::new(x, y, z) {
+        Some(p) => Line::Point(p),
+        None => Line::OutOfRange,
+    }
+}
+
+impl TextPoint for Point3 {
+    ghost numbers_meaning = { space_meaning };
+
+    fn read_fields(fields: &[u8]) -> Line<Point3> {
+        let Some((x, rest)) = next_number(fields) else {
+            return Line::Bad;
+        };
+        let Some((y, rest)) = next_number(rest) else {
+            return Line::Bad;
+        };
+        let Some((z, rest)) = next_number(rest) else {
+            return Line::Bad;
+        };
+        match next_field(rest) {
+            Some(_) => Line::Bad,
+            None => space_line(x, y, z),
+        }
+    }
+}
+
+/// Reads a line, which is given without its line feed.
+pub(crate) fn read_line<P: TextPoint>(line: &[u8]) -> Line<P>
+    ensures { meaning_of result ≡ line_meaning P.numbers_meaning line.now }
+{
+    let content = content_of(line);
+    let Some((field, rest)) = next_field(content) else {
+        return Line::Nothing;
     };
-    let Some(y) = read_number(second) else {
-        return Line::Bad;
-    };
-    line_of(x, y)
+    if field == b"---".as_slice() && next_field(rest).is_none() {
+        return Line::EndOfSet;
+    }
+    P::read_fields(content)
 }

@@ -1,4 +1,4 @@
-//! The numbers on a line.
+//! The number that a field writes.
 ghost use Rattle.std.specs.Prelude.{◌≡◌, ◌≤◌, IfSome};
 ghost use Rattle.std.specs.Option.{option_map};
 ghost use Rattle.bounds_model.specs.PointText.{natural, number};
@@ -25,13 +25,14 @@ fn digits_size(digits: &[u8]) -> Option<u32>
     Some(size)
 }
 
-/// The number that a field writes, digits with or without a minus sign before them. One whose
-/// magnitude is past `FAR` is read as `FAR` or its opposite. None where the field has another form.
+/// The number that a field writes, digits with or without a sign before them. One whose magnitude
+/// is past `FAR` is read as `FAR` or its opposite. None where the field has another form.
 pub(crate) fn read_number(field: &[u8]) -> Option<i64>
     ensures { result ≡ option_map clamped (number field.now) }
 {
     match field {
         [b'-', digits @ ..] => digits_size(digits).map(|size| -i64::from(size)),
+        [b'+', digits @ ..] => digits_size(digits).map(i64::from),
         digits => digits_size(digits).map(i64::from),
     }
 }

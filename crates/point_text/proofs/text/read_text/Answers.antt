@@ -1,40 +1,58 @@
-use Rattle.std.proofs.Common.{◌≡◌, ◌<◌, ◌∙◌, sym, ap, arith, Ok, Err, length, length-append, [], ◌∷◌}
-use Rattle.std.proofs.lemmas.Grind.{common_steps}
-use Rattle.bounds_model.specs.PointText.{line_meaning, some_points}
-use Rattle.point_text.proofs.Reading.{HasRead-more, HasRead-bad, HasRead-outside, HasRead-full, HasRead-all, some_points_kept}
+use Rattle.std.proofs.Common.{◌≡◌, ap}
+use Rattle.bounds_model.specs.PointText.{plane_meaning, space_meaning, meanings, judged, space_set, space_sets, plane_set, plane_set_or_bare, sets_of, sets_of_text}
+use Rattle.bounded_coords.specs.Asked.{asked}
+use Rattle.point_text.proofs.Judging.{judged_sets, judged_exit, plane_text}
 use Rattle.point_text.proofs.text.read_text.Goals as goal
 
-pub lines-preserved : goal.lines-preserved
-lines-preserved c =
-    let some : 0 < length c.lines.rest.now = grind (arith, common_steps) in
-    let grown = ap length c.in-Ok.ensures.added ∙ length-append c.lines.points (c.in-Point.p ∷ []) in
-    let free : length c.lines.points < 10000 = omega (arith, grown, ap length c.points.view_is, c.points.invariant) in
-    let says = c.in-Point.ensures ∙ ap line_meaning c.cut.ensures.before in
-    rw (c.cut.ensures.after, c.in-Ok.ensures.added) (HasRead-more c.args.bytes.now c.lines.rest.now c.lines.number c.lines.points c.in-Point.p c.lines.invariant some says free)
+pub returns-in_err-read_sets-in-Sphere : goal.returns-in_err-read_sets-in-Sphere
+unfolding sets_of_text
+returns-in_err-read_sets-in-Sphere c =
+    rw c.in-Sphere.is (judged_exit space_set (meanings space_meaning c.args.bytes.now) _ c.from_residual.result c.from_residual.ensures.1 c.in_err-read_sets-in-Sphere.ensures.refused)
 
-pub returns-in-Err-Full-clause-refused : goal.returns-in-Err-Full-clause-refused
-returns-in-Err-Full-clause-refused c =
-    let some : 0 < length c.lines.rest.now = grind (arith, common_steps) in
-    let says = c.in-Point.ensures ∙ ap line_meaning c.cut.ensures.before in
-    HasRead-full c.args.bytes.now c.lines.rest.now c.lines.number c.lines.points c.in-Point.p c.lines.invariant some says (c.in-Err-Full.ensures.full.0 (ap Err c.in-Err-Full.field-0-is))
+pub returns-in_ok-read_sets-in-Sphere : goal.returns-in_ok-read_sets-in-Sphere
+unfolding sets_of_text
+returns-in_ok-read_sets-in-Sphere c =
+    let lines = meanings space_meaning c.args.bytes.now in
+    let read = c.in_ok-read_sets-in-Sphere.ensures in
+    rw c.in-Sphere.is (judged_sets space_set lines c.space_set.result read.accepted (c.space_set.ensures (sets_of lines) read.sets))
 
-pub returns-in-Bad-clause-refused : goal.returns-in-Bad-clause-refused
-returns-in-Bad-clause-refused c =
-    let some : 0 < length c.lines.rest.now = grind (arith, common_steps) in
-    HasRead-bad c.args.bytes.now c.lines.rest.now c.lines.number c.lines.points c.lines.invariant some (c.in-Bad.ensures ∙ ap line_meaning c.cut.ensures.before)
+pub returns-in_err-read_sets-in-Distance : goal.returns-in_err-read_sets-in-Distance
+unfolding sets_of_text
+returns-in_err-read_sets-in-Distance c =
+    rw c.in-Distance.is
+    (judged_exit space_sets (meanings space_meaning c.args.bytes.now) _ c.from_residual-in_err-read_sets-in-Distance.result c.from_residual-in_err-read_sets-in-Distance.ensures.1
+    c.in_err-read_sets-in-Distance.ensures.refused)
 
-pub returns-in-OutOfRange-clause-refused : goal.returns-in-OutOfRange-clause-refused
-returns-in-OutOfRange-clause-refused c =
-    let some : 0 < length c.lines.rest.now = grind (arith, common_steps) in
-    HasRead-outside c.args.bytes.now c.lines.rest.now c.lines.number c.lines.points c.lines.invariant some (c.in-OutOfRange.ensures ∙ ap line_meaning c.cut.ensures.before)
+pub returns-in_ok-read_sets-in-Distance : goal.returns-in_ok-read_sets-in-Distance
+unfolding sets_of_text
+returns-in_ok-read_sets-in-Distance c =
+    let lines = meanings space_meaning c.args.bytes.now in
+    let read = c.in_ok-read_sets-in-Distance.ensures in
+    rw c.in-Distance.is (judged_sets space_sets lines c.space_sets.result read.accepted (c.space_sets.ensures (sets_of lines) read.sets))
 
-pub returns-then-is_none-clause-refused : goal.returns-then-is_none-clause-refused
-returns-then-is_none-clause-refused c =
-    let none : c.lines.points ≡ [] = c.cloud.ensures.empty.0 c.if-is_none.ensures in
-    HasRead-all c.args.bytes.now c.lines.rest.now c.lines.number c.lines.points c.lines.invariant (grind (arith, common_steps)) ∙ ap some_points none
+pub returns-in_err-read_sets-in-Empty : goal.returns-in_err-read_sets-in-Empty
+unfolding sets_of_text
+returns-in_err-read_sets-in-Empty c =
+    rw c.in-Empty.is
+    (judged_exit plane_set_or_bare (meanings plane_meaning c.args.bytes.now) _ c.from_residual-in_err-read_sets-in-Empty.result c.from_residual-in_err-read_sets-in-Empty.ensures.1
+    c.in_err-read_sets-in-Empty.ensures.refused)
 
-pub returns-clause-sets : goal.returns-clause-sets
-returns-clause-sets c =
-    let some : c.lines.points ≡ [] → ⊥ = λ none. absurd (cc (c.if-is_none.ensures, c.cloud.ensures.empty.1 none)) in
-    HasRead-all c.args.bytes.now c.lines.rest.now c.lines.number c.lines.points c.lines.invariant (grind (arith, common_steps))
-    ∙ (some_points_kept c.lines.points some ∙ ap Ok (sym c.plane.ensures))
+pub returns-in_ok-read_sets-in-Empty : goal.returns-in_ok-read_sets-in-Empty
+unfolding sets_of_text
+returns-in_ok-read_sets-in-Empty c =
+    let lines = meanings plane_meaning c.args.bytes.now in
+    let read = c.in_ok-read_sets-in-Empty.ensures in
+    rw c.in-Empty.is (judged_sets plane_set_or_bare lines c.plane_set_or_bare.result read.accepted (c.plane_set_or_bare.ensures (sets_of lines) read.sets))
+
+pub returns-in_err-read_sets-in_default : goal.returns-in_err-read_sets-in_default
+returns-in_err-read_sets-in_default c =
+    rw (plane_text c.args.ask.now c.args.bytes.now c.in_default.not-Sphere c.in_default.not-Distance c.in_default.not-Empty)
+    (judged_exit plane_set (meanings plane_meaning c.args.bytes.now) _ c.from_residual-in_err-read_sets-in_default.result c.from_residual-in_err-read_sets-in_default.ensures.1
+    c.in_err-read_sets-in_default.ensures.refused)
+
+pub returns-in_ok-read_sets-in_default : goal.returns-in_ok-read_sets-in_default
+returns-in_ok-read_sets-in_default c =
+    let lines = meanings plane_meaning c.args.bytes.now in
+    let read = c.in_ok-read_sets-in_default.ensures in
+    rw (plane_text c.args.ask.now c.args.bytes.now c.in_default.not-Sphere c.in_default.not-Distance c.in_default.not-Empty)
+    (judged_sets plane_set lines c.plane_set.result read.accepted (c.plane_set.ensures (sets_of lines) read.sets))
