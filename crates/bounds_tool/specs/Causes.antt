@@ -3,7 +3,7 @@ use Rattle.std.specs.Prelude.{ℕ}
 use Rattle.bounds_model.specs.ErrorLines as model
 use Rattle.bounds_model.specs.ErrorLines.{points_file}
 use Rattle.bounds_tool.specs.declared.cause.Cause.{Cause}
-use Rattle.bounds_tool.specs.declared.cause.Cause.TheVariants.{Words, PointsNotOpened, PointsNotRead, PointsTooLong, BadLine, OutOfRange, TooMany, NoPoints, OutputNotWritten, OutOfMemory}
+use Rattle.bounds_tool.specs.declared.cause.Cause.TheVariants.{Words, PointsNotOpened, PointsNotRead, PointsTooLong, BadLine, OutOfRange, TooMany, NoPoints, WrongSets, OutputNotWritten, OutOfMemory}
 use Rattle.bounds_tool.specs.declared.status.Status.{Status}
 use Rattle.bounds_tool.specs.declared.status.Status.TheVariants.{Usage, Input, Read, Write, Memory}
 
@@ -17,6 +17,7 @@ meant (BadLine line) = model.bad_line line
 meant (OutOfRange line) = model.out_of_range line
 meant (TooMany line) = model.too_many_points line
 meant (NoPoints set) = model.no_points set
+meant (WrongSets count) = model.wrong_sets count
 meant OutputNotWritten = model.write_fault
 meant OutOfMemory = model.out_of_memory
 

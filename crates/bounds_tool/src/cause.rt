@@ -23,6 +23,8 @@ pub(crate) enum Cause {
     TooMany(u32),
     /// The set of this number has no points.
     NoPoints(u32),
+    /// There are so many sets, and another number is called for.
+    WrongSets(u32),
     /// The output was not written whole.
     OutputNotWritten,
     /// Memory was refused.
@@ -41,7 +43,8 @@ impl Cause {
             | Cause::BadLine(_)
             | Cause::OutOfRange(_)
             | Cause::TooMany(_)
-            | Cause::NoPoints(_) => Status::Input,
+            | Cause::NoPoints(_)
+            | Cause::WrongSets(_) => Status::Input,
             Cause::OutputNotWritten => Status::Write,
             Cause::OutOfMemory => Status::Memory,
         }

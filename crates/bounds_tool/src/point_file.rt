@@ -1,5 +1,6 @@
 //! The points of a file.
-ghost use Rattle.std.specs.Prelude.{◌≡◌, ◌+◌, ◌≤◌, max, [], IsTrue, IfSome, IfOk, IfErr, OnOk};
+ghost use Rattle.std.specs.Prelude.{◌≡◌, ◌+◌, ◌≤◌, max, IsTrue, IfSome, IfOk, IfErr, OnOk};
+ghost use Rattle.bounds_model.specs.Asks.{Suits, ask_centres};
 ghost use Rattle.bnd_io.specs.Files.{Continues, bytes_of};
 ghost use Rattle.bounds_tool.specs.Causes.{meant};
 ghost use Rattle.bounds_tool.specs.Run.{accepted, judged_bytes, point_file_limit, FileCause};
@@ -22,7 +23,7 @@ pub(crate) fn read_points<F: Files>(
     ensures continues { Continues (F.state files.old) (F.state files.new) }
     ensures points { IfOk result (λ sets. IfSome (F.state files.old).told (λ folder. judged_bytes (bytes_of folder name.now) ≡ accepted sets)) }
     ensures to_its_end { OnOk result (IsTrue (F.state files.new).ended) }
-    ensures some { IfOk result (λ sets. sets ≡ [] → ⊥) }
+    ensures suits { IfOk result (λ sets. Suits (ask_centres 1) sets) }
     ensures most { (F.state files.new).taken ≤ max (F.state files.old).taken (point_file_limit + 1) }
     ensures cause { IfErr result (λ cause. FileCause F.last_count name.now (F.state files.old) (F.state files.new) (meant cause)) }
 {
@@ -41,6 +42,7 @@ pub(crate) fn read_points<F: Files>(
         Err(TextFault::OutOfRange(line)) => Err(Cause::OutOfRange(line)),
         Err(TextFault::TooMany(line)) => Err(Cause::TooMany(line)),
         Err(TextFault::NoPoints(set)) => Err(Cause::NoPoints(set)),
+        Err(TextFault::WrongSets(count)) => Err(Cause::WrongSets(count)),
         Err(TextFault::OutOfMemory) => Err(Cause::OutOfMemory),
     }
 }

@@ -47,6 +47,7 @@ fn line_of(cause: Cause) -> Line
             Line::Numbered(b"bounds: points: line ", line, b" is one point too many\n")
         }
         Cause::NoPoints(set) => Line::Numbered(b"bounds: points: set ", set, b" has no points\n"),
+        Cause::WrongSets(count) => Line::Numbered(b"bounds: points: found ", count, b" sets\n"),
         Cause::OutputNotWritten => Line::Whole(b"bounds: output cannot be written\n"),
         Cause::OutOfMemory => Line::Whole(b"bounds: out of memory\n"),
     }
