@@ -34,4 +34,3 @@ pub mod PointText
 pub mod Demo
 pub mod ErrorLines
 pub mod Words
-pub mod Laws

@@ -1,9 +1,3 @@
 //! The meaning of the whole product: points and fractions, the ten kinds of objects with their sizes, what best means, the answers,
-//! and what a checker asks of them. The definitions stand in `specs/`, over whole numbers of any size. No code runs here.
-//!
-//! - `answer_text`: laws of the answer text: one spelling, read as it is written, none the beginning of another.
-//! - `laws`: statements on the definitions alone, which show that they are the right ones; each is the contract of an empty function.
+//! what a checker asks of them, and the texts. The definitions stand in `specs/`, over whole numbers of any size. No code runs here.
 #![tactic(auto)]
-
-pub mod answer_text;
-pub mod laws;

@@ -1,6 +1,0 @@
--- Points are in the order of themselves.
-use Rattle.bounds_model.proofs.SizeLaw.{one_size_of_same}
-use Rattle.bounds_model.proofs.laws.best_size_is_unique.Goals as goal
-
-pub returns : goal.returns
-returns c = one_size_of_same

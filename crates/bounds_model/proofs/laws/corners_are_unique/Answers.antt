@@ -1,6 +1,0 @@
--- The least point is the first, and after each corner only one point can come next.
-use Rattle.bounds_model.proofs.CornersUnique.{one_list_of_corners}
-use Rattle.bounds_model.proofs.laws.corners_are_unique.Goals as goal
-
-pub returns : goal.returns
-returns c = one_list_of_corners

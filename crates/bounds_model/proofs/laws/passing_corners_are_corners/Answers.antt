@@ -1,6 +1,0 @@
--- The corners that a checker accepts do not repeat: seen from the first, each is to the left of the one before.
-use Rattle.bounds_model.proofs.CornerLaw.{passing_corners}
-use Rattle.bounds_model.proofs.laws.passing_corners_are_corners.Goals as goal
-
-pub returns : goal.returns
-returns c = passing_corners

@@ -1,0 +1,116 @@
+-- Tests of the conditions on hulls and polygons. Each decides the definition of the like name.
+use Rattle.std.proofs.Common.{◌≢◌, ℕ, ◌+◌, ◌-◌, ◌*◌, ◌<◌, min, pos, ◌*ℤ◌, List, [], ◌∷◌, length, arith}
+use Rattle.std.specs.Prelude.{Contains, slice_index}
+use Rattle.std.specs.List.Sorted.{IsStrictlyIncreasing}
+use Rattle.bounds_model.specs.Numbers.{EachBelow}
+use Rattle.bounds_model.specs.Plane.{PlanePoint, vector, cross, turn, IsBefore, IsLeastPoint, IsGreatestPoint}
+use Rattle.bounds_model.specs.Hull.{around, AreRing, AreEnds, IsOnlyPoint, AreCorners}
+use Rattle.bounds_model.specs.CornerTest.{GoAround, LeadToGreatest, HoldAll, FirstIsOnce, CornersPass}
+use Rattle.bounds_model.specs.Kgon.{FitsKgon, kgon_size}
+use Rattle.bounds_model.specs.KgonAnswer.{KgonAnswer, KgonPlaces, corner_points, pairs_before, Grows, PassesKgon}
+use Rattle.bounds_model.specs.Places.{point_limit}
+use Rattle.model_laws.proofs.Decisions.{Decision, like, both, either, negated, impossible, all, all_pairs, contains, each_below, most_ℕ, less_ℕ, equal_ℕ, equal_ℤ, most_ℤ, less_ℤ}
+use Rattle.model_laws.proofs.DecideParts.{same_point, counted, natural, same_value, fraction_placed}
+
+abbrev pub before : (a b : PlanePoint) → Decision (IsBefore a b)
+before a b = either (less_ℤ a.x b.x) (both (equal_ℤ a.x b.x) (most_ℤ a.y b.y))
+
+abbrev pub least_point : (points : List PlanePoint) (a : PlanePoint) → Decision (IsLeastPoint points a)
+least_point points a = like (both (contains same_point points a) (all {P = IsBefore a} (before a) points)) (λ h. record { listed = h.0; least = h.1 }) (λ h. (h.listed, h.least))
+
+abbrev pub greatest_point : (points : List PlanePoint) (a : PlanePoint) → Decision (IsGreatestPoint points a)
+greatest_point points a = like (both (contains same_point points a) (all {P = λ p. IsBefore p a} (λ p. before p a) points)) (λ h. record { listed = h.0; greatest = h.1 }) (λ h. (h.listed, h.greatest))
+
+abbrev pub ring : (points corners : List PlanePoint) → Decision (AreRing points corners)
+ring points corners =
+    like
+    (both (all {P = Contains points} (contains same_point points) corners)
+    (both (least_point points (around corners 0))
+    (both (all_pairs {R = λ a b. a ≢ b} (λ a b. negated (same_point a b)) corners)
+    (both (each_below (λ i. less_ℤ (pos 0) (turn (around corners i) (around corners (i + 1)) (around corners (i + 2)))) (length corners))
+    (each_below (λ i. all (λ p. most_ℤ (pos 0) (turn (around corners i) (around corners (i + 1)) p)) points) (length corners))))))
+    (λ h. record { listed = h.0; from_least = h.1.0; distinct = h.1.1.0; left_turns = h.1.1.1.0; inside = h.1.1.1.1 })
+    (λ h. (h.listed, (h.from_least, (h.distinct, (h.left_turns, h.inside)))))
+
+abbrev pub ends : (points : List PlanePoint) (a b : PlanePoint) → Decision (AreEnds points a b)
+ends points a b =
+    like (both (least_point points a) (both (greatest_point points b) (both (negated (same_point a b)) (all (λ p. equal_ℤ (turn a b p) (pos 0)) points))))
+    (λ h. record { from_least = h.0; to_greatest = h.1.0; distinct = h.1.1.0; on_line = h.1.1.1 }) (λ h. (h.from_least, (h.to_greatest, (h.distinct, h.on_line))))
+
+abbrev pub only_point : (points : List PlanePoint) (a : PlanePoint) → Decision (IsOnlyPoint points a)
+only_point points a = like (both (contains same_point points a) (all (λ p. same_point p a) points)) (λ h. record { listed = h.0; only = h.1 }) (λ h. (h.listed, h.only))
+
+abbrev pub are_corners : (points corners : List PlanePoint) → Decision (AreCorners points corners)
+are_corners points [] = impossible (λ h. h)
+are_corners points (a ∷ []) = only_point points a
+are_corners points (a ∷ b ∷ []) = ends points a b
+are_corners points (a ∷ b ∷ c ∷ rest) = ring points (a ∷ b ∷ c ∷ rest)
+
+abbrev pub go_around : (points corners : List PlanePoint) → Decision (GoAround points corners)
+go_around points corners =
+    like
+    (both (each_below (λ i. less_ℤ (pos 0) (cross (vector (around corners i) (around corners (i + 1))) (vector (around corners (i + 1)) (around corners (i + 2))))) (length corners))
+    (each_below (λ i. all (λ p. most_ℤ (pos 0) (cross (vector (around corners i) (around corners (i + 1))) (vector (around corners i) p))) points) (length corners)))
+    (λ h. record { left_turns = h.0; all_left = h.1 }) (λ h. (h.left_turns, h.all_left))
+
+abbrev pub lead_to_greatest : (points : List PlanePoint) (a b : PlanePoint) → Decision (LeadToGreatest points a b)
+lead_to_greatest points a b =
+    like (both (greatest_point points b) (all (λ p. equal_ℤ (cross (vector a b) (vector a p)) (pos 0)) points))
+    (λ h. record { to_greatest = h.0; on_line = h.1 }) (λ h. (h.to_greatest, h.on_line))
+
+abbrev pub hold_all : (points corners : List PlanePoint) → Decision (HoldAll points corners)
+hold_all points [] = impossible (λ h. h)
+hold_all points (a ∷ []) = all (λ p. same_point p a) points
+hold_all points (a ∷ b ∷ []) = lead_to_greatest points a b
+hold_all points (a ∷ b ∷ c ∷ rest) = go_around points (a ∷ b ∷ c ∷ rest)
+
+abbrev pub first_is_once : (corners : List PlanePoint) → Decision (FirstIsOnce corners)
+first_is_once [] = impossible (λ h. h)
+first_is_once (a ∷ rest) = all (λ c. negated (same_point c a)) rest
+
+abbrev pub corners_pass : (points corners : List PlanePoint) → Decision (CornersPass points corners)
+corners_pass points corners =
+    like (both (least_point points (around corners 0)) (both (first_is_once corners) (hold_all points corners)))
+    (λ h. record { from_least = h.0; once = h.1.0; hold = h.1.1 }) (λ h. (h.from_least, (h.once, h.hold)))
+
+abbrev pub Rises : List ℕ → ℕ → Type 0
+Rises xs k = slice_index xs k < slice_index xs (k + 1)
+
+pub rising_to : (xs : List ℕ) → EachBelow (length xs - 1) (Rises xs) → IsStrictlyIncreasing xs
+rising_to xs h k l = h k (omega arith)
+
+pub rising_from : (xs : List ℕ) → IsStrictlyIncreasing xs → EachBelow (length xs - 1) (Rises xs)
+rising_from xs h k l = h k (omega arith)
+
+abbrev pub rising : (xs : List ℕ) → Decision (IsStrictlyIncreasing xs)
+rising xs = like (each_below {P = Rises xs} (λ k. less_ℕ (slice_index xs k) (slice_index xs (k + 1))) (length xs - 1)) (rising_to xs) (rising_from xs)
+
+abbrev pub fits_kgon : (k : ℕ) (corners : List PlanePoint) (positions : List ℕ) → Decision (FitsKgon k corners positions)
+fits_kgon k corners positions =
+    like (both (counted 1 (min k (length corners)) positions) (both (rising positions) (all (λ i. less_ℕ i (length corners)) positions)))
+    (λ h. record { count = h.0; rising = h.1.0; in_range = h.1.1 }) (λ h. (h.count, (h.rising, h.in_range)))
+
+abbrev pub kgon_places : (a : KgonAnswer) → Decision (KgonPlaces a)
+kgon_places a =
+    like (both (fraction_placed a.size) (both (counted 1 128 a.corners) (both (all (λ number. most_ℕ number point_limit) a.corners) (both (counted 1 12 a.chosen) (both (all (λ i. most_ℕ i 127) a.chosen) (both (most_ℕ a.layers 10) (both (equal_ℕ (length a.potentials) (a.layers * pairs_before (length a.corners) (length a.corners))) (all natural a.potentials))))))))
+    (λ h. record { size = h.0; corner_count = h.1.0; corners = h.1.1.0; chosen_count = h.1.1.1.0; chosen = h.1.1.1.1.0; layers = h.1.1.1.1.1.0; potential_count = h.1.1.1.1.1.1.0; potentials = h.1.1.1.1.1.1.1 })
+    (λ h. (h.size, (h.corner_count, (h.corners, (h.chosen_count, (h.chosen, (h.layers, (h.potential_count, h.potentials))))))))
+
+abbrev pub kgon_passes : (k : ℕ) (points : List PlanePoint) (a : KgonAnswer) → Decision (PassesKgon k points a)
+kgon_passes k points a =
+    like
+    (both (kgon_places a)
+    (both (all (λ number. less_ℕ number (length points)) a.corners)
+    (both (corners_pass points (corner_points points a))
+    (both (fits_kgon k (corner_points points a) a.chosen)
+    (both (same_value a.size (kgon_size (corner_points points a) a.chosen))
+    (both (equal_ℕ a.layers (min k (length a.corners) - 2))
+    (both
+    (each_below {P = λ c. EachBelow c (λ b. EachBelow b (λ a'. EachBelow a.layers (λ layer. Grows (corner_points points a) a layer a' b c)))}
+    (λ c. each_below {P = λ b. EachBelow b (λ a'. EachBelow a.layers (λ layer. Grows (corner_points points a) a layer a' b c))}
+    (λ b. each_below {P = λ a'. EachBelow a.layers (λ layer. Grows (corner_points points a) a layer a' b c)}
+    (λ a'. each_below {P = λ layer. Grows (corner_points points a) a layer a' b c}
+    (λ layer. most_ℤ _ _) a.layers) b) c) (length a.corners))
+    (all (λ u. most_ℤ (u *ℤ a.size.d) (pos 2 *ℤ a.size.n)) a.potentials))))))))
+    (λ h. record { places = h.0; numbers = h.1.0; corners = h.1.1.0; chosen = h.1.1.1.0; size = h.1.1.1.1.0; layers = h.1.1.1.1.1.0; grows = h.1.1.1.1.1.1.0; under_size = h.1.1.1.1.1.1.1 })
+    (λ h. (h.places, (h.numbers, (h.corners, (h.chosen, (h.size, (h.layers, (h.grows, h.under_size))))))))

@@ -1,0 +1,78 @@
+-- Tests of the conditions on plain fans. Each decides the definition of the like name.
+use Rattle.std.proofs.Common.{◌≡◌, ◌≢◌, ℕ, zero, suc, ◌+◌, ◌<◌, pos, ◌<ℤ◌, subst, List, [], ◌∷◌, length, arith}
+use mathlib.Core.Logic.{inl, inr}
+use Rattle.std.specs.Prelude.{◌⊎◌, Any, SomeIndex}
+use Rattle.bounds_model.specs.Plane.{PlanePoint, origin, point_at, dot, cross}
+use Rattle.bounds_model.specs.Fractions.{HaveNoCommonFactor}
+use Rattle.bounds_model.specs.Fans.{north}
+use Rattle.bounds_model.specs.PlainFans.{edge, IsUpright, IsUprightOrAlong, EachInner, IsPlainHalf, IsPlainQuarter}
+use Rattle.model_laws.proofs.Decisions.{Decision, like, both, either, negated, implies, impossible, all, any, contains, each_below, less_ℕ, equal_ℤ, less_ℤ}
+use Rattle.model_laws.proofs.DecideParts.{same_point}
+use Rattle.model_laws.proofs.CommonFactors.{no_common_factor}
+
+-- P holds of some number below a bound
+abbrev pub SomeBelow : ℕ → (ℕ → Type 0) → Type 0
+SomeBelow bound P = (i : ℕ) × (i < bound) × P i
+
+-- no number is below 0
+pub some-nil : (P : ℕ → Type 0) → ¬ SomeBelow 0 P
+some-nil P h = let l : h.0 < 0 = h.1 in absurd (omega arith)
+
+-- one more number below the bound
+pub some-more : (P : ℕ → Type 0) (n : ℕ) → P n ⊎ SomeBelow n P → SomeBelow (suc n) P
+some-more P n s = elim s [ inl p ↦ (n, here n, p) | inr h ↦ (h.0, further h.0 n h.1, h.2) ]
+  where
+    here : (n : ℕ) → n < suc n
+    here n = omega arith
+
+    further : (i n : ℕ) → i < n → i < suc n
+    further i n l = omega arith
+
+-- the last number below the bound, or one before
+pub some-last : (P : ℕ → Type 0) (n : ℕ) → SomeBelow (suc n) P → P n ⊎ SomeBelow n P
+some-last P n h = elim (split h.0 n h.1) [ inl l ↦ inr (h.0, l, h.2) | inr e ↦ inl (subst P e h.2) ]
+  where
+    split : (i n : ℕ) → i < suc n → (i < n) ⊎ (i ≡ n)
+    split i n l = grind arith
+
+-- a test for some number below a bound
+abbrev pub some_below : {P : ℕ → Type 0} → ((i : ℕ) → Decision (P i)) → (n : ℕ) → Decision (SomeBelow n P)
+some_below {P} each zero = impossible (some-nil P)
+some_below {P} each (suc n) = like (either (each n) (some_below {P = P} each n)) (some-more P n) (some-last P n)
+
+-- the inner directions are among all numbers below the length
+pub inner_to : (ds : List PlanePoint) (P : PlanePoint → Type 0) → ((i : ℕ) → i < length ds → 0 < i → i + 1 < length ds → P (point_at ds i)) → EachInner ds P
+inner_to ds P h i p l = h i (omega arith) p l
+
+-- a test for each inner direction
+abbrev pub each_inner : (ds : List PlanePoint) {P : PlanePoint → Type 0} → ((d : PlanePoint) → Decision (P d)) → Decision (EachInner ds P)
+each_inner ds {P} each =
+    like (each_below {P = λ i. 0 < i → i + 1 < length ds → P (point_at ds i)} (λ i. implies (less_ℕ 0 i) (implies (less_ℕ (i + 1) (length ds)) (each (point_at ds i)))) (length ds)) (inner_to ds P) (λ h i b p l. h i p l)
+
+abbrev pub upright : (edge d : PlanePoint) → Decision (IsUpright edge d)
+upright edge d = like (both (negated (same_point edge origin)) (equal_ℤ (dot edge d) (pos 0))) (λ h. record { long = h.0; right_angle = h.1 }) (λ h. (h.long, h.right_angle))
+
+abbrev pub upright_or_along : (edge d : PlanePoint) → Decision (IsUprightOrAlong edge d)
+upright_or_along edge d =
+    like (both (negated (same_point edge origin)) (either (equal_ℤ (dot edge d) (pos 0)) (equal_ℤ (cross edge d) (pos 0)))) (λ h. record { long = h.0; upright = h.1 }) (λ h. (h.long, h.upright))
+
+abbrev pub plain_half : (corners ds : List PlanePoint) → Decision (IsPlainHalf corners ds)
+plain_half corners ds =
+    like
+    (both (all {P = λ d. HaveNoCommonFactor (d.x ∷ d.y ∷ [])} (λ d. no_common_factor (d.x ∷ d.y ∷ [])) ds)
+    (both (each_inner ds {P = λ d. pos 0 <ℤ d.y} (λ d. less_ℤ (pos 0) d.y))
+    (both (contains same_point ds north)
+    (both (each_below {P = λ i. edge corners i ≢ origin → Any (IsUpright (edge corners i)) ds} (λ i. implies (negated (same_point (edge corners i) origin)) (any {P = IsUpright (edge corners i)} (upright (edge corners i)) ds)) (length corners))
+    (each_inner ds {P = λ d. (d ≡ north) ⊎ SomeIndex corners (λ i. IsUpright (edge corners i) d)} (λ d. either (same_point d north) (some_below {P = λ i. IsUpright (edge corners i) d} (λ i. upright (edge corners i) d) (length corners))))))))
+    (λ h. record { lowest = h.0; in_range = h.1.0; up = h.1.1.0; edges = h.1.1.1.0; no_others = h.1.1.1.1 })
+    (λ h. (h.lowest, (h.in_range, (h.up, (h.edges, h.no_others)))))
+
+abbrev pub plain_quarter : (corners ds : List PlanePoint) → Decision (IsPlainQuarter corners ds)
+plain_quarter corners ds =
+    like
+    (both (all {P = λ d. HaveNoCommonFactor (d.x ∷ d.y ∷ [])} (λ d. no_common_factor (d.x ∷ d.y ∷ [])) ds)
+    (both (each_inner ds {P = λ d. (pos 0 <ℤ d.x) × (pos 0 <ℤ d.y)} (λ d. both (less_ℤ (pos 0) d.x) (less_ℤ (pos 0) d.y)))
+    (both (each_below {P = λ i. edge corners i ≢ origin → Any (IsUprightOrAlong (edge corners i)) ds} (λ i. implies (negated (same_point (edge corners i) origin)) (any {P = IsUprightOrAlong (edge corners i)} (upright_or_along (edge corners i)) ds)) (length corners))
+    (each_inner ds {P = λ d. SomeIndex corners (λ i. IsUprightOrAlong (edge corners i) d)} (λ d. some_below {P = λ i. IsUprightOrAlong (edge corners i) d} (λ i. upright_or_along (edge corners i) d) (length corners))))))
+    (λ h. record { lowest = h.0; in_range = h.1.0; edges = h.1.1.0; no_others = h.1.1.1 })
+    (λ h. (h.lowest, (h.in_range, (h.edges, h.no_others))))

@@ -1,0 +1,74 @@
+-- Rectangles that pass, and spoilt ones that do not.
+use Rattle.std.proofs.Common.{refl, pos, List, [], ◌∷◌}
+use Rattle.bounds_model.specs.Plane.{PlanePoint}
+use Rattle.bounds_model.specs.RectangleAnswer.{RectangleAnswer}
+use Rattle.bounds_model.specs.Asks.Ask.{ask_rectangle}
+use Rattle.bounds_model.specs.Asks.Sets.{plane}
+use Rattle.bounds_model.specs.Answers.{Passes}
+use Rattle.bounds_model.specs.Answers.Answer.{rectangle}
+use Rattle.model_laws.proofs.Decisions.{by_test, by_failed_test}
+use Rattle.model_laws.proofs.DecideAnswers.{passes}
+use Rattle.model_laws.proofs.Literals.{minus, at, fraction, span, quarter_cone}
+
+-- a square that stands on a corner
+abbrev pub diamond : List PlanePoint
+diamond = at 0 1 ∷ at 1 0 ∷ at 2 1 ∷ at 1 2 ∷ []
+
+abbrev pub slanted : RectangleAnswer
+slanted = record {
+  size = fraction 2 1;
+  direction = at 1 1;
+  along = span (pos 1) (pos 3);
+  across = span (minus 1) (pos 1);
+  fan = record { cones = quarter_cone 1 0 2 0 3 1 ∷ quarter_cone 1 1 3 1 0 2 ∷ []; last = at 0 1 };
+}
+
+slanted_passes : Passes ask_rectangle (plane diamond) (rectangle slanted)
+slanted_passes = by_test (passes ask_rectangle (plane diamond) (rectangle slanted)) refl
+
+-- a point that is not the highest
+abbrev not_highest : RectangleAnswer
+not_highest = record slanted { fan = record { cones = quarter_cone 1 0 3 0 3 1 ∷ quarter_cone 1 1 3 1 0 2 ∷ []; last = at 0 1 } }
+
+not_highest_fails : ¬ Passes ask_rectangle (plane diamond) (rectangle not_highest)
+not_highest_fails = by_failed_test (passes ask_rectangle (plane diamond) (rectangle not_highest)) refl
+
+-- the upright rectangle, whose area is 4, with a fan of the two upright directions alone
+abbrev upright : RectangleAnswer
+upright = record {
+  size = fraction 4 1;
+  direction = at 1 0;
+  along = span (pos 0) (pos 2);
+  across = span (pos 0) (pos 2);
+  fan = record { cones = quarter_cone 1 0 2 0 3 1 ∷ []; last = at 0 1 };
+}
+
+upright_fails : ¬ Passes ask_rectangle (plane diamond) (rectangle upright)
+upright_fails = by_failed_test (passes ask_rectangle (plane diamond) (rectangle upright)) refl
+
+-- the upright rectangle with the whole fan
+abbrev upright_with_fan : RectangleAnswer
+upright_with_fan = record upright { fan = slanted.fan }
+
+upright_with_fan_fails : ¬ Passes ask_rectangle (plane diamond) (rectangle upright_with_fan)
+upright_with_fan_fails = by_failed_test (passes ask_rectangle (plane diamond) (rectangle upright_with_fan)) refl
+
+-- the two bounds exchanged
+abbrev exchanged : RectangleAnswer
+exchanged = record slanted { along = span (minus 1) (pos 1); across = span (pos 1) (pos 3) }
+
+exchanged_fails : ¬ Passes ask_rectangle (plane diamond) (rectangle exchanged)
+exchanged_fails = by_failed_test (passes ask_rectangle (plane diamond) (rectangle exchanged)) refl
+
+-- three points on a line
+abbrev flat_one : RectangleAnswer
+flat_one = record {
+  size = fraction 0 1;
+  direction = at 2 1;
+  along = span (pos 0) (pos 10);
+  across = span (pos 0) (pos 0);
+  fan = record { cones = quarter_cone 1 0 2 0 2 0 ∷ quarter_cone 2 1 2 0 0 2 ∷ []; last = at 0 1 };
+}
+
+flat_one_passes : Passes ask_rectangle (plane (at 0 0 ∷ at 2 1 ∷ at 4 2 ∷ [])) (rectangle flat_one)
+flat_one_passes = by_test (passes ask_rectangle (plane (at 0 0 ∷ at 2 1 ∷ at 4 2 ∷ [])) (rectangle flat_one)) refl

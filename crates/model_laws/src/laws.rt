@@ -1,0 +1,64 @@
+//! Laws of the definitions.
+
+ghost use Rattle.model_laws.specs.Laws.{PassingAnswersHavePlaces, FittingPointsSuit, PassingAnswersAreBest, PassingCornersAreCorners, PassingKgonsListCorners, CornersAreUnique, BestSizeIsUnique, OptimumIsUnique, BestSizeHasNoOrder, BestAnswersHaveNoOrder};
+ghost use Rattle.bounds_model.specs.Asks.Ask.{ask_circle, ask_sphere, ask_centres};
+
+/// An answer that passes has all its numbers in their places.
+pub fn passing_answers_have_places()
+    ensures { PassingAnswersHavePlaces }
+{}
+
+/// An answer fits only points of the kind that is asked of.
+pub fn fitting_points_suit()
+    ensures { FittingPointsSuit }
+{}
+
+/// The corners that a checker accepts are the corners of the hull.
+pub fn passing_corners_are_corners()
+    ensures { PassingCornersAreCorners }
+{}
+
+/// The corners that a passing polygon lists are the corners of the hull.
+pub fn passing_kgons_list_corners()
+    ensures { PassingKgonsListCorners }
+{}
+
+/// Points have at most one list of corners.
+pub fn corners_are_unique()
+    ensures { CornersAreUnique }
+{}
+
+/// Two best answers to one question on the same points have the same size.
+pub fn best_size_is_unique()
+    ensures { BestSizeIsUnique }
+{}
+
+/// The optimum is one fraction at most.
+pub fn optimum_is_unique()
+    ensures { OptimumIsUnique }
+{}
+
+/// The best size is the same for the points in another order.
+pub fn best_size_has_no_order()
+    ensures { BestSizeHasNoOrder }
+{}
+
+/// A best answer whose object is not given by numbers of points is best for the points in another order.
+pub fn best_answers_have_no_order()
+    ensures { BestAnswersHaveNoOrder }
+{}
+
+/// A circle that passes is best.
+pub fn passing_circles_are_best()
+    ensures { PassingAnswersAreBest ask_circle }
+{}
+
+/// A sphere that passes is best.
+pub fn passing_spheres_are_best()
+    ensures { PassingAnswersAreBest ask_sphere }
+{}
+
+/// One centre that passes is best.
+pub fn passing_single_centres_are_best()
+    ensures { PassingAnswersAreBest (ask_centres 1) }
+{}
