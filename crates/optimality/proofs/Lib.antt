@@ -1,0 +1,10 @@
+pub mod Old
+pub mod StripLaw
+pub mod RectangleLaw
+pub mod ParallelogramLaw
+pub mod AnnulusLaw
+pub mod EmptyLaw
+pub mod KgonLaw
+pub mod DistanceLaw
+pub mod CentresLaw
+pub mod BestLaw
