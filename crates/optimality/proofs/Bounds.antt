@@ -6,10 +6,6 @@ use Rattle.std.proofs.lemmas.Int.{ints, by_lt_z}
 pub nonneg_from_one : {a : ℤ} → pos 1 ≤ℤ a → pos 0 ≤ℤ a
 nonneg_from_one h = omega (arith, ints)
 
--- a number is at most itself
-pub le_refl_ℤ : (a : ℤ) → a ≤ℤ a
-le_refl_ℤ a = omega (arith, ints)
-
 -- what is less is at most
 pub le_from_lt : {a b : ℤ} → a <ℤ b → a ≤ℤ b
 le_from_lt h = omega (arith, ints)
@@ -17,10 +13,6 @@ le_from_lt h = omega (arith, ints)
 -- a chain of two orders, of which the second is strict
 pub le_lt_trans_ℤ : {a b c : ℤ} → a ≤ℤ b → b <ℤ c → a <ℤ c
 le_lt_trans_ℤ h k = omega (arith, ints)
-
--- and one of which the first is
-pub lt_le_trans_ℤ : {a b c : ℤ} → a <ℤ b → b ≤ℤ c → a <ℤ c
-lt_le_trans_ℤ h k = omega (arith, ints)
 
 -- no number is at most another and above it
 pub not_above : {a b : ℤ} {P : Type 0} → a ≤ℤ b → b <ℤ a → P
@@ -33,10 +25,6 @@ nonneg_neg h = omega (arith, ints)
 -- once is itself
 pub one-times : (z : ℤ) → z ≡ pos 1 *ℤ z
 one-times z = omega (arith, ints)
-
--- the negative of the negative is the number
-pub neg-neg : (z : ℤ) → neg_ℤ (neg_ℤ z) ≡ z
-neg-neg z = omega (arith, ints)
 
 -- a number is not below 0, or its negative is not
 pub by_sign : (z : ℤ) {P : Type 0} → (pos 0 ≤ℤ z → P) → (pos 0 ≤ℤ neg_ℤ z → P) → P

@@ -3,11 +3,13 @@ use Rattle.std.proofs.Common.{◌≡◌, ◌⊎◌, inl, inr, refl, sym, ap, ◌
 use Rattle.std.specs.Prelude.{All, Any, slice_index_or, Decides}
 use Rattle.std.proofs.lemmas.Int.{ints, by_lt_z}
 use Rattle.std.proofs.lemmas.List.Elements.{All-cons, All-nil}
+use Rattle.std.specs.Int.Signed.{≤ℤ_refl}
+use Rattle.std.proofs.Math.IntN.{neg_ℤ-neg_ℤ}
 use Rattle.integers.proofs.Identities.{den-ring, read, polys}
 use Rattle.integers.proofs.Order.{le_by, nonneg_difference, le_trans_ℤ}
 use Rattle.bounds_model.specs.Plane.{PlanePoint}
 use Rattle.model_laws.proofs.Decisions.{Decision, both, any-cons, most_ℤ, false-not_true}
-use Rattle.optimality.proofs.Bounds.{le_refl_ℤ, le_from_lt, neg-neg}
+use Rattle.optimality.proofs.Bounds.{le_from_lt}
 
 -- the value is the start, or that of a point that counts
 abbrev pub IsValue : List PlanePoint → (PlanePoint → Type 0) → (PlanePoint → ℤ) → ℤ → ℤ → Type 0
@@ -56,7 +58,7 @@ one_more p rest Counts f w bound start h closest false law =
 
 -- where w times the start is at most the bound, there is a closest value
 pub closest_below : (ps : List PlanePoint) (Counts : PlanePoint → Type 0) → ((p : PlanePoint) → Decision (Counts p)) → (f : PlanePoint → ℤ) (w bound start : ℤ) → (w *ℤ start) ≤ℤ bound → ClosestBelow ps Counts f w bound start
-closest_below [] Counts test f w bound start h = record { value = start; source = inl refl; under = h; from_start = le_refl_ℤ start; greatest = All-nil (λ p. Counts p → (w *ℤ f p) ≤ℤ bound → f p ≤ℤ start) }
+closest_below [] Counts test f w bound start h = record { value = start; source = inl refl; under = h; from_start = ≤ℤ_refl start; greatest = All-nil (λ p. Counts p → (w *ℤ f p) ≤ℤ bound → f p ≤ℤ start) }
 closest_below (p ∷ rest) Counts test f w bound start h =
     let takes = both (test p) (both (most_ℤ (w *ℤ f p) bound) (most_ℤ start (f p))) in
     one_more p rest Counts f w bound start h (λ v k. closest_below rest Counts test f w bound v k) takes.test takes.law
@@ -69,9 +71,11 @@ pub record ClosestAbove (ps : List PlanePoint) (Counts : PlanePoint → Type 0) 
   pub to_start : value ≤ℤ start
   pub least : All (λ p. Counts p → bound ≤ℤ (w *ℤ f p) → value ≤ℤ f p) ps
 
+-- negatives turn an order of a product
 negate_product : (w v b : ℤ) → b ≤ℤ (w *ℤ v) → (w *ℤ neg_ℤ v) ≤ℤ neg_ℤ b
 negate_product w v b h = le_by (nonneg_difference h) (read (w ∷ v ∷ b ∷ []) (λ xs a b c. simp (a, b, c, polys) (den-ring xs _ _ tt)))
 
+-- and back
 negate_bound : (w v b : ℤ) → (w *ℤ v) ≤ℤ neg_ℤ b → b ≤ℤ (w *ℤ neg_ℤ v)
 negate_bound w v b h = le_by (nonneg_difference h) (read (w ∷ v ∷ b ∷ []) (λ xs a b c. simp (a, b, c, polys) (den-ring xs _ _ tt)))
 
@@ -81,7 +85,7 @@ closest_above ps Counts test f w bound start h =
     let c = closest_below ps Counts test (λ p. neg_ℤ (f p)) w (neg_ℤ bound) (neg_ℤ start) (negate_product w start bound h) in
     record {
       value = neg_ℤ c.value;
-      source = elim c.source [ inl e ↦ inl (ap neg_ℤ e ∙ neg-neg start) | inr a ↦ inr (a.0, a.1, a.2, a.3, (a.4.0, sym (neg-neg (f a.1)) ∙ ap neg_ℤ a.4.1)) ];
+      source = elim c.source [ inl e ↦ inl (ap neg_ℤ e ∙ neg_ℤ-neg_ℤ start) | inr a ↦ inr (a.0, a.1, a.2, a.3, (a.4.0, sym (neg_ℤ-neg_ℤ (f a.1)) ∙ ap neg_ℤ a.4.1)) ];
       over = negate_bound w c.value bound c.under;
       to_start = negate_le c.from_start;
       least = λ i d l counts over. negate_le (c.greatest i d l counts (negate_product w (f (slice_index_or ps i d)) bound over));

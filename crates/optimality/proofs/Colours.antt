@@ -1,7 +1,6 @@
 -- The corner lemma: where at most three squares cover points, a square in a corner of the bounding box can be one of them.
 -- Each point has the colour of a square that covers it, so points of one colour are within a side of each other.
-use Rattle.std.proofs.Common.{◌≡◌, ◌≢◌, refl, sym, ◌∙◌, ℕ, suc, ◌<◌, ◌≤◌, pos, ◌-ℤ◌, ◌≤ℤ◌, Bool, true, false, not, List, [], ◌∷◌, arith}
-use mathlib.Core.Logic.{inl, inr}
+use Rattle.std.proofs.Common.{◌≡◌, inl, inr, ◌≢◌, refl, sym, ◌∙◌, ℕ, suc, ◌<◌, ◌≤◌, pos, ◌-ℤ◌, ◌≤ℤ◌, Bool, true, false, not, List, [], ◌∷◌, arith}
 use Rattle.std.specs.Prelude.{Contains, ◌==◌, if◌then◌else◌, Decides}
 use Rattle.std.proofs.lemmas.Bool.{cases_eq}
 use Rattle.std.proofs.lemmas.Bool.Decides.{Decides-eqb}
@@ -20,7 +19,7 @@ pub record AreNear (side : ℕ) (p q : PlanePoint) : Type 0 where
   pub in_x : (p.x -ℤ q.x) ≤ℤ pos side
   pub in_y : (p.y -ℤ q.y) ≤ℤ pos side
 
--- a colour for each point of a list
+-- a colour for each point of a list, at each of its places
 abbrev pub Colouring : List PlanePoint → Type 0
 Colouring ps = (p : PlanePoint) → Contains ps p → ℕ
 
@@ -130,6 +129,7 @@ fills_a_corner side count ps colour few c e =
 abbrev recolour : ℕ → ℕ → ℕ → ℕ
 recolour j c x = if x == c then j else x
 
+-- a colour other than j becomes one below c
 recolour_below : (j c x : ℕ) → j < suc c → x < suc c → x ≢ j → recolour j c x < c
 recolour_below j c x hj hx n = by_bool (x == c) (Decides-eqb x c)
   where
@@ -137,6 +137,7 @@ recolour_below j c x hj hx n = by_bool (x == c) (Decides-eqb x c)
     by_bool true d = let e : x ≡ c = d.0 refl in omega arith
     by_bool false d = let e : x ≢ c = λ e. false-not_true (d.1 e) in omega arith
 
+-- and different ones stay different
 recolour_same : (j c x y : ℕ) → x ≢ j → y ≢ j → recolour j c x ≡ recolour j c y → x ≡ y
 recolour_same j c x y nx ny = by_bools (x == c) (y == c) (Decides-eqb x c) (Decides-eqb y c)
   where

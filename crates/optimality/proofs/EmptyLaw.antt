@@ -2,6 +2,7 @@
 use Rattle.std.proofs.Common.{◌≡◌, sym, subst, ℤ, pos, ◌-ℤ◌, ◌*ℤ◌, ◌≤ℤ◌, ◌<ℤ◌, List, [], ◌∷◌, arith}
 use Rattle.std.specs.Prelude.{slice_index_or}
 use Rattle.std.proofs.lemmas.Int.{ints, by_lt_z}
+use Rattle.std.specs.Int.Signed.{≤ℤ_refl, <ℤ-≤ℤ_trans}
 use Rattle.integers.proofs.Identities.{den-ring, read, polys, lits}
 use Rattle.integers.proofs.Order.{nonneg_mul, nonneg_add, square_nonneg, positive_from_one, le_by, lt_of_mul_lt, mul_le_both, nonneg_difference}
 use Rattle.bounds_model.specs.Plane.{PlanePoint, times}
@@ -11,7 +12,7 @@ use Rattle.bounds_model.specs.EmptyAnswer.{EmptyAnswer, EachHeight, EachPlace, I
 use Rattle.model_laws.proofs.DecideEmpty.{strictly_inside}
 use Rattle.model_laws.proofs.SizeDenominators.{empty_denominator}
 use Rattle.optimality.specs.Laws.{PassingEmptyRectanglesAreBest}
-use Rattle.optimality.proofs.Bounds.{nonneg_from_one, le_refl_ℤ, le_from_lt, le_lt_trans_ℤ, lt_le_trans_ℤ, not_above, one-times}
+use Rattle.optimality.proofs.Bounds.{nonneg_from_one, le_from_lt, le_lt_trans_ℤ, not_above, one-times}
 use Rattle.optimality.proofs.PrintedSizes.{greatest_by_printed}
 use Rattle.optimality.proofs.ClosestValues.{ClosestBelow, ClosestAbove, closest_below, closest_above, value_has}
 
@@ -51,9 +52,9 @@ gap_is_empty frame points other fits gap i d l inside =
     let p = slice_index_or points i d in
     let in_frame : IsStrictlyInside frame p = record {
       after_left = le_lt_trans_ℤ gap.left.from_start inside.after_left;
-      before_right = lt_le_trans_ℤ inside.before_right gap.right.to_start;
+      before_right = <ℤ-≤ℤ_trans inside.before_right gap.right.to_start;
       above_bottom = le_lt_trans_ℤ gap.bottom.from_start inside.above_bottom;
-      below_top = lt_le_trans_ℤ inside.below_top gap.top.to_start;
+      below_top = <ℤ-≤ℤ_trans inside.below_top gap.top.to_start;
     } in
     let in_band : IsStrictlyInside (band_of frame gap) p = record { after_left = in_frame.after_left; before_right = in_frame.before_right; above_bottom = inside.above_bottom; below_top = inside.below_top } in
     fits.empty i d l (record {
@@ -91,8 +92,8 @@ open_not_larger : (frame : Box) (points : List PlanePoint) (size : Fraction) →
 open_not_larger frame points size pD none other fits wide high =
     let w = positive_from_one fits.denominator in
     let gap = gap_around frame points other fits in
-    let rises = lt_of_mul_lt other.w w (lt_le_trans_ℤ (le_lt_trans_ℤ gap.bottom.under high) gap.top.over) in
-    let goes_right = lt_of_mul_lt other.w w (lt_le_trans_ℤ (le_lt_trans_ℤ gap.left.under wide) gap.right.over) in
+    let rises = lt_of_mul_lt other.w w (<ℤ-≤ℤ_trans (le_lt_trans_ℤ gap.bottom.under high) gap.top.over) in
+    let goes_right = lt_of_mul_lt other.w w (<ℤ-≤ℤ_trans (le_lt_trans_ℤ gap.left.under wide) gap.right.over) in
     area_in_box other.w size.d size.n gap.left.value gap.right.value gap.bottom.value gap.top.value other.box.left other.box.right other.box.bottom other.box.top pD (nonneg_from_one fits.denominator) gap.left.under gap.right.over gap.bottom.under gap.top.over fits.width fits.height
     (gap_not_larger frame points size none other gap rises goes_right (gap_is_empty frame points other fits gap))
 
@@ -119,7 +120,7 @@ none_larger frame points a h other fits =
 -- the rectangle of the answer fits
 empty_fits : (frame : Box) (points : List PlanePoint) (a : EmptyAnswer) → PassesEmpty frame points a → FitsEmpty frame points (empty_of a)
 empty_fits frame points a h = record {
-  denominator = le_refl_ℤ (pos 1);
+  denominator = ≤ℤ_refl (pos 1);
   width = le_from_lt h.wide;
   height = le_from_lt h.high;
   left = subst (λ v. v ≤ℤ a.box.left) (one-times frame.left) h.in_left;

@@ -2,9 +2,10 @@
 use Rattle.std.proofs.Common.{◌≡◌, sym, subst, ℕ, zero, suc, ◌+◌, ◌-◌, ◌<◌, ◌≤◌, ℤ, pos, negsuc, ◌-ℤ◌, ◌*ℤ◌, neg_ℤ, ◌≤ℤ◌, ◌<ℤ◌, List, [], ◌∷◌, ◌++◌, length, map, arith}
 use Rattle.std.proofs.lemmas.Int.{ints, by_lt_z}
 use Rattle.std.proofs.lemmas.List.{length-map, length-append}
+use Rattle.std.proofs.Math.IntN.{neg_ℤ-neg_ℤ}
 use Rattle.bounds_model.specs.Plane.{PlanePoint, point_at, cross, quarter_turn}
 use Rattle.bounds_model.specs.Fans.{HalfFan, QuarterFan, half_directions, quarter_directions, TurnLeft, HoldsHalf, HoldsQuarter, east, north, west}
-use Rattle.optimality.proofs.Bounds.{le_from_lt, neg-neg, by_sign}
+use Rattle.optimality.proofs.Bounds.{le_from_lt, by_sign}
 
 -- ---- a cone around a direction
 
@@ -65,12 +66,15 @@ cone_around first last directions (cone ∷ rest) many some turns u h k =
     one_more : (i : ℕ) → suc i ≡ i + 1
     one_more i = omega arith
 
+-- what does not point down is not to the right of east
 left_of_east : (x y : ℤ) → pos 0 ≤ℤ y → pos 0 ≤ℤ (pos 1 *ℤ y -ℤ pos 0 *ℤ x)
 left_of_east x y h = omega (arith, ints)
 
+-- nor to the left of west
 right_of_west : (x y : ℤ) → pos 0 ≤ℤ y → (negsuc 0 *ℤ y -ℤ pos 0 *ℤ x) ≤ℤ pos 0
 right_of_west x y h = omega (arith, ints)
 
+-- what does not point to the left is not to the left of north
 right_of_north : (x y : ℤ) → pos 0 ≤ℤ x → (pos 0 *ℤ y -ℤ pos 1 *ℤ x) ≤ℤ pos 0
 right_of_north x y h = omega (arith, ints)
 
@@ -95,7 +99,7 @@ pub up_to_sign : (P : PlanePoint → Type 0) → ((v : PlanePoint) → P (opposi
 up_to_sign P back upper u = by_sign u.y (upper u) (λ down. back u (upper (opposite u) down))
 
 -- the direction turned to the right by a right angle
-abbrev turned_right : PlanePoint → PlanePoint
+abbrev pub turned_right : PlanePoint → PlanePoint
 turned_right u = record { x = u.y; y = neg_ℤ u.x }
 
 -- what holds of each direction that points neither down nor to the left, and of a turned direction with the direction, holds of all
@@ -106,7 +110,7 @@ up_to_quarter_turns P turn first u =
     (λ left. by_sign u.y (λ up. second u left up) (λ down. third u left down))
   where
     from_right : (v : PlanePoint) → P (turned_right v) → P v
-    from_right v h = subst P (λ i. record { x = neg-neg v.x i; y = v.y }) (turn (turned_right v) h)
+    from_right v h = subst P (λ i. record { x = neg_ℤ-neg_ℤ v.x i; y = v.y }) (turn (turned_right v) h)
 
     second : (v : PlanePoint) → pos 0 ≤ℤ neg_ℤ v.x → pos 0 ≤ℤ v.y → P v
     second v left up = from_right v (first (turned_right v) up left)
@@ -115,4 +119,4 @@ up_to_quarter_turns P turn first u =
     third v left down = from_right v (second (turned_right v) down left)
 
     fourth : (v : PlanePoint) → pos 0 ≤ℤ v.x → pos 0 ≤ℤ neg_ℤ v.y → P v
-    fourth v right down = from_right v (third (turned_right v) down (subst (λ z. pos 0 ≤ℤ z) (sym (neg-neg v.x)) right))
+    fourth v right down = from_right v (third (turned_right v) down (subst (λ z. pos 0 ≤ℤ z) (sym (neg_ℤ-neg_ℤ v.x)) right))

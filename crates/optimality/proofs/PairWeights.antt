@@ -29,9 +29,11 @@ sum_by_number g f n (p ∷ rest) = f n *ℤ g p +ℤ sum_by_number g f (n + 1) r
 abbrev only_at : ℤ → ℕ → ℕ → ℤ
 only_at w j i = if j == i then w else pos 0
 
+-- there it is w
 only-there : (w : ℤ) (j i : ℕ) → j ≡ i → only_at w j i ≡ w
 only-there w j i e = ap (λ b. if b then w else pos 0) ((Decides-eqb j i).1 e)
 
+-- and elsewhere 0
 only-elsewhere : (w : ℤ) (j i : ℕ) → j ≢ i → only_at w j i ≡ pos 0
 only-elsewhere w j i n = ap (λ b. if b then w else pos 0) off
   where

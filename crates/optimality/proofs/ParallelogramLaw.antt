@@ -2,6 +2,8 @@
 use Rattle.std.proofs.Common.{◌≡◌, sym, ap, subst, ℕ, zero, suc, ◌+◌, ◌<◌, ◌≤◌, ℤ, pos, nat_abs, ◌+ℤ◌, ◌-ℤ◌, ◌*ℤ◌, neg_ℤ, ◌≤ℤ◌, ◌<ℤ◌, List, [], ◌∷◌, length, arith}
 use Rattle.std.specs.Prelude.{slice_index_or, slice_get, IsSomeAnd}
 use Rattle.std.proofs.lemmas.Int.{by_lt_z}
+use Rattle.std.specs.Int.Signed.{≤ℤ_refl}
+use Rattle.std.proofs.lemmas.Option.{slice_get-get_or}
 use Rattle.integers.proofs.Identities.{den-ring, read, polys}
 use Rattle.integers.proofs.Order.{nonneg_mul, nonneg_add, positive_from_one, le_by, le_of_mul_le, nonneg_difference, combine2}
 use Rattle.bounds_model.specs.Plane.{PlanePoint, origin, point_at, vector, cross}
@@ -12,7 +14,7 @@ use Rattle.bounds_model.specs.Fans.{HalfCone, half_directions, reach}
 use Rattle.bounds_model.specs.ParallelogramAnswer.{Chord, ParallelogramAnswer, parallelogram_of, PassesParallelogram, IsAcross, IsNotSmaller, IsNotSmallerAt}
 use Rattle.model_laws.proofs.SizeDenominators.{parallelogram_denominator}
 use Rattle.optimality.specs.Laws.{PassingParallelogramsAreBest}
-use Rattle.optimality.proofs.Bounds.{nonneg_from_one, le_refl_ℤ, le_from_lt, nonneg_neg, by_magnitude}
+use Rattle.optimality.proofs.Bounds.{nonneg_from_one, le_from_lt, nonneg_neg, by_magnitude}
 use Rattle.optimality.proofs.PrintedSizes.{smallest_by_printed}
 use Rattle.optimality.proofs.FanCones.{half_cone_around, length-directions, up_to_sign, opposite}
 use Rattle.optimality.proofs.Reaches.{reach_nonneg, reach-opposite, reach_in_span, span_in_order, inside_over_one}
@@ -58,9 +60,7 @@ at_direction N D E w s r K x pN pD pE pw ps pr h l =
 
 -- what holds of what is there holds of the read
 some_at : {X : Type 0} (P : X → Type 0) (xs : List X) (i : ℕ) (d : X) → i < length xs → IsSomeAnd (slice_get xs i) P → P (slice_index_or xs i d)
-some_at P [] i d l h = absurd (omega arith)
-some_at P (x ∷ xs) zero d l h = h
-some_at P (x ∷ xs) (suc i) d l h = some_at P xs i d (omega arith) h
+some_at P xs i d l h = subst (λ o. IsSomeAnd o P) (slice_get-get_or xs i d l) h
 
 -- any chord, for reading past the end of a list
 no_chord : Chord
@@ -169,7 +169,7 @@ parallelogram_fits points a h =
       normals = h.normals;
       first_bounds = span_in_order (h.inside_first cone.high origin named);
       second_bounds = span_in_order (h.inside_second cone.high origin named);
-      denominator = le_refl_ℤ (pos 1);
+      denominator = ≤ℤ_refl (pos 1);
       inside_first = inside_over_one points a.first a.first_bounds h.inside_first;
       inside_second = inside_over_one points a.second a.second_bounds h.inside_second;
     }

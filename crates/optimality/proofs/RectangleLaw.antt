@@ -1,6 +1,7 @@
 -- A rectangle that passes has the least area around its points.
 use Rattle.std.proofs.Common.{◌≡◌, sym, subst, ℕ, ◌+◌, ◌<◌, ℤ, pos, ◌+ℤ◌, ◌*ℤ◌, neg_ℤ, ◌≤ℤ◌, List, [], ◌∷◌, length}
 use Rattle.std.specs.Prelude.{slice_index_or}
+use Rattle.std.specs.Int.Signed.{≤ℤ_refl}
 use Rattle.integers.proofs.Identities.{den-ring, read, polys}
 use Rattle.integers.proofs.Order.{le_by, nonneg_difference}
 use Rattle.bounds_model.specs.Plane.{PlanePoint, origin, point_at, vector, dot, squared_length, quarter_turn}
@@ -11,9 +12,9 @@ use Rattle.bounds_model.specs.Fans.{QuarterCone, quarter_directions, reach}
 use Rattle.bounds_model.specs.RectangleAnswer.{RectangleAnswer, rectangle_of, PassesRectangle}
 use Rattle.model_laws.proofs.SizeDenominators.{rectangle_denominator}
 use Rattle.optimality.specs.Laws.{PassingRectanglesAreBest}
-use Rattle.optimality.proofs.Bounds.{nonneg_from_one, le_refl_ℤ}
+use Rattle.optimality.proofs.Bounds.{nonneg_from_one}
 use Rattle.optimality.proofs.PrintedSizes.{smallest_by_printed}
-use Rattle.optimality.proofs.FanCones.{quarter_cone_around, up_to_quarter_turns}
+use Rattle.optimality.proofs.FanCones.{quarter_cone_around, up_to_quarter_turns, turned_right}
 use Rattle.optimality.proofs.Reaches.{dot_between, product_between, reach_nonneg, reach-opposite, reach_in_span, span_in_order, inside_over_one, extents_at_least}
 
 -- four points reach as far along u and across it as the size asks of a rectangle in this direction
@@ -33,10 +34,6 @@ record IsLarge (points : List PlanePoint) (size : Fraction) (u : PlanePoint) : T
 -- any cone, for reading past the end of a list
 no_cone : QuarterCone
 no_cone = record { direction = origin; high = 0; low = 0; over = 0; under = 0 }
-
--- the vector turned to the right by a right angle
-abbrev turned_right : PlanePoint → PlanePoint
-turned_right k = record { x = k.y; y = neg_ℤ k.x }
 
 -- the product with a direction that was turned to the left
 dot-turned : (d k : PlanePoint) → dot (quarter_turn d) k ≡ dot d (turned_right k)
@@ -121,7 +118,7 @@ rectangle_fits points a h =
       direction = h.normal;
       along = span_in_order (h.inside_along w.high origin w.in_high);
       across = span_in_order (h.inside_across w.high origin w.in_high);
-      denominator = le_refl_ℤ (pos 1);
+      denominator = ≤ℤ_refl (pos 1);
       inside_along = inside_over_one points a.direction a.along h.inside_along;
       inside_across = inside_over_one points (quarter_turn a.direction) a.across h.inside_across;
     }

@@ -1,6 +1,7 @@
 -- A strip that passes is the thinnest around its points.
 use Rattle.std.proofs.Common.{subst, ℕ, ◌+◌, ◌<◌, ℤ, pos, ◌+ℤ◌, ◌*ℤ◌, neg_ℤ, ◌≤ℤ◌, List, [], ◌∷◌, length}
 use Rattle.std.specs.Prelude.{slice_index_or}
+use Rattle.std.specs.Int.Signed.{≤ℤ_refl}
 use Rattle.integers.proofs.Identities.{den-ring, read, polys}
 use Rattle.integers.proofs.Order.{le_by, nonneg_difference}
 use Rattle.bounds_model.specs.Plane.{PlanePoint, origin, point_at, vector, squared_length}
@@ -10,7 +11,7 @@ use Rattle.bounds_model.specs.Fans.{HalfCone, half_directions, reach}
 use Rattle.bounds_model.specs.StripAnswer.{StripAnswer, strip_of, PassesStrip}
 use Rattle.model_laws.proofs.SizeDenominators.{strip_denominator}
 use Rattle.optimality.specs.Laws.{PassingStripsAreBest}
-use Rattle.optimality.proofs.Bounds.{nonneg_from_one, le_refl_ℤ}
+use Rattle.optimality.proofs.Bounds.{nonneg_from_one}
 use Rattle.optimality.proofs.PrintedSizes.{smallest_by_printed}
 use Rattle.optimality.proofs.FanCones.{half_cone_around, up_to_sign, opposite}
 use Rattle.optimality.proofs.Reaches.{dot_between, product_between, reach_nonneg, reach-opposite, reach_in_span, span_in_order, inside_over_one, extents_at_least}
@@ -83,7 +84,7 @@ strip_fits points a h =
     record {
       normal = h.normal;
       bounds = span_in_order (h.inside w.high origin w.in_high);
-      denominator = le_refl_ℤ (pos 1);
+      denominator = ≤ℤ_refl (pos 1);
       inside = inside_over_one points a.direction a.bounds h.inside;
     }
 
