@@ -1,5 +1,4 @@
 -- What an ask and point sets mean.
-use Rattle.std.specs.Prelude.{List}
 use Rattle.bounds_model.specs.Asks as model
 use Rattle.bounded_coords.specs.Clouds.{points_of}
 use Rattle.bounded_coords.specs.declared.ask.Ask.{Ask}

@@ -2,7 +2,7 @@
 ghost use Rattle.std.specs.Prelude.{◌≡◌, ◌↔◌, IsSome, IfSome};
 ghost use Rattle.bounds_model.specs.Numbers.{IsWithin};
 ghost use Rattle.bounds_model.specs.Plane.{plane_limit};
-ghost use Rattle.bounded_coords.specs.Frames.{IsFrame};
+ghost use Rattle.bounds_model.specs.EmptyRectangle.{IsFrame};
 
 use std::marker::Model;
 
@@ -16,8 +16,7 @@ pub struct Frame {
 }
 
 impl Model for Frame {
-    ghost use Rattle.bounds_model.specs.EmptyRectangle.{Box};
-    ghost use Rattle.bounded_coords.specs.Frames.{IsFrame};
+    ghost use Rattle.bounds_model.specs.EmptyRectangle.{Box, IsFrame};
 
     ghost Value = { Box };
 

@@ -1,3 +1,0 @@
-mod AnswerTexts
-mod DemoPoints
-mod ErrorTexts

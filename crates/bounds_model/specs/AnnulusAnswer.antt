@@ -14,7 +14,7 @@ pub record WeightedPair : Type 0 where
   pub second : ℕ
   pub weight : ℤ
 
--- a ring, and weighted pairs of an outer and an inner point
+-- a ring, and weighted pairs of points
 pub record AnnulusAnswer : Type 0 where
   pub size : Fraction
   pub centre : PlaneRatio

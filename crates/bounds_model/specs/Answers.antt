@@ -1,5 +1,5 @@
 -- The ten kinds of questions with their answers: when an answer fits, when it is best, and when it passes.
-use Rattle.std.specs.Prelude.{◌≡◌, ℕ, List, []}
+use Rattle.std.specs.Prelude.{◌≡◌, ℕ, ◌<◌, List, [], length, All}
 use Rattle.std.specs.declared.option.Option.{Option}
 use Rattle.std.specs.declared.option.Option.TheVariants.{Some, None}
 use Rattle.std.specs.Option.{IsSomeAnd}
@@ -106,7 +106,7 @@ ClaimFits (parallelogram_claim points a) = FitsParallelogram points (parallelogr
 ClaimFits (strip_claim points a) = FitsStrip points (strip_of a) × IsPrintedSize (strip_size (strip_of a)) a.size
 ClaimFits (annulus_claim points a) = FitsAnnulus points (annulus_of a) × IsPrintedSize (annulus_size (annulus_of a)) a.size
 ClaimFits (empty_claim frame points a) = FitsEmpty frame points (empty_of a) × IsPrintedSize (empty_size (empty_of a)) a.size
-ClaimFits (kgon_claim k points a) = AreCorners points (corner_points points a) × FitsKgon k (corner_points points a) a.chosen × IsPrintedSize (kgon_size (corner_points points a) a.chosen) a.size
+ClaimFits (kgon_claim k points a) = All (λ number. number < length points) a.corners × AreCorners points (corner_points points a) × FitsKgon k (corner_points points a) a.chosen × IsPrintedSize (kgon_size (corner_points points a) a.chosen) a.size
 ClaimFits (distance_claim ps qs a) = FitsDistance ps qs (weights_of ps qs a) × IsPrintedSize (distance_size ps qs (weights_of ps qs a)) a.size
 ClaimFits (centres_claim count points a) = FitsCentres count points (cover_of a) × IsPrintedSize (centres_size (cover_of a)) a.size
 

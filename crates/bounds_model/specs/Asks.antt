@@ -24,7 +24,7 @@ pub data Sets : Type 0 where
   two : List SpacePoint → List SpacePoint → Sets
   bare : Sets
 
--- a polygon has at most 3 to 12 corners, there are 1 to 3 centres, and a frame is in bounds and has an inside
+-- the bound on the corners of a polygon is 3 to 12, there are 1 to 3 centres, and a frame is in bounds and has an inside
 abbrev pub IsValid : Ask → Type 0
 IsValid (ask_empty frame) = IsFrame frame
 IsValid (ask_kgon k) = (3 ≤ k) × (k ≤ 12)

@@ -30,7 +30,7 @@ pub record CentresPlaces (a : CentresAnswer) : Type 0 where
   pub leaf_count : HasCount 0 16 a.leaves
   pub leaves : All (λ leaf. (leaf.first ≤ point_limit) × (leaf.second ≤ point_limit)) a.leaves
 
--- a square's centre is a whole point or half of one, and is within the checker's limits
+-- the numbers of a square's centre are within the checker's limits: w is 1 or 2, x and y are at most a million in magnitude
 pub record IsNearCentre (c : PlaneRatio) : Type 0 where
   pub halves : (c.w ≡ pos 1) ⊎ (c.w ≡ pos 2)
   pub x : IsWithin 1000000 c.x

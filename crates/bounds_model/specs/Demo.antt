@@ -4,7 +4,7 @@ use Rattle.bounds_model.specs.Plane.{PlanePoint}
 use Rattle.bounds_model.specs.Space.{SpacePoint}
 use Rattle.bounds_model.specs.Asks.{Ask, ask_sphere, ask_distance, Sets, plane, space, two}
 
--- the state behind a state
+-- the state after a state
 abbrev pub next_state : ℕ → ℕ
 next_state s = (s * 1103515245 + 12345) % 2 ^ 31
 
@@ -37,6 +37,7 @@ right_coordinate s = pos (drawn s % 8000) +ℤ pos 1
 
 -- ---- points, from the state before the first of them
 
+-- points of the plane
 abbrev pub plane_points : ℕ → ℕ → List PlanePoint
 plane_points s zero = []
 plane_points s (suc count) =
@@ -49,7 +50,7 @@ space_points x_coordinate s (suc count) =
     record { x = x_coordinate (state_after 1 s); y = space_coordinate (state_after 2 s); z = space_coordinate (state_after 3 s) }
     ∷ space_points x_coordinate (state_after 3 s) count
 
--- the points for what is asked, from a seed, so many in each set; those of a second set are drawn behind the first
+-- the points for what is asked, from a seed, so many in each set; those of a second set are drawn after the first
 abbrev pub demo_sets : Ask → ℕ → ℕ → Sets
 demo_sets ask_sphere seed count = space (space_points space_coordinate seed count)
 demo_sets ask_distance seed count =

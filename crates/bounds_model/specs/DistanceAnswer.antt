@@ -62,7 +62,7 @@ mean at pairs =
     let sum = weighted_sum (λ pair. pair.weight) at pairs in
     record { x = sum.x; y = sum.y; z = sum.z; w = pair_sum pairs }
 
--- v is a whole number, of at least 1, of vectors d, whose entries have no common factor
+-- v is d taken a whole number of times, at least once, and the entries of d have no common factor
 pub record IsMultipleOfLowest (v d : SpacePoint) : Type 0 where
   pub factor : ℤ
   pub positive : pos 1 ≤ℤ factor

@@ -1,4 +1,4 @@
--- The line that tells why nothing was answered.
+-- The line that tells why there is no whole answer.
 use Rattle.std.specs.Prelude.{ℕ, List, ◌++◌, decimal, codes}
 
 -- the files that a command names
@@ -17,7 +17,7 @@ pub data OptionName : Type 0 where
   count_option : OptionName
   brief_option : OptionName
 
--- why nothing was answered; a number is that of a line or of a set, or how many there are
+-- why there is no whole answer; a number is that of a line or of a set, or how many there are
 pub data Cause : Type 0 where
   words_not_understood : Cause
   unknown_command : Cause
@@ -39,6 +39,7 @@ pub data Cause : Type 0 where
   write_fault : Cause
   out_of_memory : Cause
 
+-- what a file is called
 abbrev pub file_name : InputFile → List ℕ
 file_name points_file = codes "points"
 file_name answer_file = codes "answer"

@@ -34,12 +34,12 @@ pub record KgonPlaces (a : KgonAnswer) : Type 0 where
   pub potential_count : length a.potentials ≡ a.layers * pairs_before (length a.corners) (length a.corners)
   pub potentials : All IsNatural a.potentials
 
--- the potential of the positions a and b in a layer, which is 0 below the first layer: the list has the positions a in order, for each its layers, for each the positions b after a
+-- the potential of the positions a and b in a layer, the first of which is 1, and 0 below it: the list has the positions a in order, for each its layers, for each the positions b after a
 abbrev pub potential : KgonAnswer → ℕ → ℕ → ℕ → ℤ
 potential answer a layer b =
     if nat_lt 0 layer then slice_index_or answer.potentials (answer.layers * pairs_before (length answer.corners) a + (layer - 1) * (length answer.corners - 1 - a) + (b - a - 1)) (pos 0) else pos 0
 
--- a potential grows by at least the triangle that one more corner adds
+-- a potential grows by at least twice the area of the triangle that one more corner adds
 abbrev pub Grows : List PlanePoint → KgonAnswer → ℕ → ℕ → ℕ → ℕ → Type 0
 Grows corners answer layer a b c =
     (potential answer a layer b +ℤ turn (point_at corners a) (point_at corners b) (point_at corners c)) ≤ℤ potential answer a (layer + 1) c

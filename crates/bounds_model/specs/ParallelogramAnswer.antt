@@ -9,7 +9,7 @@ use Rattle.bounds_model.specs.Places.{IsFraction, IsPair, IsSpan, IsNumber, IsNa
 use Rattle.bounds_model.specs.Fans.{HalfFan, HalfCone, half_directions, HoldsHalf, HalfPlaces, reach, IsShort}
 use Rattle.bounds_model.specs.StripAnswer.{IsShortSpan, NamesPoints}
 
--- from the point a to a point between b and c, at right angles to a direction
+-- from the point a to the mean of b and c with the weights beta and gamma: k / (beta + gamma) times a direction turned by a right angle
 pub record Chord : Type 0 where
   pub a : ℕ
   pub b : ℕ
@@ -52,7 +52,7 @@ pub record ParallelogramPlaces (a : ParallelogramAnswer) : Type 0 where
   pub chord_for_each : length a.chords ≡ length (half_directions a.fan)
   pub chords : All ChordPlaces a.chords
 
--- how large the weights of a chord may be together, and its length
+-- how large the weights of a chord may be together, and its factor k
 abbrev pub chord_limit : ℕ
 chord_limit = 2 ^ 39
 
@@ -71,12 +71,12 @@ abbrev pub IsAcross : List PlanePoint → PlanePoint → Chord → Type 0
 IsAcross points d chord =
     plus (times chord.beta (vector (point_at points chord.a) (point_at points chord.b))) (times chord.gamma (vector (point_at points chord.a) (point_at points chord.c))) ≡ times chord.k (quarter_turn d)
 
--- the strip along the direction, cut off by the length of the chord, is not smaller than the size
+-- the strip around the points with this normal, times the chord across it, is not smaller than the size
 abbrev pub IsNotSmaller : List PlanePoint → Fraction → PlanePoint → HalfCone → Chord → Type 0
 IsNotSmaller points size d cone chord =
     (size.n *ℤ (chord.beta +ℤ chord.gamma)) ≤ℤ (reach points d cone.high cone.low *ℤ pos (nat_abs chord.k) *ℤ size.d)
 
--- the direction of this number has a chord, and with it the strip is not smaller than the size
+-- the direction of this number has a chord, and with it that product is not smaller than the size
 abbrev pub IsNotSmallerAt : List PlanePoint → ParallelogramAnswer → ℕ → HalfCone → Type 0
 IsNotSmallerAt points a i cone = IsSomeAnd (slice_get a.chords i) (IsNotSmaller points a.size (point_at (half_directions a.fan) i) cone)
 

@@ -34,7 +34,7 @@ pub record IsShortSpan (span : Span) : Type 0 where
 abbrev pub NamesPoints : List PlanePoint → HalfFan → Type 0
 NamesPoints points fan = All (λ cone. (cone.high < length points) × (cone.low < length points)) fan.cones
 
--- the strip around the points along this direction is not thinner than the size
+-- the square of the width of the strip around the points with this normal is at least the size
 abbrev pub IsNotThinner : List PlanePoint → Fraction → PlanePoint → HalfCone → Type 0
 IsNotThinner points size d cone =
     (size.n *ℤ squared_length d) ≤ℤ (reach points d cone.high cone.low *ℤ reach points d cone.high cone.low *ℤ size.d)

@@ -1,10 +1,11 @@
 -- The square in the lower left corner of the bounding box, as wide as its longer side, is the smallest that covers the points.
-use Rattle.std.proofs.Common.{◌≡◌, ◌⊎◌, ℕ, zero, suc, ◌+◌, ◌<◌, ◌≤◌, List, [], ◌∷◌, length, get_or, ℤ, pos, ◌+ℤ◌, ◌-ℤ◌, ◌*ℤ◌, ◌≤ℤ◌, ◌<ℤ◌, neg_ℤ, nat_abs, All, Any, inl, inr, refl, sym, ap, subst, ◌∙◌, arith}
+use Rattle.std.proofs.Common.{◌≡◌, ◌⊎◌, ℕ, zero, suc, ◌<◌, List, [], ◌∷◌, length, get_or, ℤ, pos, ◌+ℤ◌, ◌-ℤ◌, ◌*ℤ◌, ◌≤ℤ◌, neg_ℤ, nat_abs, All, Any, inl, inr, refl, sym, subst, arith}
 use Rattle.std.specs.Int.{int_max}
 use Rattle.std.proofs.lemmas.Int.{ints}
 use Rattle.std.proofs.lemmas.List.Elements.{All-cons, All-nil}
 use Rattle.integers.specs.Extremes.{greatest, least}
-use Rattle.integers.proofs.Extremes.{below_greatest, above_least, left-le-max, right-le-max}
+use Rattle.integers.proofs.Extremes.{below_greatest, above_least}
+use Rattle.integers.proofs.MaxMin.{left-le-max, right-le-max}
 use Rattle.integers.proofs.Identities.{den-ring, read, polys, lits, below_lits}
 use Rattle.integers.proofs.Order.{nonneg_mul, le_by, le_of_mul_le, mul_le_left, nonneg_difference, combine1}
 use Rattle.bounds_model.specs.Plane.{PlanePoint, PlaneRatio, point_at, origin}

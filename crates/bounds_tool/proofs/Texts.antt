@@ -1,5 +1,5 @@
 -- A text that is accepted has a point.
-use Rattle.std.proofs.Common.{◌≡◌, ℕ, List, [], ◌∷◌, Ok, Err}
+use Rattle.std.proofs.Common.{◌≡◌, ℕ, List, [], ◌∷◌, Ok}
 use Rattle.bounds_model.specs.Plane.{PlanePoint}
 use Rattle.bounds_model.specs.PointText.{Refusal, said_points, some_points, line_meaning, line_refusals, first_refusal, text_lines, points_of_text}
 use Rattle.std.specs.Prelude.{map}

@@ -1,11 +1,13 @@
 -- The output for one centre: the text of a smallest square over the points.
 use Rattle.std.specs.Prelude.{◌≡◌, ◌⊎◌, ℕ, ◌<◌, List, [], ◌∷◌, length, ℤ, pos, nat_abs, ◌-ℤ◌, ◌*ℤ◌}
 use Rattle.bounds_model.specs.Plane.{PlanePoint, point_at}
-use Rattle.bounds_model.specs.Fractions.{Fraction, IsLowest}
-use Rattle.bounds_model.specs.Best.{IsSmallest}
-use Rattle.bounds_model.specs.Centres.{FitsCentres, centres_size}
-use Rattle.bounds_model.specs.CentresAnswer.{Leaf, CentresAnswer, cover_of}
-use Rattle.bounds_model.specs.AnswerText.SpelledCentres.{centres_spelling}
+use Rattle.bounds_model.specs.Fractions.{Fraction}
+use Rattle.bounds_model.specs.CentresAnswer.{Leaf, CentresAnswer}
+use Rattle.bounds_model.specs.Asks.Ask.{ask_centres}
+use Rattle.bounds_model.specs.Asks.Sets.{plane}
+use Rattle.bounds_model.specs.Answers.{IsBest}
+use Rattle.bounds_model.specs.Answers.Answer.{centres}
+use Rattle.bounds_model.specs.AnswerText.Spelling.{Spells}
 
 -- two coordinates differ by the side of the squares, which is twice their radius
 abbrev pub IsSideFrom : Fraction → ℤ → ℤ → Type 0
@@ -21,10 +23,9 @@ pub record IsSideApart (points : List PlanePoint) (radius : Fraction) (leaf : Le
 abbrev pub ShowsRadius : List PlanePoint → Fraction → List Leaf → Type 0
 ShowsRadius points radius leaves = ((radius.n ≡ pos 0) × (leaves ≡ [])) ⊎ ((leaf : Leaf) × (leaves ≡ leaf ∷ []) × IsSideApart points radius leaf)
 
--- the bytes spell one square that covers the points, with its radius in lowest terms, and no square that covers them is smaller
+-- the bytes spell an answer with one square, which is best of all that cover the points, and whose leaf shows its radius
 pub record IsOneCentreOutput (points : List PlanePoint) (bytes : List ℕ) : Type 0 where
   pub answer : CentresAnswer
-  pub spells : bytes ≡ centres_spelling answer
-  pub lowest : IsLowest answer.size
-  pub best : IsSmallest (FitsCentres 1 points) centres_size (cover_of answer)
+  pub spells : Spells bytes (centres answer)
+  pub best : IsBest (ask_centres 1) (plane points) (centres answer)
   pub shown : ShowsRadius points answer.size answer.leaves

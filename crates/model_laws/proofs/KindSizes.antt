@@ -103,10 +103,10 @@ pub kgon_sizes : (k : ℕ) (ps qs : List PlanePoint) (a b : KgonAnswer) → IsPe
 kgon_sizes k ps qs a b s h m =
     let A = corner_points ps a in
     let B = corner_points qs b in
-    let same : B ≡ A = one_list_of_corners qs B A m.0.0 (corners_stay ps qs A s h.0.0) in
+    let same : B ≡ A = one_list_of_corners qs B A m.0.1 (corners_stay ps qs A s h.0.1) in
     let best : IsGreatest (FitsKgon k A) (kgon_size A) b.chosen = subst (λ c. IsGreatest (FitsKgon k c) (kgon_size c) b.chosen) same m.1 in
-    let printed : IsPrintedSize (kgon_size A b.chosen) b.size = subst (λ c. IsPrintedSize (kgon_size c b.chosen) b.size) same m.0.2 in
-    same_greatest (FitsKgon k A) (FitsKgon k A) (kgon_size A) (kgon_size A) (kept (FitsKgon k A) (FitsKgon k A) (kgon_size A) (λ o f. f)) (kept (FitsKgon k A) (FitsKgon k A) (kgon_size A) (λ o f. f)) a.chosen b.chosen a.size b.size two two h.1 best h.0.2 printed
+    let printed : IsPrintedSize (kgon_size A b.chosen) b.size = subst (λ c. IsPrintedSize (kgon_size c b.chosen) b.size) same m.0.3 in
+    same_greatest (FitsKgon k A) (FitsKgon k A) (kgon_size A) (kgon_size A) (kept (FitsKgon k A) (FitsKgon k A) (kgon_size A) (λ o f. f)) (kept (FitsKgon k A) (FitsKgon k A) (kgon_size A) (λ o f. f)) a.chosen b.chosen a.size b.size two two h.1 best h.0.3 printed
   where
     two : pos 0 <ℤ pos 2
     two = omega (arith, ints)

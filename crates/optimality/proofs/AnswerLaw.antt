@@ -30,7 +30,7 @@ claim_law (parallelogram_claim points a) h = of_smallest (parallelogram_law poin
 claim_law (strip_claim points a) h = of_smallest (strip_law points a h)
 claim_law (annulus_claim points a) h = of_smallest (annulus_law points a h)
 claim_law (empty_claim frame points a) h = let law = empty_law frame points a h in ((law.greatest.fits, law.is_printed), law.greatest)
-claim_law (kgon_claim k points a) h = let law = kgon_law k points a h in ((law.0, law.1.greatest.fits, law.1.is_printed), law.1.greatest)
+claim_law (kgon_claim k points a) h = let law = kgon_law k points a h in ((law.0, law.1, law.2.greatest.fits, law.2.is_printed), law.2.greatest)
 claim_law (distance_claim ps qs a) h = of_smallest (distance_law ps qs a h)
 claim_law (centres_claim count points a) h = of_smallest (centres_law count points a h)
 

@@ -103,6 +103,7 @@ area_below k points a h (i ∷ j ∷ rest) fits =
 -- a polygon that passes has the greatest area
 pub kgon_law : PassingKgonsAreBest
 kgon_law k points a h = (
+  h.numbers,
   passing_kgon k points a h,
   greatest_by_printed (FitsKgon k (corner_points points a)) (kgon_size (corner_points points a)) (λ o f. two) a.chosen a.size h.chosen (record { lowest = h.places.size.lowest; same = h.size })
       (λ other fits. exchanged (twice_area (map (point_at (corner_points points a)) other)) a.size.n a.size.d (area_below k points a h other fits)),

@@ -1,5 +1,5 @@
 -- What passes is best: the laws of the ten kinds, over the definitions alone.
-use Rattle.std.specs.Prelude.{ℕ, List}
+use Rattle.std.specs.Prelude.{ℕ, ◌<◌, List, length, All}
 use Rattle.bounds_model.specs.Plane.{PlanePoint}
 use Rattle.bounds_model.specs.Space.{SpacePoint}
 use Rattle.bounds_model.specs.Fractions.{Fraction}
@@ -66,11 +66,13 @@ abbrev pub PassingEmptyRectanglesAreBest : Type 0
 PassingEmptyRectanglesAreBest =
     (frame : Box) (points : List PlanePoint) (a : EmptyAnswer) → PassesEmpty frame points a → IsGreatestPrinted (FitsEmpty frame points) empty_size (empty_of a) a.size
 
--- a polygon that passes lists the hull's corners, and has the greatest area of all with at most k of them
+-- a polygon that passes lists the hull's corners by their numbers, and has the greatest area of all with at most k of them
 abbrev pub PassingKgonsAreBest : Type 0
 PassingKgonsAreBest =
     (k : ℕ) (points : List PlanePoint) (a : KgonAnswer) → PassesKgon k points a
-    → AreCorners points (corner_points points a) × IsGreatestPrinted (FitsKgon k (corner_points points a)) (kgon_size (corner_points points a)) a.chosen a.size
+    → All (λ number. number < length points) a.corners
+    × AreCorners points (corner_points points a)
+    × IsGreatestPrinted (FitsKgon k (corner_points points a)) (kgon_size (corner_points points a)) a.chosen a.size
 
 -- a distance that passes is the least between weighted means of the two sets
 abbrev pub PassingDistancesAreBest : Type 0

@@ -1,4 +1,4 @@
--- The kinds of fields: their form, the numbers in them, and the ranges of their places.
+-- The kinds of fields, each of one word or several: their form, the numbers in them, and the ranges of their places.
 use Rattle.std.specs.Prelude.{ℕ, zero, suc, ◌%◌, ℤ, pos, int_le, nat_abs, nat_le, Bool, true, ◌&&◌, ◌==◌, List, [], ◌∷◌, length, Option, Some, None}
 use Rattle.std.specs.List.{list_all}
 use Rattle.std.specs.Str.{bytes_eq}
@@ -15,7 +15,7 @@ pub data Field : Type 0 where
   number : Field  -- a whole number
   natural : Field  -- a number without a sign
   naturals : ℕ → Field  -- so many numbers without a sign
-  index : ℕ → ℕ → Field  -- a number without a sign from a least to a greatest one
+  bounded : ℕ → ℕ → Field  -- a number without a sign from a least to a greatest one
   fraction : Field  -- a fraction in lowest terms, at least 0
   plane_ratio : Field  -- three numbers, x and y over w
   space_ratio : Field  -- four numbers, x, y and z over w
@@ -26,7 +26,7 @@ abbrev pub Value : Field → Type 0
 Value number = ℤ
 Value natural = ℤ
 Value (naturals count) = List ℤ
-Value (index low high) = ℕ
+Value (bounded low high) = ℕ
 Value fraction = Fraction
 Value plane_ratio = PlaneRatio
 Value space_ratio = SpaceRatio
@@ -34,7 +34,7 @@ Value blocker = Blocker
 
 -- the number of a point
 abbrev pub point_number : Field
-point_number = index 0 point_limit
+point_number = bounded 0 point_limit
 
 -- ---- the form
 
@@ -47,7 +47,7 @@ naturals_of (suc count) (word ∷ words) = do
   others ← naturals_of count words
   Some (pos n ∷ others.0, others.1)
 
--- what rests a side of an empty rectangle
+-- what a side of an empty rectangle rests on
 abbrev pub blocker_of : List ℕ → Option Blocker
 blocker_of word = if bytes_eq word (codes "box") then Some side else natural_number word >>= λ n. Some (point n)
 
@@ -60,7 +60,7 @@ value_of natural (word ∷ words) = do
   n ← natural_number word
   Some (pos n, words)
 value_of (naturals count) words = naturals_of count words
-value_of (index low high) (word ∷ words) = do
+value_of (bounded low high) (word ∷ words) = do
   n ← natural_number word
   Some (n, words)
 value_of fraction (word ∷ words) = do
@@ -94,7 +94,7 @@ abbrev pub numbers_of : (field : Field) → Value field → List ℤ
 numbers_of number z = z ∷ []
 numbers_of natural z = z ∷ []
 numbers_of (naturals count) zs = zs
-numbers_of (index low high) n = pos n ∷ []
+numbers_of (bounded low high) n = pos n ∷ []
 numbers_of fraction a = a.n ∷ a.d ∷ []
 numbers_of plane_ratio c = c.x ∷ c.y ∷ c.w ∷ []
 numbers_of space_ratio c = c.x ∷ c.y ∷ c.z ∷ c.w ∷ []
@@ -121,6 +121,7 @@ common_factor (e ∷ rest) = common_divisor (suc (common_factor rest)) (nat_abs 
 abbrev pub is_lowest : ℤ → List ℤ → Bool
 is_lowest denominator entries = int_le (pos 1) denominator && common_factor entries == 1
 
+-- the number of a blocking point is in range
 abbrev pub is_blocker : Blocker → Bool
 is_blocker side = true
 is_blocker (point n) = nat_le n point_limit
@@ -130,7 +131,7 @@ abbrev pub is_in_place : (field : Field) → Value field → Bool
 is_in_place number z = true
 is_in_place natural z = int_le (pos 0) z
 is_in_place (naturals count) zs = length zs == count && list_all (λ z. int_le (pos 0) z) zs
-is_in_place (index low high) n = nat_le low n && nat_le n high
+is_in_place (bounded low high) n = nat_le low n && nat_le n high
 is_in_place fraction a = int_le (pos 0) a.n && is_lowest a.d (a.n ∷ a.d ∷ [])
 is_in_place plane_ratio c = is_lowest c.w (c.x ∷ c.y ∷ c.w ∷ [])
 is_in_place space_ratio c = is_lowest c.w (c.x ∷ c.y ∷ c.z ∷ c.w ∷ [])

@@ -1,13 +1,11 @@
--- Formats of lines and of lists of lines, and what lines read as under them.
-use Rattle.std.specs.Prelude.{ℕ, zero, suc, ◌+◌, ◌-◌, ℤ, Bool, true, not, ◌&&◌, if◌then◌else◌, List, [], ◌∷◌, ◌++◌, length, Option, Some, None, Result, Ok, Err}
-use Rattle.std.specs.Str.{bytes_eq}
-use Rattle.bounds_model.specs.AnswerText.Numerals as steps
-use Rattle.bounds_model.specs.AnswerText.Lines.{fields_of}
-use Rattle.bounds_model.specs.AnswerText.Fields.{Field, index, naturals, Value, value_of, is_small, is_in_place}
+-- Formats of lists of lines, and what lines read as under them, up to the first refused line.
+use Rattle.std.specs.Prelude.{ℕ, zero, suc, ◌+◌, ◌-◌, ℤ, not, if◌then◌else◌, List, [], ◌∷◌, ◌++◌, length, Option, Some, None, Result, Ok, Err}
+use Rattle.bounds_model.specs.AnswerText.Fields.{Field, bounded, naturals}
+use Rattle.bounds_model.specs.AnswerText.LineFormats.{LineFormat, titled, untitled, Values, form_of, are_small, are_in_place}
 
 -- why a text is refused, and at which line
 pub data Refusal : Type 0 where
-  bad_answer : ℕ → Refusal  -- the line is not what the lines before it call for
+  bad_answer : ℕ → Refusal  -- the line is not what the lines before it call for, or a number is outside the range of its place
   big_number : ℕ → Refusal  -- a number of the line is past the limit
 
 -- one step after another, up to the first refusal
@@ -16,55 +14,13 @@ abbrev pub ◌>>=◌ : {A B : Type 0} → Result A Refusal → (A → Result B R
 (Ok x) >>= f = f x
 (Err refusal) >>= f = Err refusal
 
--- ---- one line
-
--- words, and fields behind them
-pub record LineFormat : Type 0 where
-  pub words : List (List ℕ)
-  pub fields : List Field
-
-abbrev pub titled : List ℕ → List Field → LineFormat
-titled word fields = record { words = word ∷ []; fields = fields }
-
-abbrev pub untitled : List Field → LineFormat
-untitled fields = record { words = []; fields = fields }
-
--- what the fields of a line say
-abbrev pub Values : List Field → Type 0
-Values [] = Unit {0}
-Values (field ∷ fields) = Value field × Values fields
-
--- what stands behind the words that a line begins with
-abbrev pub after_words : List (List ℕ) → List (List ℕ) → Option (List (List ℕ))
-after_words [] words = Some words
-after_words (expected ∷ others) [] = None
-after_words (expected ∷ others) (word ∷ words) = if bytes_eq expected word then after_words others words else None
-
--- what the fields say, or none where the words have another form or another number
-abbrev pub values_of : (fields : List Field) → List (List ℕ) → Option (Values fields)
-values_of [] [] = Some tt
-values_of [] (word ∷ words) = None
-values_of (field ∷ fields) words = steps.◌>>=◌ (value_of field words) (λ first. steps.◌>>=◌ (values_of fields first.1) (λ others. Some (first.0, others)))
-
--- what a line of this format says
-abbrev pub form_of : (format : LineFormat) → List ℕ → Option (Values format.fields)
-form_of format line = steps.◌>>=◌ (fields_of line) (λ words. steps.◌>>=◌ (after_words format.words words) (values_of format.fields))
-
-abbrev pub are_small : (fields : List Field) → Values fields → Bool
-are_small [] values = true
-are_small (field ∷ fields) values = is_small field values.0 && are_small fields values.1
-
-abbrev pub are_in_place : (fields : List Field) → Values fields → Bool
-are_in_place [] values = true
-are_in_place (field ∷ fields) values = is_in_place field values.0 && are_in_place fields values.1
+-- ---- the lines of a text, one after the other
 
 -- the order of causes on one line: its form, then a number past the limit, then a number outside the range of its place
 abbrev pub judged : (fields : List Field) → ℕ → Option (Values fields) → Result (Values fields) Refusal
 judged fields number None = Err (bad_answer number)
 judged fields number (Some values) =
     if not (are_small fields values) then Err (big_number number) else if not (are_in_place fields values) then Err (bad_answer number) else Ok values
-
--- ---- the lines of a text, one after the other
 
 -- the lines that are not yet read, and the number of the first of them
 pub record Unread : Type 0 where
@@ -78,6 +34,7 @@ next_line format number (line ∷ lines) = do
   values ← judged format.fields number (form_of format line)
   Ok (values, record { number = number + 1; lines = lines })
 
+-- the next of the lines that are not yet read
 abbrev pub line_at : (format : LineFormat) → Unread → Result (Values format.fields × Unread) Refusal
 line_at format unread = next_line format unread.number unread.lines
 
@@ -105,8 +62,9 @@ pub record Count : Type 0 where
   pub low : ℕ
   pub high : ℕ
 
+-- the format of that line
 abbrev pub count_format : Count → LineFormat
-count_format count = titled count.word (index count.low count.high ∷ [])
+count_format count = titled count.word (bounded count.low count.high ∷ [])
 
 -- a part of a text
 pub data Part : Type 0 where
@@ -145,6 +103,7 @@ abbrev pub Body : List Part → Type 0
 Body [] = Unit {0}
 Body (part ∷ parts) = PartValue part × Body parts
 
+-- what the next lines say as these parts
 abbrev pub body_at : (parts : List Part) → List ℕ → Unread → Result (Body parts × Unread) Refusal
 body_at [] counts unread = Ok (tt, unread)
 body_at (part ∷ parts) counts unread = do

@@ -10,8 +10,9 @@ use Rattle.bounds_model.specs.ParallelogramAnswer.{Chord}
 use Rattle.bounds_model.specs.AnnulusAnswer.{WeightedPair}
 use Rattle.bounds_model.specs.CentresAnswer.{Leaf}
 use Rattle.bounds_model.specs.Answers.{Answer, circle, sphere, rectangle, parallelogram, strip, annulus, empty, kgon, distance, centres}
-use Rattle.bounds_model.specs.AnswerText.Fields.{Field, number, natural, index, fraction, plane_ratio, space_ratio, blocker, point_number}
-use Rattle.bounds_model.specs.AnswerText.Formats.{LineFormat, titled, untitled, Values, Part, line, counted, count, rows, Body}
+use Rattle.bounds_model.specs.AnswerText.Fields.{Field, number, natural, bounded, fraction, plane_ratio, space_ratio, blocker, point_number}
+use Rattle.bounds_model.specs.AnswerText.LineFormats.{LineFormat, titled, untitled, Values}
+use Rattle.bounds_model.specs.AnswerText.Formats.{Part, line, counted, count, rows, Body}
 
 -- a kind of answers: its name, its format, and the answer of a size and what the format reads
 pub record Kind : Type 0 where
@@ -21,40 +22,51 @@ pub record Kind : Type 0 where
 
 -- ---- the lines that all kinds have
 
+-- the first line, which names the kind
 abbrev pub first_format : List ℕ → LineFormat
 first_format name = record { words = codes "answer" ∷ codes "1" ∷ name ∷ []; fields = [] }
 
+-- the line of the size
 abbrev pub size_format : LineFormat
 size_format = titled (codes "size") (fraction ∷ [])
 
+-- the last line
 abbrev pub last_format : LineFormat
 last_format = titled (codes "end") []
 
 -- ---- lists that several kinds have
 
+-- points with weights, at most so many
 abbrev pub supports : ℕ → Part
 supports most = counted (record { word = codes "supports"; low = 1; high = most }) 0 (point_number ∷ natural ∷ [])
 
+-- pairs of points with weights, at most so many
 abbrev pub pairs : ℕ → Part
 pairs most = counted (record { word = codes "pairs"; low = 1; high = most }) 0 (point_number ∷ point_number ∷ natural ∷ [])
 
+-- the cones of a fan: a line for each direction but the last
 abbrev pub fan : List Field → Part
 fan fields = counted (record { word = codes "fan"; low = 2; high = fan_limit }) 1 fields
 
+-- a point with its weight
 abbrev pub weighted : Values (point_number ∷ natural ∷ []) → Weighted
 weighted v = record { point = v.0; weight = v.1.0 }
 
+-- two points with their weight
 abbrev pub weighted_pair : Values (point_number ∷ point_number ∷ natural ∷ []) → WeightedPair
 weighted_pair v = record { first = v.0; second = v.1.0; weight = v.1.1.0 }
 
+-- a vector
 abbrev pub vector : Values (number ∷ number ∷ []) → PlanePoint
 vector v = record { x = v.0; y = v.1.0 }
 
+-- two bounds
 abbrev pub span : Values (number ∷ number ∷ []) → Span
 span v = record { low = v.0; high = v.1.0 }
 
 -- ---- circle and sphere
 
+-- a circle: its centre and its supports
 abbrev pub circle_kind : Kind
 circle_kind = record {
   name = codes "circle";
@@ -62,6 +74,7 @@ circle_kind = record {
   answer = λ size b. circle (record { size = size; centre = b.0.0; supports = map weighted b.1.0 });
 }
 
+-- a sphere, likewise
 abbrev pub sphere_kind : Kind
 sphere_kind = record {
   name = codes "sphere";
@@ -71,9 +84,11 @@ sphere_kind = record {
 
 -- ---- rectangle, strip and parallelogram
 
+-- a direction, and the highest and the lowest point for it and for it turned
 abbrev pub quarter_fields : List Field
 quarter_fields = number ∷ number ∷ point_number ∷ point_number ∷ point_number ∷ point_number ∷ []
 
+-- the cone of such a line
 abbrev pub quarter_cone : Values quarter_fields → QuarterCone
 quarter_cone v = record {
   direction = record { x = v.0; y = v.1.0 };
@@ -83,6 +98,7 @@ quarter_cone v = record {
   under = v.1.1.1.1.1.0;
 }
 
+-- a rectangle: its direction, its bounds, and a fan over a quarter turn
 abbrev pub rectangle_kind : Kind
 rectangle_kind = record {
   name = codes "rectangle";
@@ -97,12 +113,15 @@ rectangle_kind = record {
   });
 }
 
+-- a direction, and the highest and the lowest point for it
 abbrev pub half_fields : List Field
 half_fields = number ∷ number ∷ point_number ∷ point_number ∷ []
 
+-- the cone of such a line
 abbrev pub half_cone : Values half_fields → HalfCone
 half_cone v = record { direction = record { x = v.0; y = v.1.0 }; high = v.1.1.0; low = v.1.1.1.0 }
 
+-- a strip: its normal, its bounds, and a fan over half a turn
 abbrev pub strip_kind : Kind
 strip_kind = record {
   name = codes "strip";
@@ -116,18 +135,23 @@ strip_kind = record {
   });
 }
 
+-- four numbers: a normal with two bounds, or a box
 abbrev pub side_fields : List Field
 side_fields = number ∷ number ∷ number ∷ number ∷ []
 
+-- the normal
 abbrev pub side_vector : Values side_fields → PlanePoint
 side_vector v = record { x = v.0; y = v.1.0 }
 
+-- the bounds
 abbrev pub side_span : Values side_fields → Span
 side_span v = record { low = v.1.1.0; high = v.1.1.1.0 }
 
+-- three points, two weights and a factor
 abbrev pub chord_fields : List Field
 chord_fields = point_number ∷ point_number ∷ point_number ∷ natural ∷ natural ∷ number ∷ []
 
+-- the chord of these fields
 abbrev pub chord : Values chord_fields → Chord
 chord v = record { a = v.0; b = v.1.0; c = v.1.1.0; beta = v.1.1.1.0; gamma = v.1.1.1.1.0; k = v.1.1.1.1.1.0 }
 
@@ -135,9 +159,11 @@ chord v = record { a = v.0; b = v.1.0; c = v.1.1.0; beta = v.1.1.1.0; gamma = v.
 abbrev pub chorded_fields : List Field
 chorded_fields = number ∷ number ∷ point_number ∷ point_number ∷ chord_fields
 
+-- the cone of such a line
 abbrev pub chorded_cone : Values chorded_fields → HalfCone
 chorded_cone v = record { direction = record { x = v.0; y = v.1.0 }; high = v.1.1.0; low = v.1.1.1.0 }
 
+-- the chord of such a line
 abbrev pub cone_chord : Values chorded_fields → Chord
 cone_chord v = chord v.1.1.1.1
 
@@ -145,12 +171,15 @@ cone_chord v = chord v.1.1.1.1
 abbrev pub last_fields : List Field
 last_fields = number ∷ number ∷ chord_fields
 
+-- the direction of that line
 abbrev pub last_vector : Values last_fields → PlanePoint
 last_vector v = record { x = v.0; y = v.1.0 }
 
+-- the chord of that line
 abbrev pub last_chord : Values last_fields → Chord
 last_chord v = chord v.1.1
 
+-- a parallelogram: two normals with their bounds, and a fan with a chord for each direction
 abbrev pub parallelogram_kind : Kind
 parallelogram_kind = record {
   name = codes "parallelogram";
@@ -169,6 +198,7 @@ parallelogram_kind = record {
 
 -- ---- annulus
 
+-- a ring: its centre, its radii and its pairs
 abbrev pub annulus_kind : Kind
 annulus_kind = record {
   name = codes "annulus";
@@ -185,6 +215,7 @@ annulus_kind = record {
 
 -- ---- empty rectangle
 
+-- an empty rectangle: its box, and what each side rests on
 abbrev pub empty_kind : Kind
 empty_kind = record {
   name = codes "empty";
@@ -212,11 +243,12 @@ abbrev pub potential_widths : List ℕ → List ℕ
 potential_widths (layers ∷ chosen ∷ corners ∷ []) = triangle (corners - 1) layers
 potential_widths counts = []
 
+-- a polygon: all corners, the chosen ones, and the potentials in layers
 abbrev pub kgon_kind : Kind
 kgon_kind = record {
   name = codes "kgon";
   body = counted (record { word = codes "corners"; low = 1; high = 128 }) 0 (point_number ∷ [])
-      ∷ counted (record { word = codes "chosen"; low = 1; high = 12 }) 0 (index 0 127 ∷ [])
+      ∷ counted (record { word = codes "chosen"; low = 1; high = 12 }) 0 (bounded 0 127 ∷ [])
       ∷ count (record { word = codes "layers"; low = 0; high = 10 }) ∷ rows potential_widths ∷ [];
   answer = λ size b. kgon (record {
     size = size;
@@ -229,6 +261,7 @@ kgon_kind = record {
 
 -- ---- distance
 
+-- a distance: its two ends, its direction and its pairs
 abbrev pub distance_kind : Kind
 distance_kind = record {
   name = codes "distance";
@@ -245,9 +278,11 @@ distance_kind = record {
 
 -- ---- centres
 
+-- two points that are far apart
 abbrev pub leaf : Values (point_number ∷ point_number ∷ []) → Leaf
 leaf v = record { first = v.0; second = v.1.0 }
 
+-- centres: the squares and the leaves
 abbrev pub centres_kind : Kind
 centres_kind = record {
   name = codes "centres";
@@ -256,5 +291,6 @@ centres_kind = record {
   answer = λ size b. centres (record { size = size; squares = map (λ v. v.0) b.0; leaves = map leaf b.1.0 });
 }
 
+-- all kinds
 abbrev pub kinds : List Kind
 kinds = circle_kind ∷ sphere_kind ∷ rectangle_kind ∷ strip_kind ∷ parallelogram_kind ∷ annulus_kind ∷ empty_kind ∷ kgon_kind ∷ distance_kind ∷ centres_kind ∷ []

@@ -41,4 +41,4 @@ fraction_of numerator denominator = do
 
 -- two whole numbers, parted by a slash
 abbrev pub fraction_number : List ℕ → Option Fraction
-fraction_number field = fraction_of (before_first (λ b. b == 47) field) (after_first (λ b. b == 47) field)
+fraction_number word = fraction_of (before_first (λ b. b == 47) word) (after_first (λ b. b == 47) word)

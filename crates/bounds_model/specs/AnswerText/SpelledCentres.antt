@@ -13,6 +13,7 @@ square_line c = plane_ratio_text c ++ codes "\n"
 unfoldable pub leaf_line : Leaf → List ℕ
 leaf_line leaf = points_text leaf.first leaf.second ++ codes "\n"
 
+-- squares, then leaves
 abbrev pub centres_spelling : CentresAnswer → List ℕ
 centres_spelling a = first_line (codes "centres") ++ size_line a.size
     ++ count_line (codes "squares") (length a.squares) ++ flat_map square_line a.squares

@@ -3,9 +3,6 @@ use Rattle.std.specs.Prelude.{ℕ, ℤ, List, ◌++◌, decimal, codes}
 use Rattle.std.specs.Fmt.{signed_decimal}
 use Rattle.bounds_model.specs.Fractions.{Fraction}
 use Rattle.bounds_model.specs.Plane.{PlanePoint, PlaneRatio}
-use Rattle.bounds_model.specs.Space.{SpaceRatio}
-use Rattle.bounds_model.specs.BallAnswer.{Weighted}
-use Rattle.bounds_model.specs.AnnulusAnswer.{WeightedPair}
 
 -- ---- parts of lines
 
@@ -25,16 +22,13 @@ points_text a b = decimal a ++ codes " " ++ decimal b
 abbrev pub plane_ratio_text : PlaneRatio → List ℕ
 plane_ratio_text c = pair_text c.x c.y ++ codes " " ++ signed_decimal c.w
 
--- x, y and z over w
-abbrev pub space_ratio_text : SpaceRatio → List ℕ
-space_ratio_text c = pair_text c.x c.y ++ codes " " ++ pair_text c.z c.w
-
 -- ---- lines
 
 -- the first line, which names the kind
 unfoldable pub first_line : List ℕ → List ℕ
 first_line kind = codes "answer 1 " ++ kind ++ codes "\n"
 
+-- the line of the size
 unfoldable pub size_line : Fraction → List ℕ
 size_line size = codes "size " ++ fraction_text size ++ codes "\n"
 
@@ -50,22 +44,13 @@ pair_line word a b = word ++ codes " " ++ pair_text a b ++ codes "\n"
 unfoldable pub four_line : List ℕ → ℤ → ℤ → ℤ → ℤ → List ℕ
 four_line word a b c d = word ++ codes " " ++ pair_text a b ++ codes " " ++ pair_text c d ++ codes "\n"
 
+-- a word and a fraction
 unfoldable pub fraction_line : List ℕ → Fraction → List ℕ
 fraction_line word a = word ++ codes " " ++ fraction_text a ++ codes "\n"
 
+-- a word, and x and y over w
 unfoldable pub plane_ratio_line : List ℕ → PlaneRatio → List ℕ
 plane_ratio_line word c = word ++ codes " " ++ plane_ratio_text c ++ codes "\n"
-
-unfoldable pub space_ratio_line : List ℕ → SpaceRatio → List ℕ
-space_ratio_line word c = word ++ codes " " ++ space_ratio_text c ++ codes "\n"
-
--- the number of a point and its weight
-unfoldable pub weighted_line : Weighted → List ℕ
-weighted_line s = decimal s.point ++ codes " " ++ signed_decimal s.weight ++ codes "\n"
-
--- the numbers of two points and their weight
-unfoldable pub weighted_pair_line : WeightedPair → List ℕ
-weighted_pair_line pair = points_text pair.first pair.second ++ codes " " ++ signed_decimal pair.weight ++ codes "\n"
 
 -- a direction
 unfoldable pub direction_line : PlanePoint → List ℕ
@@ -75,5 +60,6 @@ direction_line d = pair_text d.x d.y ++ codes "\n"
 unfoldable pub index_line : ℕ → List ℕ
 index_line n = decimal n ++ codes "\n"
 
+-- the last line
 unfoldable pub last_line : List ℕ
 last_line = codes "end\n"

@@ -1,28 +1,48 @@
 -- The one spelling of an answer.
-use Rattle.std.specs.Prelude.{ℕ, zero, suc, ◌+◌, ◌-◌, ◌*◌, ℤ, List, [], ◌∷◌, ◌++◌, length, take, drop, decimal, codes}
+use Rattle.std.specs.Prelude.{◌≡◌, ℕ, zero, suc, ◌+◌, ◌-◌, ◌*◌, ℤ, List, [], ◌∷◌, ◌++◌, length, take, drop, decimal, codes}
 use Rattle.std.specs.Fmt.{signed_decimal}
 use Rattle.std.specs.List.{flat_map}
 use Rattle.bounds_model.specs.Plane.{PlanePoint}
-use Rattle.bounds_model.specs.Space.{SpacePoint}
+use Rattle.bounds_model.specs.Space.{SpacePoint, SpaceRatio}
 use Rattle.bounds_model.specs.Fans.{HalfCone, HalfFan, QuarterCone, QuarterFan}
-use Rattle.bounds_model.specs.BallAnswer.{CircleAnswer, SphereAnswer}
+use Rattle.bounds_model.specs.BallAnswer.{Weighted, CircleAnswer, SphereAnswer}
 use Rattle.bounds_model.specs.RectangleAnswer.{RectangleAnswer}
 use Rattle.bounds_model.specs.StripAnswer.{StripAnswer}
 use Rattle.bounds_model.specs.ParallelogramAnswer.{Chord, ParallelogramAnswer}
-use Rattle.bounds_model.specs.AnnulusAnswer.{AnnulusAnswer}
+use Rattle.bounds_model.specs.AnnulusAnswer.{WeightedPair, AnnulusAnswer}
 use Rattle.bounds_model.specs.EmptyAnswer.{Blocker, side, point, EmptyAnswer}
 use Rattle.bounds_model.specs.KgonAnswer.{KgonAnswer}
 use Rattle.bounds_model.specs.DistanceAnswer.{DistanceAnswer}
-use Rattle.bounds_model.specs.Answers.{Answer, circle, sphere, rectangle, parallelogram, strip, annulus, empty, kgon, distance, centres}
-use Rattle.bounds_model.specs.AnswerText.SpelledParts.{pair_text, points_text, first_line, size_line, count_line, pair_line, four_line, fraction_line, plane_ratio_line, space_ratio_line, weighted_line, weighted_pair_line, direction_line, index_line, last_line}
+use Rattle.bounds_model.specs.Answers.{Answer, HasPlaces, circle, sphere, rectangle, parallelogram, strip, annulus, empty, kgon, distance, centres}
+use Rattle.bounds_model.specs.AnswerText.SpelledParts.{pair_text, points_text, first_line, size_line, count_line, pair_line, four_line, fraction_line, plane_ratio_line, direction_line, index_line, last_line}
 use Rattle.bounds_model.specs.AnswerText.SpelledCentres.{centres_spelling}
+
+-- ---- lines of several kinds
+
+-- x, y and z over w
+abbrev pub space_ratio_text : SpaceRatio → List ℕ
+space_ratio_text c = pair_text c.x c.y ++ codes " " ++ pair_text c.z c.w
+
+-- a word, and x, y and z over w
+unfoldable pub space_ratio_line : List ℕ → SpaceRatio → List ℕ
+space_ratio_line word c = word ++ codes " " ++ space_ratio_text c ++ codes "\n"
+
+-- the number of a point and its weight
+unfoldable pub weighted_line : Weighted → List ℕ
+weighted_line s = decimal s.point ++ codes " " ++ signed_decimal s.weight ++ codes "\n"
+
+-- the numbers of two points and their weight
+unfoldable pub weighted_pair_line : WeightedPair → List ℕ
+weighted_pair_line pair = points_text pair.first pair.second ++ codes " " ++ signed_decimal pair.weight ++ codes "\n"
 
 -- ---- circle and sphere
 
+-- a circle: its centre and its supports
 abbrev pub circle_spelling : CircleAnswer → List ℕ
 circle_spelling a = first_line (codes "circle") ++ size_line a.size ++ plane_ratio_line (codes "center") a.centre
     ++ count_line (codes "supports") (length a.supports) ++ flat_map weighted_line a.supports ++ last_line
 
+-- a sphere, likewise
 abbrev pub sphere_spelling : SphereAnswer → List ℕ
 sphere_spelling a = first_line (codes "sphere") ++ size_line a.size ++ space_ratio_line (codes "center") a.centre
     ++ count_line (codes "supports") (length a.supports) ++ flat_map weighted_line a.supports ++ last_line
@@ -37,6 +57,7 @@ quarter_line cone = pair_text cone.direction.x cone.direction.y ++ codes " " ++ 
 abbrev pub quarter_fan_lines : QuarterFan → List ℕ
 quarter_fan_lines fan = count_line (codes "fan") (length fan.cones + 1) ++ flat_map quarter_line fan.cones ++ direction_line fan.last
 
+-- a rectangle: its direction, its bounds and its fan
 abbrev pub rectangle_spelling : RectangleAnswer → List ℕ
 rectangle_spelling a = first_line (codes "rectangle") ++ size_line a.size
     ++ pair_line (codes "direction") a.direction.x a.direction.y ++ pair_line (codes "along") a.along.low a.along.high
@@ -46,9 +67,11 @@ rectangle_spelling a = first_line (codes "rectangle") ++ size_line a.size
 unfoldable pub half_line : HalfCone → List ℕ
 half_line cone = pair_text cone.direction.x cone.direction.y ++ codes " " ++ points_text cone.high cone.low ++ codes "\n"
 
+-- the number of directions, the cones, and the last direction
 abbrev pub half_fan_lines : HalfFan → List ℕ
 half_fan_lines fan = count_line (codes "fan") (length fan.cones + 1) ++ flat_map half_line fan.cones ++ direction_line fan.last
 
+-- a strip: its normal, its bounds and its fan
 abbrev pub strip_spelling : StripAnswer → List ℕ
 strip_spelling a = first_line (codes "strip") ++ size_line a.size
     ++ pair_line (codes "direction") a.direction.x a.direction.y ++ pair_line (codes "bounds") a.bounds.low a.bounds.high
@@ -73,9 +96,11 @@ chorded_lines [] last (chord ∷ rest) = last_chord_line last chord
 chorded_lines (cone ∷ cones) last [] = []
 chorded_lines (cone ∷ cones) last (chord ∷ chords) = chorded_line cone chord ++ chorded_lines cones last chords
 
+-- the number of directions, and the directions with their chords
 abbrev pub chorded_fan_lines : HalfFan → List Chord → List ℕ
 chorded_fan_lines fan chords = count_line (codes "fan") (length fan.cones + 1) ++ chorded_lines fan.cones fan.last chords
 
+-- a parallelogram: two normals with their bounds, and a fan with chords
 abbrev pub parallelogram_spelling : ParallelogramAnswer → List ℕ
 parallelogram_spelling a = first_line (codes "parallelogram") ++ size_line a.size
     ++ four_line (codes "first") a.first.x a.first.y a.first_bounds.low a.first_bounds.high
@@ -84,6 +109,7 @@ parallelogram_spelling a = first_line (codes "parallelogram") ++ size_line a.siz
 
 -- ---- annulus
 
+-- a ring: its centre, its radii and its pairs
 abbrev pub annulus_spelling : AnnulusAnswer → List ℕ
 annulus_spelling a = first_line (codes "annulus") ++ size_line a.size ++ plane_ratio_line (codes "center") a.centre
     ++ fraction_line (codes "inner") a.inner ++ fraction_line (codes "outer") a.outer
@@ -96,9 +122,11 @@ abbrev pub blocker_text : Blocker → List ℕ
 blocker_text side = codes "box"
 blocker_text (point n) = decimal n
 
+-- a side and what it rests on
 unfoldable pub blocker_line : List ℕ → Blocker → List ℕ
 blocker_line word blocker = word ++ codes " " ++ blocker_text blocker ++ codes "\n"
 
+-- an empty rectangle: its box, and what each side rests on
 abbrev pub empty_spelling : EmptyAnswer → List ℕ
 empty_spelling a = first_line (codes "empty") ++ size_line a.size
     ++ four_line (codes "rectangle") a.box.left a.box.bottom a.box.right a.box.top
@@ -127,6 +155,7 @@ abbrev pub potential_lines : ℕ → ℕ → List ℤ → List ℕ
 potential_lines zero layers potentials = []
 potential_lines (suc behind) layers potentials = layer_lines layers (suc behind) potentials ++ potential_lines behind layers (drop (layers * suc behind) potentials)
 
+-- a polygon: all corners, the chosen ones and the potentials
 abbrev pub kgon_spelling : KgonAnswer → List ℕ
 kgon_spelling a = first_line (codes "kgon") ++ size_line a.size
     ++ count_line (codes "corners") (length a.corners) ++ flat_map index_line a.corners
@@ -135,10 +164,11 @@ kgon_spelling a = first_line (codes "kgon") ++ size_line a.size
 
 -- ---- distance
 
--- the direction from one set to the other
+-- the direction from the second set to the first
 unfoldable pub space_direction_line : SpacePoint → List ℕ
 space_direction_line d = codes "direction " ++ pair_text d.x d.y ++ codes " " ++ signed_decimal d.z ++ codes "\n"
 
+-- a distance: its two ends, its direction and its pairs
 abbrev pub distance_spelling : DistanceAnswer → List ℕ
 distance_spelling a = first_line (codes "distance") ++ size_line a.size
     ++ space_ratio_line (codes "from") a.from ++ space_ratio_line (codes "to") a.to ++ space_direction_line a.direction
@@ -146,6 +176,7 @@ distance_spelling a = first_line (codes "distance") ++ size_line a.size
 
 -- ---- all kinds
 
+-- the spelling of an answer of any kind
 abbrev pub spelling : Answer → List ℕ
 spelling (circle a) = circle_spelling a
 spelling (sphere a) = sphere_spelling a
@@ -157,3 +188,8 @@ spelling (empty a) = empty_spelling a
 spelling (kgon a) = kgon_spelling a
 spelling (distance a) = distance_spelling a
 spelling (centres a) = centres_spelling a
+
+-- the bytes are the spelling of the answer, which keeps its places
+pub record Spells (bytes : List ℕ) (answer : Answer) : Type 0 where
+  pub places : HasPlaces answer
+  pub spelled : bytes ≡ spelling answer

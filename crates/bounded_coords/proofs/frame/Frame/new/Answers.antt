@@ -6,11 +6,13 @@ use Rattle.bounded_coords.proofs.frame.Frame.new.Goals as goal
 use Rattle.bounded_coords.proofs.frame.Frame.new.Goals.{then-left-right-via-then-left-right, then-left-right-via-else-left-right+then-bottom-top}
 
 pub returns-then-left-right-clause-bounds : goal.returns-then-left-right-clause-bounds
-returns-then-left-right-clause-bounds c =
-    (λ e. absurd (cc), λ h. elim c.then-left-right.branch [
-      | then-left-right-via-then-left-right w ↦ absurd (omega (arith, ints, h.wide, w.if-left-right.true, c.in_ok-left.ensures.value, c.in_ok-right.ensures.value))
-      | then-left-right-via-else-left-right+then-bottom-top w ↦ absurd (omega (arith, ints, h.high, w.if-bottom-top.true, c.in_ok-bottom.ensures.value, c.in_ok-top.ensures.value))
-    ])
+returns-then-left-right-clause-bounds c = (
+  λ e. absurd (cc),
+  λ h. elim c.then-left-right.branch [
+    | then-left-right-via-then-left-right w ↦ absurd (omega (arith, ints, h.wide, w.if-left-right.true, c.in_ok-left.ensures.value, c.in_ok-right.ensures.value))
+    | then-left-right-via-else-left-right+then-bottom-top w ↦ absurd (omega (arith, ints, h.high, w.if-bottom-top.true, c.in_ok-bottom.ensures.value, c.in_ok-top.ensures.value))
+  ],
+)
 
 pub invariant_of-result : goal.invariant_of-result
 invariant_of-result c =
@@ -40,12 +42,14 @@ returns-clause-bounds c =
     let right_in : IsWithin plane_limit c.args.r = simp to_z-of_z at (c.in_ok-right.ensures.bounds.0 refl) in
     let right_is : c.in_ok-right.right ≡ c.args.r = simp to_z-of_z at c.in_ok-right.ensures.value in
     let top_in : IsWithin plane_limit c.args.t = simp to_z-of_z at (c.in_ok-top.ensures.bounds.0 refl) in
-    let top_is : c.in_ok-top.top ≡ c.args.t = simp to_z-of_z at c.in_ok-top.ensures.value in
-    (λ _. record {
-      left = left_in;
-      bottom = bottom_in;
-      right = right_in;
-      top = top_in;
-      wide = omega (arith, ints, c.if-left-right.false, left_is, right_is);
-      high = omega (arith, ints, c.if-bottom-top.false, bottom_is, top_is);
-    }, λ _. refl)
+    let top_is : c.in_ok-top.top ≡ c.args.t = simp to_z-of_z at c.in_ok-top.ensures.value in (
+      λ _. record {
+        left = left_in;
+        bottom = bottom_in;
+        right = right_in;
+        top = top_in;
+        wide = omega (arith, ints, c.if-left-right.false, left_is, right_is);
+        high = omega (arith, ints, c.if-bottom-top.false, bottom_is, top_is);
+      },
+      λ _. refl,
+    )

@@ -1,5 +1,0 @@
-use Rattle.bounds_model.proofs.AnswerTexts.TextLaws.{begins_no_other}
-use Rattle.bounds_model.proofs.answer_text.begins_no_other.Goals as goal
-
-pub returns : goal.returns
-returns c = begins_no_other

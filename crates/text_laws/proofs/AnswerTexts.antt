@@ -1,0 +1,27 @@
+-- The answer text: its laws, from the numbers up, and checked examples.
+pub mod NumberLaws
+pub mod WholeLaws
+pub mod LineLaws
+pub mod FieldLaws
+pub mod FieldBack
+pub mod ValueLaws
+pub mod FormLaws
+pub mod BodyLaws
+pub mod FactorLaws
+pub mod PlaceLaws
+pub mod ListPlaces
+pub mod LengthLaws
+pub mod AnswerLaws
+pub mod SpelledLaws
+pub mod BallKinds
+pub mod FanKinds
+pub mod ParallelogramKind
+pub mod PairKinds
+pub mod EmptyKind
+pub mod KgonKind
+pub mod TextLaws
+pub mod Worked
+pub mod WorkedTexts
+pub mod MoreTexts
+pub mod RefusedTexts
+pub mod Unended

@@ -1,0 +1,250 @@
+-- The texts of polygons.
+use Rattle.std.proofs.Common.{◌≡◌, ℕ, zero, suc, ◌+◌, ◌-◌, ◌*◌, ◌/◌, ◌≤◌, ℤ, Bool, true, ◌&&◌, List, [], ◌∷◌, ◌++◌, length, map, take, drop, replicate, refl, sym, ap, subst, ◌∙◌, append_assoc, arith}
+use Rattle.std.specs.Prelude.{codes, All, nat_lt}
+use Rattle.std.specs.Fmt.{signed_decimal}
+use Rattle.std.specs.List.{list_all}
+use Rattle.std.proofs.Math.Nat.{mul-le-mul}
+use Rattle.std.proofs.lemmas.List.{append-nil, length-map, length-append, length-take, length-drop, take-append-drop, nil_from_length, length-replicate}
+use Rattle.std.proofs.lemmas.List.Folds.{list_all-append}
+use Rattle.std.proofs.lemmas.List.Elements.{All-nil, All-append, All-take, All-drop}
+use Rattle.std.proofs.lemmas.Bool.{lt-ltb}
+use Rattle.bounds_model.specs.Fractions.{Fraction}
+use Rattle.bounds_model.specs.Places.{IsNatural, point_limit}
+use Rattle.bounds_model.specs.KgonAnswer.{KgonAnswer, KgonPlaces, pairs_before}
+use Rattle.bounds_model.specs.Answers.{kgon}
+use Rattle.bounds_model.specs.AnswerText.Fields.{fraction, naturals, bounded, point_number}
+use Rattle.bounds_model.specs.AnswerText.LineFormats.{Values}
+use Rattle.bounds_model.specs.AnswerText.Formats.{Count, Body}
+use Rattle.bounds_model.specs.AnswerText.Kinds.{kgon_kind, triangle}
+use Rattle.bounds_model.specs.AnswerText.SpelledParts.{index_line}
+use Rattle.bounds_model.specs.AnswerText.Spelling.{spelling, blank_numbers, potentials_line, layer_lines, potential_lines}
+use Rattle.text_laws.proofs.AnswerTexts.LineLaws.{line_bytes}
+use Rattle.text_laws.proofs.AnswerTexts.FormLaws.{format_line}
+use Rattle.text_laws.proofs.AnswerTexts.BodyLaws.{row_format, rows_bytes, RowsFit}
+use Rattle.text_laws.proofs.AnswerTexts.AnswerLaws.{kind_bytes, KindLaw, Written}
+use Rattle.text_laws.proofs.AnswerTexts.PlaceLaws.{line_places, line_fits}
+use Rattle.text_laws.proofs.AnswerTexts.ListPlaces.{all_places, all_fit, count_places, count_fits, map_back}
+use Rattle.text_laws.proofs.AnswerTexts.SpelledLaws.{first_is, size_is, last_is, count_is, index_is, counted_are, made_length_all}
+
+-- ---- rows
+
+-- numbers behind blanks are the words behind the first
+blank_numbers_are : (word : List ℕ) (zs : List ℤ) → word ++ (blank_numbers zs ++ 10 ∷ []) ≡ line_bytes (word ∷ map signed_decimal zs)
+blank_numbers_are word [] = refl
+blank_numbers_are word (z ∷ zs) =
+    let inner : (32 ∷ signed_decimal z) ++ blank_numbers zs ++ 10 ∷ [] ≡ 32 ∷ (signed_decimal z ++ (blank_numbers zs ++ 10 ∷ [])) = simp append_assoc in
+    ap (λ (x : List ℕ). word ++ x) (inner ∙ ap (λ (x : List ℕ). 32 ∷ x) (blank_numbers_are (signed_decimal z) zs))
+
+-- the spelled line of numbers is that of its format
+potentials_are : (width : ℕ) (zs : List ℤ) → potentials_line zs ≡ format_line (row_format width) (zs, tt)
+unfolding potentials_line
+potentials_are width [] = refl
+potentials_are width (z ∷ zs) =
+    let words : map signed_decimal zs ++ [] ≡ map signed_decimal zs = append-nil (map signed_decimal zs) in
+    append_assoc (signed_decimal z) (blank_numbers zs) (10 ∷ []) ∙ blank_numbers_are (signed_decimal z) zs ∙ ap (λ (ws : List (List ℕ)). line_bytes (signed_decimal z ∷ ws)) (sym words)
+
+-- nothing is left of nothing
+drop_nothing : (k : ℕ) → ◌≡◌ {A = List ℤ} (drop k []) []
+drop_nothing zero = refl
+drop_nothing (suc k) = refl
+
+-- two pieces that are left out are one
+drop_twice : (a b : ℕ) (zs : List ℤ) → drop a (drop b zs) ≡ drop (b + a) zs
+drop_twice a zero zs = ap (λ (k : ℕ). drop k zs) {x = a} {y = 0 + a} (omega arith)
+drop_twice a (suc b) [] = drop_nothing a ∙ sym (drop_nothing (suc b + a))
+drop_twice a (suc b) (z ∷ zs) = drop_twice a b zs ∙ ap (λ (k : ℕ). drop k (z ∷ zs)) {x = suc (b + a)} {y = suc b + a} (omega arith)
+
+-- the rows of one width, and the rows behind them
+layers_are : (layers width : ℕ) (more : List ℕ) (zs : List ℤ) → rows_bytes (replicate layers width ++ more) zs ≡ layer_lines layers width zs ++ rows_bytes more (drop (layers * width) zs)
+layers_are zero width more zs = ap (λ (k : ℕ). rows_bytes more (drop k zs)) {x = 0} {y = 0 * width} (omega arith)
+layers_are (suc layers) width more zs =
+    let others = layers_are layers width more (drop width zs) in
+    let place : width + layers * width ≡ suc layers * width = omega arith in
+    let behind : drop (layers * width) (drop width zs) ≡ drop (suc layers * width) zs = drop_twice (layers * width) width zs ∙ ap (λ (k : ℕ). drop k zs) place in
+    (λ i. sym (potentials_are width (take width zs)) i ++ others i)
+    ∙ sym (append_assoc (potentials_line (take width zs)) (layer_lines layers width (drop width zs)) (rows_bytes more (drop (layers * width) (drop width zs))))
+    ∙ ap (λ (ys : List ℤ). potentials_line (take width zs) ++ layer_lines layers width (drop width zs) ++ rows_bytes more ys) behind
+
+-- the spelled lines of potentials are the rows of the format
+rows_are : (longest layers : ℕ) (zs : List ℤ) → potential_lines longest layers zs ≡ rows_bytes (triangle longest layers) zs
+rows_are zero layers zs = refl
+rows_are (suc longest) layers zs =
+    ap (λ (x : List ℕ). layer_lines layers (suc longest) zs ++ x) (rows_are longest layers (drop (layers * suc longest) zs)) ∙ sym (layers_are layers (suc longest) (triangle longest layers) zs)
+
+-- ---- how many potentials
+
+-- the sum of widths
+abbrev width_sum : List ℕ → ℕ
+width_sum [] = 0
+width_sum (width ∷ widths) = width + width_sum widths
+
+-- rows that fit have as many numbers as their widths say
+rows_places : (widths : List ℕ) (zs : List ℤ) → RowsFit widths zs → (length zs ≡ width_sum widths) × All IsNatural zs
+rows_places [] zs fits = subst (λ (ys : List ℤ). (length ys ≡ 0) × All IsNatural ys) (sym fits) (refl, All-nil IsNatural)
+rows_places (width ∷ widths) zs fits =
+    let first = (line_places (naturals width ∷ []) (take width zs, tt) fits.0).0 in
+    let others = rows_places widths (drop width zs) fits.1 in
+    let parts = take-append-drop width zs in
+    let amount : length zs ≡ width + width_sum widths = omega (arith, ap length parts, length-append (take width zs) (drop width zs), first.0, others.0) in
+    (amount, subst (λ (ys : List ℤ). All IsNatural ys) parts (All-append IsNatural (take width zs) (drop width zs) first.1 others.1))
+
+-- numbers as many as the widths say make rows that fit
+rows_fit : (widths : List ℕ) (zs : List ℤ) → length zs ≡ width_sum widths → All IsNatural zs → RowsFit widths zs
+rows_fit [] zs amount all = nil_from_length zs amount
+rows_fit (width ∷ widths) zs amount all =
+    (line_fits (naturals width ∷ []) (take width zs, tt) refl ((omega (arith, length-take width zs), All-take IsNatural width zs all), tt), rows_fit widths (drop width zs) (omega (arith, length-drop width zs)) (All-drop IsNatural width zs all))
+
+-- the sum of equal widths
+sum_replicate : (layers width : ℕ) (more : List ℕ) → width_sum (replicate layers width ++ more) ≡ layers * width + width_sum more
+sum_replicate zero width more = omega arith
+sum_replicate (suc layers) width more = omega (arith, sum_replicate layers width more)
+
+-- the number of pairs of numbers up to n
+abbrev pairs_up_to : ℕ → ℕ
+pairs_up_to zero = 0
+pairs_up_to (suc n) = suc n + pairs_up_to n
+
+-- twice as many are a product
+twice_pairs : (n : ℕ) → 2 * pairs_up_to n ≡ n * (n + 1)
+twice_pairs zero = refl
+twice_pairs (suc n) = omega (arith, twice_pairs n)
+
+-- how many numbers the layers have
+sum_triangle : (longest layers : ℕ) → width_sum (triangle longest layers) ≡ layers * pairs_up_to longest
+sum_triangle zero layers = omega arith
+sum_triangle (suc longest) layers = omega (arith, sum_replicate layers (suc longest) (triangle longest layers), sum_triangle longest layers)
+
+-- the count of pairs is that of the places of potentials
+pairs_are : (n : ℕ) → pairs_before (suc n) (suc n) ≡ pairs_up_to n
+pairs_are n =
+    let inner : 2 * suc n - suc n - 1 ≡ n = omega arith in
+    ap (λ (k : ℕ). suc n * k / 2) inner ∙ omega (arith, twice_pairs n)
+
+-- no row is empty
+widths_above_zero : (longest layers : ℕ) → list_all (λ w. nat_lt 0 w) (triangle longest layers) ≡ true
+widths_above_zero zero layers = refl
+widths_above_zero (suc longest) layers =
+    list_all-append (λ w. nat_lt 0 w) (replicate layers (suc longest)) (triangle longest layers) ∙ ap (λ (t : Bool). t && list_all (λ w. nat_lt 0 w) (triangle longest layers)) (same_width layers) ∙ widths_above_zero longest layers
+  where
+    same_width : (k : ℕ) → list_all (λ w. nat_lt 0 w) (replicate k (suc longest)) ≡ true
+    same_width zero = refl
+    same_width (suc k) = ap (λ (t : Bool). t && list_all (λ w. nat_lt 0 w) (replicate k (suc longest))) (lt-ltb 0 (suc longest) (omega arith)) ∙ same_width k
+
+-- how many potentials there are
+amount_is : (corners layers n : ℕ) → corners ≡ suc n → width_sum (triangle n layers) ≡ layers * pairs_before corners corners
+amount_is corners layers n is = sum_triangle n layers ∙ ap (λ (k : ℕ). layers * k) (sym (pairs_are n)) ∙ ap (λ (c : ℕ). layers * pairs_before c c) (sym is)
+
+-- how many rows there are
+length-triangle : (longest layers : ℕ) → length (triangle longest layers) ≡ layers * longest
+length-triangle zero layers = omega arith
+length-triangle (suc longest) layers = omega (arith, length-append (replicate layers (suc longest)) (triangle longest layers), length-replicate layers (suc longest), length-triangle longest layers)
+
+-- 128 corners have 8128 pairs at most
+pairs_most : (n : ℕ) → n ≤ 127 → pairs_up_to n ≤ 8128
+pairs_most n long =
+    let next : n + 1 ≤ 128 = omega arith in
+    let product : n * (n + 1) ≤ 127 * 128 = mul-le-mul long next in
+    omega (arith, twice_pairs n)
+
+-- ten layers over 128 corners at most
+few_potentials : (longest layers : ℕ) → longest ≤ 127 → layers ≤ 10 → (length (triangle longest layers) ≤ 1270) × (width_sum (triangle longest layers) ≤ 81280)
+few_potentials longest layers long deep =
+    let amount : layers * longest ≤ 10 * 127 = mul-le-mul deep long in
+    let whole : layers * pairs_up_to longest ≤ 10 * 8128 = mul-le-mul deep (pairs_most longest long) in
+    (omega (arith, length-triangle longest layers), omega (arith, sum_triangle longest layers))
+
+-- ---- polygon
+
+-- the count of corners
+abbrev corners_count : Count
+corners_count = record { word = codes "corners"; low = 1; high = 128 }
+
+-- the count of chosen corners
+abbrev chosen_count : Count
+chosen_count = record { word = codes "chosen"; low = 1; high = 12 }
+
+-- the count of layers
+abbrev layers_count : Count
+layers_count = record { word = codes "layers"; low = 0; high = 10 }
+
+-- the corners behind the first one
+behind_first : {X : Type 0} (make : X → ℕ) (xs : List X) → length (map make xs) - 1 ≡ length xs + 0 - 1
+behind_first make xs = omega (arith, length-map xs make)
+
+-- the spelling of a polygon is the text of its format
+kgon_spelled : (size : Fraction) (b : Body kgon_kind.body) → spelling (kgon_kind.answer size b) ≡ kind_bytes kgon_kind size b
+kgon_spelled size b =
+    let first = first_is (codes "kgon") in
+    let second = size_is size in
+    let corners = counted_are {Y = ℕ} corners_count 0 (point_number ∷ []) index_line (λ v. v.0) b.0 (λ v. index_is 0 point_limit v) (length (map {B = ℕ} (λ v. v.0) b.0)) (made_length_all {Y = ℕ} (λ v. v.0) b.0) in
+    let chosen = counted_are {Y = ℕ} chosen_count 0 (bounded 0 127 ∷ []) index_line (λ v. v.0) b.1.0 (λ v. index_is 0 127 v) (length (map {B = ℕ} (λ v. v.0) b.1.0)) (made_length_all {Y = ℕ} (λ v. v.0) b.1.0) in
+    let layers = count_is layers_count b.1.1.0 in
+    let potentials = ap (λ (k : ℕ). potential_lines k b.1.1.0 b.1.1.1.0) (behind_first {X = Values (point_number ∷ [])} (λ v. v.0) b.0) ∙ rows_are (length b.0 + 0 - 1) b.1.1.0 b.1.1.1.0 in
+    simp (append_assoc, append-nil, first, second, corners, chosen, layers, potentials, last_is)
+
+-- polygons keep the laws
+pub kgon_law : KindLaw kgon_kind
+kgon_law = record {
+  sound = record { name = refl; parts = λ b. (refl, (refl, (refl, (widths_above_zero (length b.0 + 0 - 1) b.1.1.0, tt)))) };
+  named = λ lines. refl;
+  spelled = kgon_spelled;
+  short = λ b fits.
+      let corners = (line_places (bounded 1 128 ∷ []) (length b.0 + 0, tt) fits.0.0).0.1 in
+      let layers = (line_places (bounded 0 10 ∷ []) (b.1.1.0, tt) fits.1.1.0).0.1 in
+      let amount = (rows_places (triangle (length b.0 + 0 - 1) b.1.1.0) b.1.1.1.0 fits.1.1.1.0).0 in
+      let few = few_potentials (length b.0 + 0 - 1) b.1.1.0 (omega (arith, corners)) layers in
+      omega (arith, few.0, few.1, amount);
+  places = λ size b size-fits fits.
+      let corners = count_places {Y = ℕ} (λ v. v.0) 1 128 0 b.0 fits.0.0 (omega arith) in
+      let rows = rows_places (triangle (length b.0 + 0 - 1) b.1.1.0) b.1.1.1.0 fits.1.1.1.0 in
+      record {
+        size = (line_places (fraction ∷ []) (size, tt) size-fits).0;
+        corner_count = corners;
+        corners = all_places (point_number ∷ []) (λ v. v.0) (λ n. n ≤ point_limit) b.0 (λ v p. p.0.1) fits.0.1;
+        chosen_count = count_places {Y = ℕ} (λ v. v.0) 1 12 0 b.1.0 fits.1.0.0 (omega arith);
+        chosen = all_places (bounded 0 127 ∷ []) (λ v. v.0) (λ n. n ≤ 127) b.1.0 (λ v p. p.0.1) fits.1.0.1;
+        layers = (line_places (bounded 0 10 ∷ []) (b.1.1.0, tt) fits.1.1.0).0.1;
+        potential_count = rows.0 ∙ amount_is (length (map {B = ℕ} (λ v. v.0) b.0)) b.1.1.0 (length b.0 + 0 - 1) (omega (arith, corners.at_least, length-map {B = ℕ} b.0 (λ v. v.0)));
+        potentials = rows.1;
+      };
+}
+
+-- a number as the field of its line
+abbrev number_parts : ℕ → ℕ × Unit {0}
+number_parts n = (n, tt)
+
+-- a polygon that keeps its places is one that its format writes
+pub kgon_written : (a : KgonAnswer) → KgonPlaces a → Written (kgon a)
+kgon_written a places =
+    let longest : ℕ = length (map number_parts a.corners) + 0 - 1 in
+    let corners : length a.corners ≡ suc longest = omega (arith, places.corner_count.at_least, length-map a.corners number_parts) in
+    record {
+      kind = kgon_kind;
+      law = kgon_law;
+      size = a.size;
+      body = (map number_parts a.corners, (map number_parts a.chosen, (a.layers, (a.potentials, tt))));
+      is = λ i. kgon (record {
+        size = a.size;
+        corners = map_back {Y = ℕ} (λ v. v.0) number_parts a.corners (λ n. refl) i;
+        chosen = map_back {Y = ℕ} (λ v. v.0) number_parts a.chosen (λ n. refl) i;
+        layers = a.layers;
+        potentials = a.potentials;
+      });
+      size_fits = line_fits (fraction ∷ []) (a.size, tt) refl (places.size, tt);
+      body_fits = (
+        (
+          count_fits number_parts 1 128 0 a.corners refl (omega (arith, places.corner_count.at_least)) (omega (arith, places.corner_count.at_most)),
+          all_fit (point_number ∷ []) number_parts (λ n. n ≤ point_limit) a.corners refl (λ n p. ((omega arith, p), tt)) places.corners,
+        ),
+        (
+          (
+            count_fits number_parts 1 12 0 a.chosen refl (omega (arith, places.chosen_count.at_least)) (omega (arith, places.chosen_count.at_most)),
+            all_fit (bounded 0 127 ∷ []) number_parts (λ n. n ≤ 127) a.chosen refl (λ n p. ((omega arith, p), tt)) places.chosen,
+          ),
+          (
+            line_fits (bounded 0 10 ∷ []) (a.layers, tt) refl ((omega arith, places.layers), tt),
+            (rows_fit (triangle longest a.layers) a.potentials (places.potential_count ∙ sym (amount_is (length a.corners) a.layers longest corners)) places.potentials, tt),
+          ),
+        ),
+      );
+    }

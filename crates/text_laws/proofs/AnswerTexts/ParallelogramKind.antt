@@ -1,0 +1,176 @@
+-- The texts of parallelograms.
+use Rattle.std.proofs.Common.{◌≡◌, ℕ, suc, ◌+◌, ◌≤◌, List, [], ◌∷◌, ◌++◌, length, map, refl, sym, ap, ◌∙◌, append_assoc, arith}
+use Rattle.std.specs.Prelude.{codes, All}
+use Rattle.std.specs.List.{flat_map}
+use Rattle.std.proofs.lemmas.List.{append-nil, length-map, length-append}
+use Rattle.std.proofs.lemmas.List.Elements.{All-nil, All-cons, All-head, All-tail, All-append, All-same}
+use Rattle.bounds_model.specs.Fractions.{Fraction}
+use Rattle.bounds_model.specs.Plane.{PlanePoint}
+use Rattle.bounds_model.specs.Places.{IsPair, point_limit}
+use Rattle.bounds_model.specs.Fans.{HalfCone}
+use Rattle.bounds_model.specs.ParallelogramAnswer.{Chord, ChordPlaces, ParallelogramAnswer, ParallelogramPlaces}
+use Rattle.bounds_model.specs.Answers.{parallelogram}
+use Rattle.bounds_model.specs.AnswerText.Fields.{fraction, bounded}
+use Rattle.bounds_model.specs.AnswerText.LineFormats.{untitled, Values}
+use Rattle.bounds_model.specs.AnswerText.Formats.{count_format, Body}
+use Rattle.bounds_model.specs.AnswerText.Kinds.{parallelogram_kind, side_fields, chord_fields, chord, chorded_fields, chorded_cone, cone_chord, last_fields, last_vector, last_chord}
+use Rattle.bounds_model.specs.AnswerText.SpelledParts.{count_line}
+use Rattle.bounds_model.specs.AnswerText.Spelling.{spelling, chorded_line, last_chord_line, chorded_lines}
+use Rattle.text_laws.proofs.AnswerTexts.FormLaws.{format_line}
+use Rattle.text_laws.proofs.AnswerTexts.BodyLaws.{AllFit}
+use Rattle.text_laws.proofs.AnswerTexts.AnswerLaws.{kind_bytes, KindLaw, Written}
+use Rattle.text_laws.proofs.AnswerTexts.PlaceLaws.{FieldPlaces, line_places, line_fits}
+use Rattle.text_laws.proofs.AnswerTexts.ListPlaces.{all_places, count_places}
+use Rattle.text_laws.proofs.AnswerTexts.SpelledLaws.{first_is, size_is, last_is, four_is, count_is, made_length}
+use Rattle.text_laws.proofs.AnswerTexts.FanKinds.{fan_count, directions_of_all, all_directions}
+
+-- ---- chords
+
+-- a chord as the fields of a line
+chord_parts : Chord → Values chord_fields
+chord_parts k = (k.a, (k.b, (k.c, (k.beta, (k.gamma, (k.k, tt))))))
+
+-- a chord of such fields keeps its places
+chord_place : (v : Values chord_fields) → FieldPlaces chord_fields v → ChordPlaces (chord v)
+chord_place v p = record { a = p.0.1; b = p.1.0.1; c = p.1.1.0.1; beta = p.1.1.1.0; gamma = p.1.1.1.1.0; k = p.1.1.1.1.1.0 }
+
+-- the fields of a chord that keeps its places
+chord_fields_place : (v : Values chord_fields) → ChordPlaces (chord v) → FieldPlaces chord_fields v
+chord_fields_place v p = ((omega arith, p.a), ((omega arith, p.b), ((omega arith, p.c), (p.beta, (p.gamma, (p.k, tt))))))
+
+-- the spelled line of a cone and a chord is that of its format
+chorded_is : (v : Values chorded_fields) → chorded_line (chorded_cone v) (cone_chord v) ≡ format_line (untitled chorded_fields) v
+unfolding chorded_line
+chorded_is v = simp append_assoc
+
+-- the spelled line of the last direction is that of its format
+last_chord_is : (v : Values last_fields) → last_chord_line (last_vector v) (last_chord v) ≡ format_line (untitled last_fields) v
+unfolding last_chord_line
+last_chord_is v = simp append_assoc
+
+-- the spelled lines of all directions are those of the formats
+chorded_are : (vs : List (Values chorded_fields)) (end : Values last_fields) → chorded_lines (map chorded_cone vs) (last_vector end) (map cone_chord vs ++ last_chord end ∷ []) ≡ flat_map (format_line (untitled chorded_fields)) vs ++ format_line (untitled last_fields) end
+chorded_are [] end = last_chord_is end
+chorded_are (v ∷ vs) end = (λ i. chorded_is v i ++ chorded_are vs end i) ∙ sym (append_assoc (format_line (untitled chorded_fields) v) (flat_map (format_line (untitled chorded_fields)) vs) (format_line (untitled last_fields) end))
+
+-- the numbers of the cone are those of points
+abbrev HalfPoints : HalfCone → Type 0
+HalfPoints c = (c.high ≤ point_limit) × (c.low ≤ point_limit)
+
+-- the spelling of a parallelogram is the text of its format
+parallelogram_spelled : (size : Fraction) (b : Body parallelogram_kind.body) → spelling (parallelogram_kind.answer size b) ≡ kind_bytes parallelogram_kind size b
+parallelogram_spelled size b =
+    let first = first_is (codes "parallelogram") in
+    let second = size_is size in
+    let one = four_is (codes "first") b.0.0 b.0.1.0 b.0.1.1.0 b.0.1.1.1.0 in
+    let two = four_is (codes "second") b.1.0.0 b.1.0.1.0 b.1.0.1.1.0 b.1.0.1.1.1.0 in
+    let amount : count_line (codes "fan") (length (map chorded_cone b.1.1.0) + 1) ≡ format_line (count_format fan_count) (length b.1.1.0 + 1, tt) = count_is fan_count (length (map chorded_cone b.1.1.0) + 1) ∙ ap (λ (k : ℕ). format_line (count_format fan_count) (k, tt)) (made_length chorded_cone b.1.1.0 1) in
+    let cones = chorded_are b.1.1.0 b.1.1.1.0 in
+    simp (append_assoc, append-nil, first, second, one, two, amount, cones, last_is)
+
+-- parallelograms keep the laws
+pub parallelogram_law : KindLaw parallelogram_kind
+parallelogram_law = record {
+  sound = record { name = refl; parts = λ b. (refl, (refl, (refl, (refl, tt)))) };
+  named = λ lines. refl;
+  spelled = parallelogram_spelled;
+  short = λ b fits. omega arith;
+  places = λ size b size-fits fits.
+      let one = line_places side_fields b.0 fits.0 in
+      let two = line_places side_fields b.1.0 fits.1.0 in
+      let last = line_places last_fields b.1.1.1.0 fits.1.1.1.0 in
+      let vs = b.1.1.0 in
+      record {
+        size = (line_places (fraction ∷ []) (size, tt) size-fits).0;
+        first = record { x = one.0; y = one.1.0 };
+        first_bounds = record { low = one.1.1.0; high = one.1.1.1.0 };
+        second = record { x = two.0; y = two.1.0 };
+        second_bounds = record { low = two.1.1.0; high = two.1.1.1.0 };
+        fan = record {
+          count = count_places chorded_cone 2 10003 1 vs fits.1.1.0.0 (omega arith);
+          directions = all_directions (λ c. c.direction) (map chorded_cone vs) (last_vector b.1.1.1.0)
+              (all_places chorded_fields chorded_cone (λ c. IsPair c.direction) vs (λ v p. record { x = p.0; y = p.1.0 }) fits.1.1.0.1) (record { x = last.0; y = last.1.0 });
+          points = all_places chorded_fields chorded_cone HalfPoints vs (λ v p. (p.1.1.0.1, p.1.1.1.0.1)) fits.1.1.0.1;
+        };
+        chord_for_each = as_many vs b.1.1.1.0;
+        chords = All-append ChordPlaces (map cone_chord vs) (last_chord b.1.1.1.0 ∷ []) (all_places chorded_fields cone_chord ChordPlaces vs (λ v p. chord_place v.1.1.1.1 p.1.1.1.1) fits.1.1.0.1)
+            (All-cons ChordPlaces (last_chord b.1.1.1.0) [] (chord_place b.1.1.1.0.1.1 last.1.1) (All-nil ChordPlaces));
+      };
+}
+  where
+    as_many : (vs : List (Values chorded_fields)) (end : Values last_fields) → length (map cone_chord vs ++ last_chord end ∷ []) ≡ length (map {B = PlanePoint} (λ (c : HalfCone). c.direction) (map chorded_cone vs) ++ last_vector end ∷ [])
+    as_many [] end = refl
+    as_many (v ∷ vs) end = ap suc (as_many vs end)
+
+-- the cones with their chords, and the chord that is left
+pub record Chorded (cones : List HalfCone) (chords : List Chord) : Type 0 where
+  pub each : List (Values chorded_fields)
+  pub left : Chord
+  pub cones_are : map chorded_cone each ≡ cones
+  pub chords_are : map cone_chord each ++ left ∷ [] ≡ chords
+
+-- cones and chords, one more of these, as lines
+chorded : (cones : List HalfCone) (chords : List Chord) → length chords ≡ suc (length cones) → Chorded cones chords
+unfolding chord_parts
+chorded [] [] e = absurd (omega arith)
+chorded [] (k ∷ []) e = record { each = []; left = k; cones_are = refl; chords_are = refl }
+chorded [] (k ∷ l ∷ chords) e = absurd (omega arith)
+chorded (c ∷ cones) [] e = absurd (omega arith)
+chorded (c ∷ cones) (k ∷ chords) e =
+    let others = chorded cones chords (omega arith) in
+    record {
+      each = (c.direction.x, (c.direction.y, (c.high, (c.low, chord_parts k)))) ∷ others.each;
+      left = others.left;
+      cones_are = ap (λ (xs : List HalfCone). c ∷ xs) others.cones_are;
+      chords_are = ap (λ (xs : List Chord). k ∷ xs) others.chords_are;
+    }
+
+-- the cone keeps its places
+abbrev HalfPlace : HalfCone → Type 0
+HalfPlace c = IsPair c.direction × HalfPoints c
+
+-- lines of cones and chords that keep their places fit
+chorded_fit : (vs : List (Values chorded_fields)) (left : Chord) → All HalfPlace (map chorded_cone vs) → All ChordPlaces (map cone_chord vs ++ left ∷ []) → AllFit (untitled chorded_fields) vs × ChordPlaces left
+chorded_fit [] left cones chords = (tt, All-head ChordPlaces left [] chords)
+chorded_fit (v ∷ vs) left cones chords =
+    let others = chorded_fit vs left (All-tail HalfPlace (chorded_cone v) (map chorded_cone vs) cones) (All-tail ChordPlaces (cone_chord v) (map cone_chord vs ++ left ∷ []) chords) in
+    let p = All-head HalfPlace (chorded_cone v) (map chorded_cone vs) cones in
+    let q = All-head ChordPlaces (cone_chord v) (map cone_chord vs ++ left ∷ []) chords in
+    ((line_fits chorded_fields v refl (p.0.x, (p.0.y, ((omega arith, p.1.0), ((omega arith, p.1.1), chord_fields_place v.1.1.1.1 q)))), others.0), others.1)
+
+-- a parallelogram that keeps its places is one that its format writes
+pub parallelogram_written : (a : ParallelogramAnswer) → ParallelogramPlaces a → Written (parallelogram a)
+unfolding chord_parts
+parallelogram_written a places =
+    let directions = directions_of_all (λ (c : HalfCone). c.direction) a.fan.cones a.fan.last places.fan.directions in
+    let as-many : length a.chords ≡ suc (length a.fan.cones) = omega (arith, places.chord_for_each, length-append (map (λ (c : HalfCone). c.direction) a.fan.cones) (a.fan.last ∷ []), length-map a.fan.cones (λ (c : HalfCone). c.direction)) in
+    let split = chorded a.fan.cones a.chords as-many in
+    let cones : All HalfPlace a.fan.cones = λ k d l. (directions.0 k d l, places.fan.points k d l) in
+    let fits = chorded_fit split.each split.left (All-same HalfPlace (map chorded_cone split.each) a.fan.cones split.cones_are cones) (All-same ChordPlaces (map cone_chord split.each ++ split.left ∷ []) a.chords split.chords_are places.chords) in
+    let amount : length split.each ≡ length a.fan.cones = omega (arith, length-map split.each chorded_cone, ap length split.cones_are) in
+    record {
+      kind = parallelogram_kind;
+      law = parallelogram_law;
+      size = a.size;
+      body = ((a.first.x, (a.first.y, (a.first_bounds.low, (a.first_bounds.high, tt)))), ((a.second.x, (a.second.y, (a.second_bounds.low, (a.second_bounds.high, tt)))), (split.each, ((a.fan.last.x, (a.fan.last.y, chord_parts split.left)), tt))));
+      is = λ i. parallelogram (record {
+        size = a.size;
+        first = a.first;
+        first_bounds = a.first_bounds;
+        second = a.second;
+        second_bounds = a.second_bounds;
+        fan = record { cones = split.cones_are i; last = a.fan.last };
+        chords = split.chords_are i;
+      });
+      size_fits = line_fits (fraction ∷ []) (a.size, tt) refl (places.size, tt);
+      body_fits = (
+        line_fits side_fields (a.first.x, (a.first.y, (a.first_bounds.low, (a.first_bounds.high, tt)))) refl (places.first.x, (places.first.y, (places.first_bounds.low, (places.first_bounds.high, tt)))),
+        (
+          line_fits side_fields (a.second.x, (a.second.y, (a.second_bounds.low, (a.second_bounds.high, tt)))) refl (places.second.x, (places.second.y, (places.second_bounds.low, (places.second_bounds.high, tt)))),
+          (
+            (line_fits (bounded 2 10003 ∷ []) (length split.each + 1, tt) refl ((omega (arith, places.fan.count.at_least), omega (arith, places.fan.count.at_most)), tt), fits.0),
+            (line_fits last_fields (a.fan.last.x, (a.fan.last.y, chord_parts split.left)) refl (directions.1.x, (directions.1.y, chord_fields_place (chord_parts split.left) fits.1)), tt),
+          ),
+        ),
+      );
+    }

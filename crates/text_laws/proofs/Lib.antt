@@ -1,0 +1,3 @@
+pub mod AnswerTexts
+mod DemoPoints
+mod ErrorTexts
