@@ -1,6 +1,6 @@
 -- The corner lemma: where at most three squares cover points, a square in a corner of the bounding box can be one of them.
 -- Each point has the colour of a square that covers it, so points of one colour are within a side of each other.
-use Rattle.std.proofs.Common.{◌≡◌, inl, inr, ◌≢◌, refl, sym, ◌∙◌, ℕ, suc, ◌<◌, ◌≤◌, pos, ◌-ℤ◌, ◌≤ℤ◌, Bool, true, false, not, List, [], ◌∷◌, arith}
+use Rattle.std.proofs.Common.{◌≡◌, ◌⊎◌, inl, inr, ◌≢◌, refl, sym, ◌∙◌, ℕ, suc, ◌<◌, ◌≤◌, pos, ◌-ℤ◌, ◌≤ℤ◌, Bool, true, false, not, List, [], ◌∷◌, arith}
 use Rattle.std.specs.Prelude.{Contains, ◌==◌, if◌then◌else◌, Decides}
 use Rattle.std.proofs.lemmas.Bool.{cases_eq}
 use Rattle.std.proofs.lemmas.Bool.Decides.{Decides-eqb}
@@ -45,83 +45,94 @@ record Extremes (ps : List PlanePoint) : Type 0 where
   bottom : (p : PlanePoint) × Contains ps p × (least y_of ps ≡ y_of p)
   top : (p : PlanePoint) × Contains ps p × (greatest y_of ps ≡ y_of p)
 
--- with three colours, two of the four points on the sides have one colour: two on sides that meet fill their corner, and two on opposite sides leave the box no wider than a side
+-- of the colours of the four points, these two are the same
+data TwoAlike (left right bottom top : ℕ) : Type 0 where
+  left_bottom : left ≡ bottom → TwoAlike left right bottom top
+  right_bottom : right ≡ bottom → TwoAlike left right bottom top
+  left_top : left ≡ top → TwoAlike left right bottom top
+  right_top : right ≡ top → TwoAlike left right bottom top
+  left_right : left ≡ right → TwoAlike left right bottom top
+  bottom_top : bottom ≡ top → TwoAlike left right bottom top
+
+-- three colours are not enough for four points without two alike
+two_alike : (count left right bottom top : ℕ) → count ≤ 3 → left < count → right < count → bottom < count → top < count → TwoAlike left right bottom top
+two_alike count l r b t few hl hr hb ht =
+    unless (cases_eq l b) left_bottom (λ lb.
+    unless (cases_eq r b) right_bottom (λ rb.
+    unless (cases_eq l t) left_top (λ lt.
+    unless (cases_eq r t) right_top (λ rt.
+    unless (cases_eq l r) left_right (λ lr.
+    unless (cases_eq b t) bottom_top (λ bt. absurd (all_differ lb rb lt rt lr bt)))))))
+  where
+    unless : {P : Type 0} → P ⊎ (P → ⊥) → (P → TwoAlike l r b t) → ((P → ⊥) → TwoAlike l r b t) → TwoAlike l r b t
+    unless either f g = elim either [ inl p ↦ f p | inr n ↦ g n ]
+
+    all_differ : l ≢ b → r ≢ b → l ≢ t → r ≢ t → l ≢ r → b ≢ t → ⊥
+    all_differ n1 n2 n3 n4 n5 n6 = omega arith
+
+-- two alike on sides that meet fill the corner between these; two alike on opposite sides leave the box no wider than a side, and the corner is filled by the colour of a point beside it
+filled_by : (side count : ℕ) (ps : List PlanePoint) (colour : Colouring ps) → IsColoured side count ps colour → (e : Extremes ps)
+    → TwoAlike (colour e.left.0 e.left.1) (colour e.right.0 e.right.1) (colour e.bottom.0 e.bottom.1) (colour e.top.0 e.top.1) → IsFilled side count ps colour
+filled_by side count ps colour c e (left_bottom same) = record {
+  corner = 0;
+  four = omega arith;
+  chosen = colour e.left.0 e.left.1;
+  below = c.below e.left.0 e.left.1;
+  fills = λ p m s. lower_left side ps p
+      (near_lowest side x_of ps p e.left.0 m e.left.2 (c.near p e.left.0 m e.left.1 s).in_x)
+      (near_lowest side y_of ps p e.bottom.0 m e.bottom.2 (c.near p e.bottom.0 m e.bottom.1 (s ∙ same)).in_y);
+}
+filled_by side count ps colour c e (right_bottom same) = record {
+  corner = 1;
+  four = omega arith;
+  chosen = colour e.right.0 e.right.1;
+  below = c.below e.right.0 e.right.1;
+  fills = λ p m s. lower_right side ps p
+      (near_highest side x_of ps p e.right.0 m e.right.2 (c.near e.right.0 p e.right.1 m (sym s)).in_x)
+      (near_lowest side y_of ps p e.bottom.0 m e.bottom.2 (c.near p e.bottom.0 m e.bottom.1 (s ∙ same)).in_y);
+}
+filled_by side count ps colour c e (left_top same) = record {
+  corner = 2;
+  four = omega arith;
+  chosen = colour e.left.0 e.left.1;
+  below = c.below e.left.0 e.left.1;
+  fills = λ p m s. upper_left side ps p
+      (near_lowest side x_of ps p e.left.0 m e.left.2 (c.near p e.left.0 m e.left.1 s).in_x)
+      (near_highest side y_of ps p e.top.0 m e.top.2 (c.near e.top.0 p e.top.1 m (sym (s ∙ same))).in_y);
+}
+filled_by side count ps colour c e (right_top same) = record {
+  corner = 3;
+  four = omega arith;
+  chosen = colour e.right.0 e.right.1;
+  below = c.below e.right.0 e.right.1;
+  fills = λ p m s. upper_right side ps p
+      (near_highest side x_of ps p e.right.0 m e.right.2 (c.near e.right.0 p e.right.1 m (sym s)).in_x)
+      (near_highest side y_of ps p e.top.0 m e.top.2 (c.near e.top.0 p e.top.1 m (sym (s ∙ same))).in_y);
+}
+filled_by side count ps colour c e (left_right same) = record {
+  corner = 0;
+  four = omega arith;
+  chosen = colour e.bottom.0 e.bottom.1;
+  below = c.below e.bottom.0 e.bottom.1;
+  fills = λ p m s. lower_left side ps p
+      (within_a_side side x_of ps p e.left.0 e.right.0 m e.left.2 e.right.2 (c.near e.right.0 e.left.0 e.right.1 e.left.1 (sym same)).in_x)
+      (near_lowest side y_of ps p e.bottom.0 m e.bottom.2 (c.near p e.bottom.0 m e.bottom.1 s).in_y);
+}
+filled_by side count ps colour c e (bottom_top same) = record {
+  corner = 0;
+  four = omega arith;
+  chosen = colour e.left.0 e.left.1;
+  below = c.below e.left.0 e.left.1;
+  fills = λ p m s. lower_left side ps p
+      (near_lowest side x_of ps p e.left.0 m e.left.2 (c.near p e.left.0 m e.left.1 s).in_x)
+      (within_a_side side y_of ps p e.bottom.0 e.top.0 m e.bottom.2 e.top.2 (c.near e.top.0 e.bottom.0 e.top.1 e.bottom.1 (sym same)).in_y);
+}
+
+-- so with up to three colours, a corner's square holds all points of one
 fills_a_corner : (side count : ℕ) (ps : List PlanePoint) (colour : Colouring ps) → count ≤ 3 → IsColoured side count ps colour → Extremes ps → IsFilled side count ps colour
 fills_a_corner side count ps colour few c e =
-    let left = colour e.left.0 e.left.1 in
-    let right = colour e.right.0 e.right.1 in
-    let bottom = colour e.bottom.0 e.bottom.1 in
-    let top = colour e.top.0 e.top.1 in
-    elim (cases_eq left bottom) [
-      | inl same ↦ record {
-        corner = 0;
-        four = omega arith;
-        chosen = left;
-        below = c.below e.left.0 e.left.1;
-        fills = λ p m s. lower_left side ps p
-            (near_lowest side x_of ps p e.left.0 m e.left.2 (c.near p e.left.0 m e.left.1 s).in_x)
-            (near_lowest side y_of ps p e.bottom.0 m e.bottom.2 (c.near p e.bottom.0 m e.bottom.1 (s ∙ same)).in_y);
-      }
-      | inr left_bottom ↦ elim (cases_eq right bottom) [
-        | inl same ↦ record {
-          corner = 1;
-          four = omega arith;
-          chosen = right;
-          below = c.below e.right.0 e.right.1;
-          fills = λ p m s. lower_right side ps p
-              (near_highest side x_of ps p e.right.0 m e.right.2 (c.near e.right.0 p e.right.1 m (sym s)).in_x)
-              (near_lowest side y_of ps p e.bottom.0 m e.bottom.2 (c.near p e.bottom.0 m e.bottom.1 (s ∙ same)).in_y);
-        }
-        | inr right_bottom ↦ elim (cases_eq left top) [
-          | inl same ↦ record {
-            corner = 2;
-            four = omega arith;
-            chosen = left;
-            below = c.below e.left.0 e.left.1;
-            fills = λ p m s. upper_left side ps p
-                (near_lowest side x_of ps p e.left.0 m e.left.2 (c.near p e.left.0 m e.left.1 s).in_x)
-                (near_highest side y_of ps p e.top.0 m e.top.2 (c.near e.top.0 p e.top.1 m (sym (s ∙ same))).in_y);
-          }
-          | inr left_top ↦ elim (cases_eq right top) [
-            | inl same ↦ record {
-              corner = 3;
-              four = omega arith;
-              chosen = right;
-              below = c.below e.right.0 e.right.1;
-              fills = λ p m s. upper_right side ps p
-                  (near_highest side x_of ps p e.right.0 m e.right.2 (c.near e.right.0 p e.right.1 m (sym s)).in_x)
-                  (near_highest side y_of ps p e.top.0 m e.top.2 (c.near e.top.0 p e.top.1 m (sym (s ∙ same))).in_y);
-            }
-            | inr right_top ↦ elim (cases_eq left right) [
-              | inl same ↦ record {
-                corner = 0;
-                four = omega arith;
-                chosen = bottom;
-                below = c.below e.bottom.0 e.bottom.1;
-                fills = λ p m s. lower_left side ps p
-                    (within_a_side side x_of ps p e.left.0 e.right.0 m e.left.2 e.right.2 (c.near e.right.0 e.left.0 e.right.1 e.left.1 (sym same)).in_x)
-                    (near_lowest side y_of ps p e.bottom.0 m e.bottom.2 (c.near p e.bottom.0 m e.bottom.1 s).in_y);
-              }
-              | inr left_right ↦ elim (cases_eq bottom top) [
-                | inl same ↦ record {
-                  corner = 0;
-                  four = omega arith;
-                  chosen = left;
-                  below = c.below e.left.0 e.left.1;
-                  fills = λ p m s. lower_left side ps p
-                      (near_lowest side x_of ps p e.left.0 m e.left.2 (c.near p e.left.0 m e.left.1 s).in_x)
-                      (within_a_side side y_of ps p e.bottom.0 e.top.0 m e.bottom.2 e.top.2 (c.near e.top.0 e.bottom.0 e.top.1 e.bottom.1 (sym same)).in_y);
-                }
-                | inr bottom_top ↦ absurd (no_four left bottom right top (c.below e.left.0 e.left.1) (c.below e.bottom.0 e.bottom.1) (c.below e.right.0 e.right.1) (c.below e.top.0 e.top.1) left_bottom right_bottom left_top right_top left_right bottom_top)
-              ]
-            ]
-          ]
-        ]
-      ]
-    ]
-  where
-    no_four : (l b r t : ℕ) → l < count → b < count → r < count → t < count → l ≢ b → r ≢ b → l ≢ t → r ≢ t → l ≢ r → b ≢ t → ⊥
-    no_four l b r t hl hb hr ht n1 n2 n3 n4 n5 n6 = omega arith
+    filled_by side count ps colour c e
+    (two_alike count (colour e.left.0 e.left.1) (colour e.right.0 e.right.1) (colour e.bottom.0 e.bottom.1) (colour e.top.0 e.top.1) few (c.below e.left.0 e.left.1) (c.below e.right.0 e.right.1) (c.below e.bottom.0 e.bottom.1) (c.below e.top.0 e.top.1))
 
 -- ---- one colour fewer
 

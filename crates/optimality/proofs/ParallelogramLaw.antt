@@ -1,12 +1,12 @@
 -- A parallelogram that passes has the least area around its points.
-use Rattle.std.proofs.Common.{◌≡◌, sym, ap, subst, ℕ, suc, ◌+◌, ◌<◌, ◌≤◌, ℤ, pos, nat_abs, ◌+ℤ◌, ◌-ℤ◌, ◌*ℤ◌, neg_ℤ, ◌≤ℤ◌, ◌<ℤ◌, List, [], ◌∷◌, length, arith}
+use Rattle.std.proofs.Common.{◌≡◌, sym, ap, subst, ℕ, suc, ◌+◌, ◌<◌, ◌≤◌, ℤ, pos, nat_abs, ◌+ℤ◌, ◌-ℤ◌, ◌*ℤ◌, neg_ℤ, ◌≤ℤ◌, List, [], ◌∷◌, length, arith}
 use Rattle.std.specs.Prelude.{slice_index_or, slice_get, IsSomeAnd}
 use Rattle.std.proofs.lemmas.Int.{by_lt_z}
 use Rattle.std.specs.Int.Signed.{≤ℤ_refl}
 use Rattle.std.proofs.lemmas.Option.{slice_get-get_or}
 use Rattle.integers.proofs.Identities.{den-ring, read, polys}
 use Rattle.integers.proofs.Order.{nonneg_mul, nonneg_add, positive_from_one, le_by, le_of_mul_le, nonneg_difference, combine2}
-use Rattle.bounds_model.specs.Plane.{PlanePoint, origin, point_at, vector, cross}
+use Rattle.bounds_model.specs.Plane.{PlanePoint, origin, point_at, vector, dot, cross}
 use Rattle.bounds_model.specs.Fractions.{IsAtMost}
 use Rattle.bounds_model.specs.Strip.{extent}
 use Rattle.bounds_model.specs.Parallelogram.{Parallelogram, FitsParallelogram, parallelogram_size}
@@ -16,8 +16,8 @@ use Rattle.model_laws.proofs.SizeDenominators.{parallelogram_denominator}
 use Rattle.optimality.specs.Laws.{PassingParallelogramsAreBest}
 use Rattle.optimality.proofs.Bounds.{nonneg_from_one, le_from_lt, nonneg_neg, by_magnitude}
 use Rattle.optimality.proofs.PrintedSizes.{smallest_by_printed}
-use Rattle.optimality.proofs.FanCones.{half_cone_around, length-directions, up_to_sign, opposite}
-use Rattle.optimality.proofs.Reaches.{reach_nonneg, reach-opposite, reach_in_span, span_in_order, inside_over_one}
+use Rattle.optimality.proofs.FanCones.{IsBetween, half_cone_around, length-directions, up_to_sign, opposite}
+use Rattle.optimality.proofs.Reaches.{dot_between, reach_nonneg, reach-opposite, reach_in_span, span_in_order, inside_over_one}
 use Rattle.optimality.proofs.StripLaw.{no_cone}
 
 -- ---- a strip that holds a chord
@@ -48,7 +48,7 @@ chord_in_strip points w E v d chord pb pg named_a named_b named_c across narrow 
     let c = point_at points chord.c in
     chord_product w E v.x v.y d.x d.y chord.beta chord.gamma chord.k (b.x -ℤ a.x) (b.y -ℤ a.y) (c.x -ℤ a.x) (c.y -ℤ a.y) pb pg (ap (λ z. z.x) across) (ap (λ z. z.y) across) (narrow chord.b chord.a named_b named_a) (narrow chord.c chord.a named_c named_a)
 
--- where the strip in direction d, cut off by the chord's length K/s, has at least the area N/D: the reach r along d times the extent E is at least N/D times the product of the normals
+-- with a chord of length K/s, where the reach r along its direction times the length is at least N/D: r times the extent E is at least N/D times x, the cross product of the direction and the strip's normal
 at_direction : (N D E w s r K x : ℤ) → pos 0 ≤ℤ N → pos 0 ≤ℤ D → pos 0 ≤ℤ E → pos 0 ≤ℤ w → pos 1 ≤ℤ s → pos 0 ≤ℤ r
     → (w *ℤ (K *ℤ x)) ≤ℤ (s *ℤ E) → (N *ℤ s) ≤ℤ (r *ℤ K *ℤ D) → (N *ℤ w *ℤ x) ≤ℤ (r *ℤ D *ℤ E)
 at_direction N D E w s r K x pN pD pE pw ps pr h l =
@@ -66,7 +66,7 @@ some_at P xs i d l h = subst (λ o. IsSomeAnd o P) (slice_get-get_or xs i d l) h
 no_chord : Chord
 no_chord = record { a = 0; b = 0; c = 0; beta = pos 0; gamma = pos 0; k = pos 0 }
 
--- the area of a strip around the points across this direction and a strip with normal v: at least N/D times the product of the normals
+-- the reach along d of a cone's points, times the extent E of a strip with the normal v, is at least N/D times the cross product of d and v
 abbrev IsLarge : List PlanePoint → ParallelogramAnswer → ℤ → ℤ → PlanePoint → HalfCone → PlanePoint → Type 0
 IsLarge points a w E v cone d = (a.size.n *ℤ w *ℤ cross d v) ≤ℤ (reach points d cone.high cone.low *ℤ a.size.d *ℤ E)
 
@@ -88,15 +88,23 @@ at_end points a h w E v pw pE narrow i cone listed forward small =
     other_way : (w k dx dy vx vy B : ℤ) → (w *ℤ (k *ℤ (dx *ℤ neg_ℤ vy -ℤ dy *ℤ neg_ℤ vx))) ≤ℤ B → (w *ℤ (neg_ℤ k *ℤ (dx *ℤ vy -ℤ dy *ℤ vx))) ≤ℤ B
     other_way w k dx dy vx vy B h = le_by (nonneg_difference h) (read (w ∷ k ∷ dx ∷ dy ∷ vx ∷ vy ∷ B ∷ []) (λ xs a b c d e f g. simp (a, b, c, d, e, f, g, polys) (den-ring xs _ _ tt)))
 
--- both sides are linear, so it is so between two directions
-between_ends : (N D E w dx dy ex ey ux uy vx vy hx hy : ℤ) → pos 0 <ℤ (dx *ℤ ey -ℤ dy *ℤ ex) → pos 0 ≤ℤ (dx *ℤ uy -ℤ dy *ℤ ux) → (ex *ℤ uy -ℤ ey *ℤ ux) ≤ℤ pos 0
-    → (N *ℤ w *ℤ (dx *ℤ vy -ℤ dy *ℤ vx)) ≤ℤ ((dx *ℤ hx +ℤ dy *ℤ hy) *ℤ D *ℤ E)
-    → (N *ℤ w *ℤ (ex *ℤ vy -ℤ ey *ℤ vx)) ≤ℤ ((ex *ℤ hx +ℤ ey *ℤ hy) *ℤ D *ℤ E)
-    → (N *ℤ w *ℤ (ux *ℤ vy -ℤ uy *ℤ vx)) ≤ℤ ((ux *ℤ hx +ℤ uy *ℤ hy) *ℤ D *ℤ E)
-between_ends N D E w dx dy ex ey ux uy vx vy hx hy turns left right at_d at_e =
-    le_of_mul_le (dx *ℤ ey -ℤ dy *ℤ ex) turns
-    (le_by (nonneg_add (nonneg_mul (nonneg_neg right) (nonneg_difference at_d)) (nonneg_mul left (nonneg_difference at_e)))
-    (read (N ∷ D ∷ E ∷ w ∷ dx ∷ dy ∷ ex ∷ ey ∷ ux ∷ uy ∷ vx ∷ vy ∷ hx ∷ hy ∷ []) (λ xs a b c d e f g h i j k l m n. simp (a, b, c, d, e, f, g, h, i, j, k, l, m, n, polys) (den-ring xs _ _ tt))))
+-- the difference of the two sides is linear in d: the product of d with this vector
+abbrev surplus : ℤ → ℤ → ℤ → ℤ → PlanePoint → PlanePoint → PlanePoint
+surplus N D E w h v = record { x = D *ℤ E *ℤ h.x -ℤ N *ℤ w *ℤ v.y; y = D *ℤ E *ℤ h.y +ℤ N *ℤ w *ℤ v.x }
+
+-- it is the difference
+surplus-dot : (N D E w : ℤ) (h v d : PlanePoint) → dot d h *ℤ D *ℤ E -ℤ N *ℤ w *ℤ cross d v ≡ dot d (surplus N D E w h v)
+surplus-dot N D E w h v d = plain N D E w h.x h.y v.x v.y d.x d.y
+  where
+    plain : (N D E w hx hy vx vy dx dy : ℤ) → (dx *ℤ hx +ℤ dy *ℤ hy) *ℤ D *ℤ E -ℤ N *ℤ w *ℤ (dx *ℤ vy -ℤ dy *ℤ vx) ≡ dx *ℤ (D *ℤ E *ℤ hx -ℤ N *ℤ w *ℤ vy) +ℤ dy *ℤ (D *ℤ E *ℤ hy +ℤ N *ℤ w *ℤ vx)
+    plain N D E w hx hy vx vy dx dy = read (N ∷ D ∷ E ∷ w ∷ hx ∷ hy ∷ vx ∷ vy ∷ dx ∷ dy ∷ []) (λ xs a b c d e f g h i j. simp (a, b, c, d, e, f, g, h, i, j, polys) (den-ring xs _ _ tt))
+
+-- so it is so between two directions
+between_ends : (points : List PlanePoint) (a : ParallelogramAnswer) (w E : ℤ) (v : PlanePoint) (cone : HalfCone) (d e u : PlanePoint) → IsBetween d e u → IsLarge points a w E v cone d → IsLarge points a w E v cone e → IsLarge points a w E v cone u
+between_ends points a w E v cone d e u between at_d at_e =
+    let h = vector (point_at points cone.low) (point_at points cone.high) in
+    let by_dot = surplus-dot a.size.n a.size.d E w h v in
+    le_by (dot_between d e u (surplus a.size.n a.size.d E w h v) between (subst (λ z. pos 0 ≤ℤ z) (by_dot d) (nonneg_difference at_d)) (subst (λ z. pos 0 ≤ℤ z) (by_dot e) (nonneg_difference at_e))) (by_dot u)
 
 -- ---- every pair of normals
 
@@ -121,13 +129,12 @@ upper_is_large points a h w F E pw pE u up v narrow_u narrow_v =
     let names = h.numbers i no_cone around.listed in
     let extreme = h.fan.extremes i no_cone around.listed in
     let small = h.not_smaller i no_cone around.listed in
-    let across = vector (point_at points cone.low) (point_at points cone.high) in
     let many = length-directions (λ (cone : HalfCone). cone.direction) a.fan.cones a.fan.last in
     let chords = chord_of_both i around.listed h.places.chord_for_each many in
     let at_d = at_end points a h w E v pw pE narrow_v i cone chords.0 (reach_nonneg points d cone.high cone.low names.1 extreme.0) small.0 in
     let at_e = at_end points a h w E v pw pE narrow_v (i + 1) cone chords.1 (reach_nonneg points e cone.high cone.low names.1 extreme.1) small.1 in
     with_extent a.size.n a.size.d E F w (reach points u cone.high cone.low) (cross u v) (nonneg_from_one h.places.size.lowest.not_negative.denominator) pE pw
-    (between_ends a.size.n a.size.d E w d.x d.y e.x e.y u.x u.y v.x v.y across.x across.y around.between.turns around.between.left around.between.right at_d at_e)
+    (between_ends points a w E v cone d e u around.between at_d at_e)
     (narrow_u cone.high cone.low names.0 names.1)
   where
     chord_of_both : (i : ℕ) {m : ℕ} → i < length a.fan.cones → length a.chords ≡ m → m ≡ suc (length a.fan.cones) → (i < length a.chords) × (i + 1 < length a.chords)
