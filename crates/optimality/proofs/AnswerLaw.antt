@@ -6,7 +6,7 @@ use Rattle.bounds_model.specs.Fractions.{Fraction}
 use Rattle.bounds_model.specs.Best.{IsSmallest, IsPrintedSize}
 use Rattle.bounds_model.specs.Answers.{Claim, claim, ClaimFits, ClaimIsBest, ClaimPasses}
 use Rattle.bounds_model.specs.Answers.Claim.{circle_claim, sphere_claim, rectangle_claim, parallelogram_claim, strip_claim, annulus_claim, empty_claim, kgon_claim, distance_claim, centres_claim}
-use Rattle.optimality.specs.Laws.{IsSmallestPrinted, PassingAnswersAreBest}
+use Rattle.optimality.specs.Laws.{IsSmallestPrinted, AllPassingAnswersAreBest}
 use Rattle.optimality.proofs.BallLaws.{circle_law, sphere_law}
 use Rattle.optimality.proofs.StripLaw.{strip_law}
 use Rattle.optimality.proofs.RectangleLaw.{rectangle_law}
@@ -40,7 +40,7 @@ if_claimed f None h = h
 if_claimed f (Some c) h = f c h
 
 -- an answer that passes is best
-pub answer_law : PassingAnswersAreBest
+pub answer_law : AllPassingAnswersAreBest
 answer_law ask sets answer h = record {
   fits = if_claimed {P = ClaimPasses} {Q = ClaimFits} (λ c h. (claim_law c h).0) (claim ask sets answer) h;
   best = if_claimed {P = ClaimPasses} {Q = ClaimIsBest} (λ c h. (claim_law c h).1) (claim ask sets answer) h;

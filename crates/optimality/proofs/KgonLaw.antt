@@ -1,5 +1,5 @@
 -- A polygon that passes has the greatest area of all with at most k of the hull's corners.
-use Rattle.std.proofs.Common.{◌≡◌, subst, ℕ, zero, suc, ◌+◌, ◌-◌, ◌*◌, ◌<◌, ◌≤◌, min, ℤ, pos, ◌+ℤ◌, ◌*ℤ◌, ◌≤ℤ◌, ◌<ℤ◌, List, [], ◌∷◌, length, map, arith, Bool, true, false}
+use Rattle.std.proofs.Common.{◌≡◌, subst, ℕ, zero, suc, ◌+◌, ◌-◌, ◌<◌, ◌≤◌, min, ℤ, pos, ◌+ℤ◌, ◌*ℤ◌, ◌≤ℤ◌, ◌<ℤ◌, List, [], ◌∷◌, length, map, arith, Bool, true, false}
 use Rattle.std.specs.Prelude.{All, slice_index, slice_index_or, nat_lt, if◌then◌else◌}
 use Rattle.std.specs.List.Sorted.{IsStrictlyIncreasing}
 use Rattle.std.proofs.lemmas.Int.{ints}
@@ -9,7 +9,7 @@ use Rattle.integers.proofs.Identities.{den-ring, read, polys}
 use Rattle.integers.proofs.Order.{nonneg_mul, nonneg_add, le_by, nonneg_difference}
 use Rattle.bounds_model.specs.Plane.{PlanePoint, point_at, turn}
 use Rattle.bounds_model.specs.Kgon.{FitsKgon, fan_area, twice_area, kgon_size}
-use Rattle.bounds_model.specs.KgonAnswer.{KgonAnswer, corner_points, potential, pairs_before, PassesKgon}
+use Rattle.bounds_model.specs.KgonAnswer.{KgonAnswer, corner_points, potential, PassesKgon}
 use Rattle.model_laws.proofs.CornerLaw.{passing_kgon}
 use Rattle.optimality.specs.Laws.{PassingKgonsAreBest}
 use Rattle.optimality.proofs.Bounds.{nonneg_from_one}
@@ -33,11 +33,11 @@ read_below (u ∷ us) (suc i) D B h all = read_below us i D B h (All-tail (λ u.
 
 -- and so is each potential
 potential_below : (answer : KgonAnswer) (a layer b : ℕ) (D B : ℤ) → pos 0 ≤ℤ B → All (λ u. (u *ℤ D) ≤ℤ B) answer.potentials → (potential answer a layer b *ℤ D) ≤ℤ B
-potential_below answer a layer b D B h all = by_layer (nat_lt 0 layer)
+potential_below answer a layer b D B h all = by_layer (nat_lt 0 layer) _ (read_below answer.potentials _ D B h all)
   where
-    by_layer : (some : Bool) → ((if some then slice_index_or answer.potentials (answer.layers * pairs_before (length answer.corners) a + (layer - 1) * (length answer.corners - 1 - a) + (b - a - 1)) (pos 0) else pos 0) *ℤ D) ≤ℤ B
-    by_layer true = read_below answer.potentials _ D B h all
-    by_layer false = zero_below D B h
+    by_layer : (some : Bool) (u : ℤ) → (u *ℤ D) ≤ℤ B → ((if some then u else pos 0) *ℤ D) ≤ℤ B
+    by_layer true u h = h
+    by_layer false u _ = zero_below D B h
 
 -- ---- along the corners of a polygon, the area so far is at most the potential
 

@@ -83,5 +83,5 @@ abbrev pub PassingCentresAreBest : Type 0
 PassingCentresAreBest = (count : ℕ) (points : List PlanePoint) (a : CentresAnswer) → PassesCentres count points a → IsSmallestPrinted (FitsCentres count points) centres_size (cover_of a) a.size
 
 -- of every kind: an answer that passes fits, and no object of its kind that fits the points is better
-abbrev pub PassingAnswersAreBest : Type 0
-PassingAnswersAreBest = (ask : Ask) (sets : Sets) (answer : Answer) → Passes ask sets answer → IsBest ask sets answer
+abbrev pub AllPassingAnswersAreBest : Type 0
+AllPassingAnswersAreBest = (ask : Ask) (sets : Sets) (answer : Answer) → Passes ask sets answer → IsBest ask sets answer
