@@ -1,0 +1,87 @@
+-- What passes is best: the laws of the ten kinds, over the definitions alone.
+use Rattle.std.specs.Prelude.{ℕ, ◌<◌, List, length, All}
+use Rattle.bounds_model.specs.Plane.{PlanePoint}
+use Rattle.bounds_model.specs.Space.{SpacePoint}
+use Rattle.bounds_model.specs.Fractions.{Fraction}
+use Rattle.bounds_model.specs.Best.{IsSmallest, IsGreatest, IsPrintedSize}
+use Rattle.bounds_model.specs.Hull.{AreCorners}
+use Rattle.bounds_model.specs.Ball.{FitsCircle, FitsBall, ball_size}
+use Rattle.bounds_model.specs.Strip.{FitsStrip, strip_size}
+use Rattle.bounds_model.specs.Rectangle.{FitsRectangle, rectangle_size}
+use Rattle.bounds_model.specs.Parallelogram.{FitsParallelogram, parallelogram_size}
+use Rattle.bounds_model.specs.Annulus.{FitsAnnulus, annulus_size}
+use Rattle.bounds_model.specs.EmptyRectangle.{Box, FitsEmpty, empty_size}
+use Rattle.bounds_model.specs.Kgon.{FitsKgon, kgon_size}
+use Rattle.bounds_model.specs.Distance.{FitsDistance, distance_size}
+use Rattle.bounds_model.specs.Centres.{FitsCentres, centres_size}
+use Rattle.bounds_model.specs.BallAnswer.{CircleAnswer, SphereAnswer, circle_of, sphere_of, PassesCircle, PassesSphere}
+use Rattle.bounds_model.specs.StripAnswer.{StripAnswer, strip_of, PassesStrip}
+use Rattle.bounds_model.specs.RectangleAnswer.{RectangleAnswer, rectangle_of, PassesRectangle}
+use Rattle.bounds_model.specs.ParallelogramAnswer.{ParallelogramAnswer, parallelogram_of, PassesParallelogram}
+use Rattle.bounds_model.specs.AnnulusAnswer.{AnnulusAnswer, annulus_of, PassesAnnulus}
+use Rattle.bounds_model.specs.EmptyAnswer.{EmptyAnswer, empty_of, PassesEmpty}
+use Rattle.bounds_model.specs.KgonAnswer.{KgonAnswer, corner_points, PassesKgon}
+use Rattle.bounds_model.specs.DistanceAnswer.{DistanceAnswer, weights_of, PassesDistance}
+use Rattle.bounds_model.specs.CentresAnswer.{CentresAnswer, cover_of, PassesCentres}
+use Rattle.bounds_model.specs.Asks.{Ask, Sets}
+use Rattle.bounds_model.specs.Answers.{Answer, IsBest, Passes}
+
+-- the object fits, no object that fits is smaller, and its size is printed in lowest terms
+pub record IsSmallestPrinted {Object : Type 0} (Fits : Object → Type 0) (size : Object → Fraction) (object : Object) (printed : Fraction) : Type 0 where
+  pub smallest : IsSmallest Fits size object
+  pub is_printed : IsPrintedSize (size object) printed
+
+-- the object fits, no object that fits is greater, and its size is printed in lowest terms
+pub record IsGreatestPrinted {Object : Type 0} (Fits : Object → Type 0) (size : Object → Fraction) (object : Object) (printed : Fraction) : Type 0 where
+  pub greatest : IsGreatest Fits size object
+  pub is_printed : IsPrintedSize (size object) printed
+
+-- a circle that passes is the smallest around its points
+abbrev pub PassingCirclesAreBest : Type 0
+PassingCirclesAreBest = (points : List PlanePoint) (a : CircleAnswer) → PassesCircle points a → IsSmallestPrinted (FitsCircle points) ball_size (circle_of a) a.size
+
+-- a sphere that passes is the smallest around its points
+abbrev pub PassingSpheresAreBest : Type 0
+PassingSpheresAreBest = (points : List SpacePoint) (a : SphereAnswer) → PassesSphere points a → IsSmallestPrinted (FitsBall points) ball_size (sphere_of a) a.size
+
+-- a strip that passes is the thinnest around its points
+abbrev pub PassingStripsAreBest : Type 0
+PassingStripsAreBest = (points : List PlanePoint) (a : StripAnswer) → PassesStrip points a → IsSmallestPrinted (FitsStrip points) strip_size (strip_of a) a.size
+
+-- a rectangle that passes has the least area around its points
+abbrev pub PassingRectanglesAreBest : Type 0
+PassingRectanglesAreBest = (points : List PlanePoint) (a : RectangleAnswer) → PassesRectangle points a → IsSmallestPrinted (FitsRectangle points) rectangle_size (rectangle_of a) a.size
+
+-- a parallelogram that passes has the least area around its points
+abbrev pub PassingParallelogramsAreBest : Type 0
+PassingParallelogramsAreBest =
+    (points : List PlanePoint) (a : ParallelogramAnswer) → PassesParallelogram points a → IsSmallestPrinted (FitsParallelogram points) parallelogram_size (parallelogram_of a) a.size
+
+-- a ring that passes has the least difference of squared radii around its points
+abbrev pub PassingAnnuliAreBest : Type 0
+PassingAnnuliAreBest = (points : List PlanePoint) (a : AnnulusAnswer) → PassesAnnulus points a → IsSmallestPrinted (FitsAnnulus points) annulus_size (annulus_of a) a.size
+
+-- an empty rectangle that passes has the greatest area in its frame
+abbrev pub PassingEmptyRectanglesAreBest : Type 0
+PassingEmptyRectanglesAreBest =
+    (frame : Box) (points : List PlanePoint) (a : EmptyAnswer) → PassesEmpty frame points a → IsGreatestPrinted (FitsEmpty frame points) empty_size (empty_of a) a.size
+
+-- a polygon that passes lists the hull's corners by their numbers, and has the greatest area of all with at most k of them
+abbrev pub PassingKgonsAreBest : Type 0
+PassingKgonsAreBest =
+    (k : ℕ) (points : List PlanePoint) (a : KgonAnswer) → PassesKgon k points a
+    → All (λ number. number < length points) a.corners
+    × AreCorners points (corner_points points a)
+    × IsGreatestPrinted (FitsKgon k (corner_points points a)) (kgon_size (corner_points points a)) a.chosen a.size
+
+-- a distance that passes is the least between weighted means of the two sets
+abbrev pub PassingDistancesAreBest : Type 0
+PassingDistancesAreBest = (ps qs : List SpacePoint) (a : DistanceAnswer) → PassesDistance ps qs a → IsSmallestPrinted (FitsDistance ps qs) (distance_size ps qs) (weights_of ps qs a) a.size
+
+-- centres that pass have the least radius of all covers by as many squares
+abbrev pub PassingCentresAreBest : Type 0
+PassingCentresAreBest = (count : ℕ) (points : List PlanePoint) (a : CentresAnswer) → PassesCentres count points a → IsSmallestPrinted (FitsCentres count points) centres_size (cover_of a) a.size
+
+-- of every kind: an answer that passes fits, and no object of its kind that fits the points is better
+abbrev pub AllPassingAnswersAreBest : Type 0
+AllPassingAnswersAreBest = (ask : Ask) (sets : Sets) (answer : Answer) → Passes ask sets answer → IsBest ask sets answer
