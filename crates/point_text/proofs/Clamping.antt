@@ -3,11 +3,9 @@ use Rattle.std.proofs.Common.{◌≡◌, ◌∙◌, refl, sym, ap, ℕ, ℤ, pos
 use Rattle.std.proofs.lemmas.Int.{ints}
 use Rattle.std.proofs.lemmas.Bool.Decides.{nat_tests}
 use Rattle.std.specs.Option.{option_map}
-use Rattle.bounds_model.specs.Plane.{PlanePoint, plane_limit}
 use Rattle.bounds_model.specs.Space.{SpacePoint, space_limit}
-use Rattle.bounds_model.specs.PointText.{Meaning, is_within, says_point, bad_form, out_of_bounds, plane_meaning, space_meaning}
+use Rattle.bounds_model.specs.PointText.{Meaning, is_within, says_point, out_of_bounds, space_meaning}
 use Rattle.point_text.specs.Clamps.{clamped}
-use Rattle.point_text.specs.Lines.{HasNoNumber}
 
 -- a number is in bounds where its clamped one is
 clamped_test : (limit : ℕ) (z : ℤ) → limit ≤ 200000 → is_within limit (clamped z) ≡ is_within limit z

@@ -1,10 +1,10 @@
 -- Texts with what the definition says of them.
-use Rattle.std.proofs.Common.{◌≡◌, refl, ℕ, ℤ, pos, neg_ℤ, List, [], ◌∷◌, ◌++◌, codes, Result, Ok, Err}
+use Rattle.std.proofs.Common.{◌≡◌, refl, ℤ, pos, neg_ℤ, [], ◌∷◌, codes, Ok, Err}
 use Rattle.bounds_model.specs.Plane.{PlanePoint}
 use Rattle.bounds_model.specs.Space.{SpacePoint}
 use Rattle.bounds_model.specs.EmptyRectangle.{Box}
-use Rattle.bounds_model.specs.Asks.{Ask, ask_circle, ask_sphere, ask_empty, ask_distance, Sets, plane, space, two, bare}
-use Rattle.bounds_model.specs.PointText.{sets_of_text, Refusal, bad_line, out_of_range, no_points, wrong_sets}
+use Rattle.bounds_model.specs.Asks.{ask_circle, ask_sphere, ask_empty, ask_distance, plane, space, two, bare}
+use Rattle.bounds_model.specs.PointText.{sets_of_text, bad_line, out_of_range, no_points, wrong_sets}
 
 abbrev at : ℤ → ℤ → PlanePoint
 at x y = record { x = x; y = y }

@@ -1,5 +1,5 @@
 -- A text is judged by its first refused line, and where there is none, by its sets.
-use Rattle.std.proofs.Common.{◌≡◌, refl, ap, ℕ, List, [], Option, Some, None, Result, Ok, Err, IfSome}
+use Rattle.std.proofs.Common.{◌≡◌, refl, ap, ℕ, List, [], Option, Some, None, Result, Err, IfSome}
 use Rattle.std.specs.Result.{IsErrAnd}
 use Rattle.std.proofs.lemmas.Result.{err_from_is_err_and}
 use Rattle.bounds_model.specs.Asks.{Sets}

@@ -1,5 +1,5 @@
 -- A text cut at its first line feed.
-use Rattle.std.proofs.Common.{◌≡◌, ◌∙◌, refl, ap, ℕ, Bool, true, false, cond, List, [], ◌∷◌}
+use Rattle.std.proofs.Common.{◌≡◌, ◌∙◌, refl, ap, ℕ, true, false, cond, List, [], ◌∷◌}
 use Rattle.std.specs.List.{onto_first, before_first, after_first}
 use Rattle.bounds_model.specs.PointText.{is_line_feed, text_lines}
 use Rattle.point_text.proofs.Places.{before_first-cons_no, before_first-cons_yes, after_first-cons_no, after_first-cons_yes}

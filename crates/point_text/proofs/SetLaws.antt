@@ -1,5 +1,5 @@
 -- The sets of points that lines say, as one more line is read.
-use Rattle.std.proofs.Common.{◌≡◌, ◌∙◌, refl, sym, ap, ℕ, zero, suc, ◌+◌, ◌<◌, ◌≤◌, List, [], ◌∷◌, ◌++◌, length, get_or, arith}
+use Rattle.std.proofs.Common.{◌≡◌, ◌∙◌, refl, ap, ℕ, zero, suc, ◌+◌, ◌<◌, List, [], ◌∷◌, ◌++◌, length, get_or, arith}
 use Rattle.std.specs.List.{onto_first}
 use Rattle.bounds_model.specs.PointText.{Meaning, says_nothing, ends_set, says_point, bad_form, out_of_bounds, sets_of, last_set}
 use Rattle.point_text.specs.Kept.{with_point}

@@ -1,7 +1,7 @@
 -- What a line says, in the words of the model.
-use Rattle.std.specs.Prelude.{⊤, ℕ, ℤ, List, [], ◌∷◌, map}
+use Rattle.std.specs.Prelude.{⊤, ℕ, ℤ, List, ◌∷◌, map}
 use Rattle.std.specs.declared.option.Option.{Option}
-use Rattle.std.specs.declared.option.Option.TheVariants.{Some, None}
+use Rattle.std.specs.declared.option.Option.TheVariants.{Some}
 use Rattle.bounds_model.specs.PointText.{Meaning, says_nothing, ends_set, says_point, bad_form, out_of_bounds, fields_of, number}
 use Rattle.point_text.specs.declared.line.Line.{Line}
 use Rattle.point_text.specs.declared.line.Line.TheVariants.{Nothing, EndOfSet, Point, Bad, OutOfRange}

@@ -1,4 +1,4 @@
-use Rattle.std.proofs.Common.{arith, sym, ap, take, drop, ◌+◌, ◌≡◌, ◌∙◌, length, drop}
+use Rattle.std.proofs.Common.{arith, sym, ap, take, ◌≡◌, ◌∙◌, length}
 use Rattle.std.proofs.lemmas.Grind.{common_steps}
 use Rattle.std.specs.List.{position_or_len}
 use Rattle.point_text.proofs.Places.{place_found, place_missing}

@@ -1,9 +1,8 @@
-use Rattle.std.proofs.Common.{◌≡◌, ◌<◌, ◌≤◌, ◌+◌, ◌∙◌, sym, ap, arith, Ok, Err, Some, refl, length, [], ◌∷◌, ◌++◌}
+use Rattle.std.proofs.Common.{◌≡◌, ◌<◌, ◌+◌, ◌∙◌, ap, arith, Err, Some, refl, length}
 use Rattle.std.proofs.lemmas.Grind.{common_steps}
 use Rattle.bounds_model.specs.PointText.{says_nothing, ends_set, says_point, bad_form, out_of_bounds, bad_line, out_of_range, too_many, line_meaning, sets_of, last_set, most_points}
-use Rattle.point_text.specs.Kept.{Keeps}
 use Rattle.point_text.proofs.SetLaws.{sets_of-nothing, sets_of-end, sets_of-point}
-use Rattle.point_text.proofs.Reading.{HasRead-more, HasRead-refused, HasRead-accepted, HasRead-all, point_taken, point_refused}
+use Rattle.point_text.proofs.Reading.{HasRead-more, HasRead-refused, point_taken, point_refused}
 use Rattle.point_text.proofs.text.read_sets.Goals as goal
 
 pub lines-preserved-in-Nothing : goal.lines-preserved-in-Nothing

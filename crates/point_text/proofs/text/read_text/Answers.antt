@@ -1,6 +1,4 @@
-use Rattle.std.proofs.Common.{◌≡◌, ap}
-use Rattle.bounds_model.specs.PointText.{plane_meaning, space_meaning, meanings, judged, space_set, space_sets, plane_set, plane_set_or_bare, sets_of, sets_of_text}
-use Rattle.bounded_coords.specs.Asked.{asked}
+use Rattle.bounds_model.specs.PointText.{plane_meaning, space_meaning, meanings, space_set, space_sets, plane_set, plane_set_or_bare, sets_of, sets_of_text}
 use Rattle.point_text.proofs.Judging.{judged_sets, judged_exit, plane_text}
 use Rattle.point_text.proofs.text.read_text.Goals as goal
 

@@ -1,4 +1,4 @@
-use Rattle.std.proofs.Common.{◌≡◌, ◌∙◌, ap, [], ◌∷◌, ◌<◌, ◌≤◌, length, length-append, ◌+◌, arith}
+use Rattle.std.proofs.Common.{◌≡◌, ◌∙◌, ap, [], ◌∷◌, ◌≤◌, length, length-append, ◌+◌, arith}
 use Rattle.bounds_model.specs.PointText.{last_set}
 use Rattle.point_text.specs.Kept.{with_point}
 use Rattle.point_text.proofs.SetLaws.{length-with_point, last_set-with_point, set_at-with_point}

@@ -1,4 +1,4 @@
-use Rattle.std.proofs.Common.{◌≡◌, ◌∙◌, ap, [], ◌∷◌, length, length-append, ◌+◌, arith}
+use Rattle.std.proofs.Common.{◌∙◌, ap, [], ◌∷◌, length, length-append, ◌+◌, arith}
 use Rattle.point_text.proofs.SetLaws.{set_at-end, last_set-end}
 use Rattle.point_text.proofs.kept.KeptSets.end_set.Goals as goal
 
