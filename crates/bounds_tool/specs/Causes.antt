@@ -1,5 +1,4 @@
 -- Why a run gives no whole answer, in the words of the model, and the status that it ends with.
-use Rattle.std.specs.Prelude.{ℕ}
 use Rattle.bounds_model.specs.ErrorLines as model
 use Rattle.bounds_model.specs.ErrorLines.{points_file}
 use Rattle.bounds_tool.specs.declared.cause.Cause.{Cause}
