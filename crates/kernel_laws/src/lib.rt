@@ -1,0 +1,21 @@
+//! Plane and space behind one trait with laws, so that balls and distances are proved once for both.
+//!
+//! - `vectors`: differences of points, and sums of them
+//! - `kernels`: the plane and the space
+//! - `potentials`: the two kinds of potentials
+//! - `signs`: on which side of a line, a plane or a circle a point lies
+//! - `laws`: the laws of signs
+#![tactic(auto)]
+
+mod kernels;
+pub mod laws;
+mod potentials;
+mod signs;
+#[cfg(test)]
+mod tests;
+mod vectors;
+
+pub use kernels::{Kernel, Plane, Space};
+pub use potentials::{BallPotential, NormPotential, Potential};
+pub use signs::{Sign, orient2, orient3, side};
+pub use vectors::{Sum, Vector};
