@@ -27,6 +27,17 @@ impl Model for Homog2 {
     ghost inverse = { λ v. record { x = v.x; y = v.y; w = v.w } };
 }
 
+impl Default for Homog2 {
+    ghost use Rattle.std.specs.Prelude.{◌≡◌, pos};
+
+    ghost is_default = { λ p. p ≡ record { x = pos 0; y = pos 0; w = pos 1 } };
+
+    /// The origin.
+    fn default() -> Self {
+        Homog2 { x: 0, y: 0, w: 1 }
+    }
+}
+
 impl Homog2 {
     /// The point (x/w, y/w).
     pub fn new(x: i128, y: i128, w: i128) -> Homog2
