@@ -39,7 +39,7 @@ impl Default for Homog2 {
 }
 
 impl Homog2 {
-    /// The point (x/w, y/w).
+    /// The point (x/w, y/w). Numbers in lowest terms are kept.
     pub fn new(x: i128, y: i128, w: i128) -> Homog2
         requires x { IsNumber x }
         requires y { IsNumber y }
@@ -47,6 +47,7 @@ impl Homog2 {
         requires some { pos 1 ≤ℤ w }
         ensures place { SamePlace (flat_ratio result) (flat_ratio (record { x = x; y = y; w = w })) }
         ensures lowest { IsPlaneRatio result }
+        ensures kept { IsPlaneRatio (record { x = x; y = y; w = w }) → result ≡ record { x = x; y = y; w = w } }
     {
         let divisor = gcd(x.unsigned_abs(), gcd(y.unsigned_abs(), w.unsigned_abs()));
         Homog2 {
