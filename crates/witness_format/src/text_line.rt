@@ -1,10 +1,18 @@
 //! Values that fill a line of an answer text.
-ghost use Rattle.std.specs.Prelude.{◌≡◌, ℕ, List, ◌++◌, OnOk};
+ghost use Rattle.std.specs.Prelude.{◌≡◌, ℕ, List, [], ◌∷◌, ◌++◌, Option, OnOk};
 ghost use Rattle.bounds_model.specs.AnswerText.SpelledCentres.{square_line, leaf_line};
+ghost use Rattle.bounds_model.specs.AnswerText.Fields.{plane_ratio, point_number};
+ghost use Rattle.bounds_model.specs.AnswerText.LineFormats.{untitled};
 ghost use Rattle.witness_format.specs.Answers.{leaf_of};
+ghost use Rattle.witness_format.specs.Judging.{Judged, said};
+ghost use Rattle.witness_format.specs.Lines.{words_left};
+ghost use Rattle.witness_format.specs.Outcomes.{Finds};
 
 use crate::Leaf;
+use crate::fields;
+use crate::judging::{Judged, both};
 use crate::printing::{push, push_natural, push_plane_ratio};
+use crate::words::Words;
 use exact_fractions::Homog2;
 use std::alloc::AllocError;
 
@@ -16,6 +24,13 @@ pub(crate) trait TextLine: Copy {
     /// Writes the line behind a text.
     fn print(&self, text: &mut Vec<u8>) -> Result<(), AllocError>
         ensures { OnOk result (text.new.items ≡ text.old.items ++ spelled self.now) };
+
+    /// What the words of such a line say.
+    ghost says: { List (List ℕ) → Option (Judged Self) };
+
+    /// Reads the words of a line. None where they have another form.
+    fn read(words: Words<'_>) -> Option<Judged<Self>>
+        ensures { Finds (λ x. x) result (says (words_left words.entry)) };
 }
 
 /// The centre of a square.
@@ -26,6 +41,16 @@ impl TextLine for Homog2 {
     fn print(&self, text: &mut Vec<u8>) -> Result<(), AllocError> {
         push_plane_ratio(text, self)?;
         push(text, b"\n")
+    }
+
+    ghost says = { said (untitled (plane_ratio ∷ [])) (λ v. v.0) };
+
+    fn read(words: Words<'_>) -> Option<Judged<Homog2>> {
+        let Some((centre, words)) = fields::plane_ratio(words) else {
+            return None;
+        };
+        words.end()?;
+        Some(centre)
     }
 }
 
@@ -38,5 +63,17 @@ impl TextLine for Leaf {
         push(text, b" ")?;
         push_natural(text, u128::from(self.second))?;
         push(text, b"\n")
+    }
+
+    ghost says = { said (untitled (point_number ∷ point_number ∷ [])) (λ v. record { first = v.0; second = v.1.0 }) };
+
+    fn read(words: Words<'_>) -> Option<Judged<Leaf>> {
+        let (first, words) = fields::point_number(words)?;
+        let (second, words) = fields::point_number(words)?;
+        words.end()?;
+        Some(both(first, second).map(|points| Leaf {
+            first: points.0,
+            second: points.1,
+        }))
     }
 }

@@ -1,0 +1,5 @@
+pub mod Digits
+pub mod Clamping
+pub mod Places
+pub mod FieldJudgements
+pub mod LineCuts
