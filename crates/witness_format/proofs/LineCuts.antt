@@ -1,15 +1,15 @@
 -- A line cut off a text, and its words.
 use Rattle.std.proofs.Common.{◌≡◌, ◌∙◌, refl, sym, ap, ℕ, suc, ◌+◌, ◌<◌, ◌≤◌, Bool, true, false, not, ◌&&◌, cond, List, [], ◌∷◌, ◌++◌, length, take, Some, Ok, Err, arith}
 use Rattle.std.specs.Prelude.{◌==◌}
-use Rattle.std.specs.List.{list_all, onto_first, slice_split, position_or_len, before_first, after_first}
+use Rattle.std.specs.List.{list_all, concat, onto_first, slice_split, position_or_len, before_first, after_first}
 use Rattle.std.proofs.lemmas.Bool.{eqb-true}
 use Rattle.std.proofs.lemmas.List.{take_all}
 use Rattle.std.proofs.lemmas.List.Splits.{length-slice_split}
 use Rattle.std.proofs.lemmas.List.Sums.{split_at_first, passes_at_first}
 use Rattle.bounds_model.specs.AnswerText.Lines.{lines_of, word_byte, words_of}
 use Rattle.bounds_model.specs.AnswerText.Formats.{Refusal, Unread, bad_answer}
-use Rattle.text_laws.proofs.AnswerTexts.LineLaws.{lines_at_feed, lines_without_feed, words_without_feed}
-use Rattle.witness_format.specs.Lines.{numbered_words, first_words, next_words}
+use Rattle.text_laws.proofs.AnswerTexts.LineLaws.{lines_at_feed, lines_without_feed, words_without_feed, concat-lines_of}
+use Rattle.witness_format.specs.Lines.{first_words, next_words, no_more}
 
 -- a line feed
 abbrev pub is_feed : ℕ → Bool
@@ -77,3 +77,13 @@ pub next_words-refused : (number : ℕ) (bytes : List ℕ) → position_or_len i
 next_words-refused number bytes missing =
     let whole : before_first is_feed bytes ≡ bytes = take_all (position_or_len is_feed bytes) bytes (omega arith) in
     no_feed_refused number bytes (sym (ap (list_all (λ b. not (is_feed b))) whole) ∙ feed_free bytes)
+
+-- where there are bytes there is a line
+pub some_lines : (number : ℕ) (bytes : List ℕ) → 0 < length bytes → no_more number (lines_of bytes) ≡ Err (bad_answer number)
+some_lines number bytes some = by_lines (lines_of bytes) refl
+  where
+    by_lines : (lines : List (List ℕ)) → lines_of bytes ≡ lines → no_more number lines ≡ Err (bad_answer number)
+    by_lines [] none =
+        let nothing : bytes ≡ [] = sym (concat-lines_of bytes) ∙ ap concat none in
+        absurd (omega (arith, ap length nothing))
+    by_lines (line ∷ lines) is = refl

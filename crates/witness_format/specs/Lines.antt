@@ -7,13 +7,12 @@ use Rattle.std.specs.declared.option.Option.TheVariants.{Some, None}
 use Rattle.std.specs.declared.result.Result.{Result}
 use Rattle.std.specs.declared.result.Result.TheVariants.{Ok, Err}
 use Rattle.bounds_model.specs.AnswerText.Lines.{lines_of, words_of}
-use Rattle.bounds_model.specs.AnswerText.LineFormats.{LineFormat, Values}
 use Rattle.bounds_model.specs.AnswerText.Formats as model
-use Rattle.bounds_model.specs.AnswerText.Formats.{Refusal, bad_answer, big_number, ◌>>=◌, line_at, lines_at}
+use Rattle.bounds_model.specs.AnswerText.Formats.{Refusal, bad_answer, big_number, ◌>>=◌, Count, count_format}
 use Rattle.witness_format.specs.declared.lines.Unread.{Unread}
 use Rattle.witness_format.specs.declared.words.Words.{Words}
 use Rattle.witness_format.specs.declared.judging.Flaw.TheVariants.{PastLimit, OutOfPlace}
-use Rattle.witness_format.specs.Judging.{Judged}
+use Rattle.witness_format.specs.Judging.{Judged, said}
 
 -- the words of a text in which single blanks part them, or none
 abbrev pub words_in : Option (Bor (List ℕ)) → List (List ℕ)
@@ -65,3 +64,18 @@ lines_by says (suc count) unread = do
   first ← line_by says unread
   others ← lines_by says count first.1
   Ok (first.0 ∷ others.0, others.1)
+
+-- the line of a count, and what as many lines say by their words
+abbrev pub counted_by : {A : Type 0} → Count → (List (List ℕ) → Option (Judged A)) → model.Unread → Result (List A × model.Unread) Refusal
+counted_by count says unread = do
+  n ← line_by (said (count_format count) (λ v. v.0)) unread
+  lines_by says n.0 n.1
+
+-- there are no more of these lines
+abbrev pub no_more : ℕ → List (List ℕ) → Result (Unit {0}) Refusal
+no_more number [] = Ok tt
+no_more number (line ∷ lines) = Err (bad_answer number)
+
+-- there are no more lines
+abbrev pub no_lines : model.Unread → Result (Unit {0}) Refusal
+no_lines unread = no_more unread.number unread.lines

@@ -1,5 +1,5 @@
 //! The fields of a line: for each, its form, the limit of its numbers and the range of its place.
-ghost use Rattle.std.specs.Prelude.{◌≡◌, pos};
+ghost use Rattle.std.specs.Prelude.{◌≡◌, ◌≤◌, pos, IfSome, IfOk};
 ghost use Rattle.bounds_model.specs.AnswerText.Fields as model;
 ghost use Rattle.witness_format.specs.Judging.{judged_field, field_at};
 ghost use Rattle.witness_format.specs.Lines.{words_left};
@@ -15,7 +15,8 @@ const POINT_LIMIT: u32 = 9999;
 
 /// A number without a sign from a least to a greatest one.
 pub(crate) fn bounded(words: Words<'_>, low: u32, high: u32) -> Option<(Judged<u32>, Words<'_>)>
-    ensures { Finds (λ x. (x.0, words_left x.1)) result (field_at (model.bounded low high) (words_left words.entry)) }
+    ensures field { Finds (λ x. (x.0, words_left x.1)) result (field_at (model.bounded low high) (words_left words.entry)) }
+    ensures limited { IfSome result (λ x. IfOk x.0 (λ n. n ≤ high)) }
 {
     let (word, others) = words.next()?;
     let n = natural_number(word)?;
@@ -23,7 +24,8 @@ pub(crate) fn bounded(words: Words<'_>, low: u32, high: u32) -> Option<(Judged<u
 }
 
 fn judged_bounded(n: u128, low: u32, high: u32) -> Judged<u32>
-    ensures { result ≡ judged_field (model.bounded low high) n }
+    ensures judged { result ≡ judged_field (model.bounded low high) n }
+    ensures limited { IfOk result (λ n. n ≤ high) }
 {
     if n > LIMIT {
         return Err(Flaw::PastLimit);

@@ -1,5 +1,5 @@
 //! The order of causes on one line: its form, then the limit of all numbers, then the range of each place.
-ghost use Rattle.std.specs.Prelude.{◌≡◌};
+ghost use Rattle.std.specs.Prelude.{◌≡◌, Some, Ok, IfOk};
 ghost use Rattle.witness_format.specs.Judging.{both};
 ghost use Rattle.witness_format.specs.Lines.{decided};
 ghost use Rattle.witness_format.specs.Outcomes.{Reads};
@@ -31,7 +31,8 @@ pub(crate) fn both<A: Copy, B: Copy>(a: Judged<A>, b: Judged<B>) -> Judged<(A, B
 
 /// What the line of this number says. None stands for a wrong form.
 pub(crate) fn decide<T: Copy>(number: u32, says: Option<Judged<T>>) -> Result<T, ReadFault>
-    ensures { Reads (λ x. x) result (decided number says) }
+    ensures decided { Reads (λ x. x) result (decided number says) }
+    ensures value { IfOk result (λ value. says ≡ Some (Ok value)) }
 {
     match says {
         None => Err(ReadFault::BadAnswer(number)),

@@ -2,6 +2,7 @@
 //!
 //! - `answer`: an answer of each kind, and its size
 //! - `printing`: the one text of an answer
+//! - `reading`: a text as an answer, or why it is refused
 //! - `text_line`: values that fill a line of such a text
 //! - `lines` and `words`: a text cut into lines, and a line into words
 //! - `numerals`: the numbers that words write
@@ -17,9 +18,11 @@ mod judging;
 mod lines;
 mod numerals;
 mod printing;
+mod reading;
 mod text_line;
 mod words;
 
 pub use answer::{Answer, CentresAnswer, Leaf, size};
 pub use fault::ReadFault;
 pub use printing::{AnswerBytes, print};
+pub use reading::read;

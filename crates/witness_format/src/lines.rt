@@ -3,10 +3,7 @@ ghost use Rattle.std.specs.Prelude.{◌≡◌, ◌+◌, ◌≤◌, ◌^◌, leng
 ghost use Rattle.witness_format.specs.Outcomes.{Reads};
 
 use crate::ReadFault;
-use crate::judging::decide;
-use crate::text_line::TextLine;
 use crate::words::{Words, place_of};
-use arrayvec::ArrayVec;
 
 /// The lines of a text that are not yet read, and the number of the first of them.
 #[derive(Drop)]
@@ -18,7 +15,7 @@ pub(crate) struct Unread<'a> {
 
 impl<'a> Unread<'a> {
     ghost use Rattle.bounds_model.specs.AnswerText.Reading.{all_lines};
-    ghost use Rattle.witness_format.specs.Lines.{words_left, lines_left, next_words};
+    ghost use Rattle.witness_format.specs.Lines.{words_left, lines_left, next_words, no_lines};
 
     /// All lines of a text.
     pub(crate) fn all(bytes: &'a [u8]) -> Unread<'a>
@@ -28,25 +25,31 @@ impl<'a> Unread<'a> {
         Unread { number: 1, bytes }
     }
 
-    /// The words of the next line, and the lines behind it.
-    pub(crate) fn next_line(self) -> Result<(Words<'a>, Unread<'a>), ReadFault>
-        ensures { Reads (λ x. (words_left x.0, lines_left x.1)) result (next_words (lines_left self.entry)) }
+    /// The words of the next line, which is then read.
+    pub(crate) fn next_line(&mut self) -> Result<Words<'a>, ReadFault>
+        ensures { Reads (λ words. (words_left words, lines_left self.new)) result (next_words (lines_left self.old)) }
     {
-        let Unread { number, bytes } = self;
-        match place_of(bytes, b'\n') {
-            Some(place) => Ok((
-                Words::new(&bytes[..place]),
-                Unread {
-                    number: number + 1,
-                    bytes: &bytes[place + 1..],
-                },
-            )),
-            None => Err(ReadFault::BadAnswer(number)),
+        match place_of(self.bytes, b'\n') {
+            Some(place) => {
+                let line = &self.bytes[..place];
+                *self = Unread {
+                    number: self.number + 1,
+                    bytes: &self.bytes[place + 1..],
+                };
+                Ok(Words::new(line))
+            }
+            None => Err(ReadFault::BadAnswer(self.number)),
         }
     }
 
-    /// Whether there are no more lines.
-    pub(crate) fn is_empty(&self) -> bool {
-        self.bytes.is_empty()
+    /// That there are no more lines.
+    pub(crate) fn end(&self) -> Result<(), ReadFault>
+        ensures { Reads (λ x. x) result (no_lines (lines_left self.now)) }
+    {
+        if self.bytes.is_empty() {
+            Ok(())
+        } else {
+            Err(ReadFault::BadAnswer(self.number))
+        }
     }
 }
