@@ -3,3 +3,6 @@ pub mod Clamping
 pub mod Places
 pub mod FieldJudgements
 pub mod LineCuts
+pub mod LineSteps
+pub mod LineReadings
+

@@ -1,17 +1,24 @@
 -- What is read of a text line by line.
-use Rattle.std.specs.Prelude.{ℕ, zero, suc, ◌+◌, ◌==◌, List, [], ◌∷◌}
+use Rattle.std.specs.Prelude.{ℕ, zero, suc, ◌+◌, ◌==◌, List, [], ◌∷◌, map, codes}
 use Rattle.std.specs.Borrow.{Bor}
 use Rattle.std.specs.List.{slice_split}
 use Rattle.std.specs.declared.option.Option.{Option}
 use Rattle.std.specs.declared.option.Option.TheVariants.{Some, None}
 use Rattle.std.specs.declared.result.Result.{Result}
 use Rattle.std.specs.declared.result.Result.TheVariants.{Ok, Err}
+use Rattle.bounds_model.specs.Plane.{PlaneRatio}
+use Rattle.bounds_model.specs.Answers.{Answer, centres}
 use Rattle.bounds_model.specs.AnswerText.Lines.{lines_of, words_of}
+use Rattle.bounds_model.specs.AnswerText.Fields.{plane_ratio, point_number}
+use Rattle.bounds_model.specs.AnswerText.LineFormats.{untitled}
+use Rattle.bounds_model.specs.AnswerText.Kinds.{first_format, size_format, last_format}
 use Rattle.bounds_model.specs.AnswerText.Formats as model
 use Rattle.bounds_model.specs.AnswerText.Formats.{Refusal, bad_answer, big_number, ◌>>=◌, Count, count_format}
+use Rattle.witness_format.specs.declared.answer.Leaf.{Leaf}
 use Rattle.witness_format.specs.declared.lines.Unread.{Unread}
 use Rattle.witness_format.specs.declared.words.Words.{Words}
 use Rattle.witness_format.specs.declared.judging.Flaw.TheVariants.{PastLimit, OutOfPlace}
+use Rattle.witness_format.specs.Answers.{leaf_of}
 use Rattle.witness_format.specs.Judging.{Judged, said}
 
 -- the words of a text in which single blanks part them, or none
@@ -79,3 +86,24 @@ no_more number (line ∷ lines) = Err (bad_answer number)
 -- there are no more lines
 abbrev pub no_lines : model.Unread → Result (Unit {0}) Refusal
 no_lines unread = no_more unread.number unread.lines
+
+-- ---- centres
+
+-- the centre of a square, by the words of its line
+abbrev pub square_says : List (List ℕ) → Option (Judged PlaneRatio)
+square_says = said (untitled (plane_ratio ∷ [])) (λ v. v.0)
+
+-- a leaf, likewise
+abbrev pub leaf_says : List (List ℕ) → Option (Judged Leaf)
+leaf_says = said (untitled (point_number ∷ point_number ∷ [])) (λ v. record { first = v.0; second = v.1.0 })
+
+-- an answer on centres, by the words of its lines
+unfoldable pub centres_by : model.Unread → Result Answer Refusal
+centres_by unread = do
+  first ← line_by (said (first_format (codes "centres")) (λ v. v)) unread
+  size ← line_by (said size_format (λ v. v.0)) first.1
+  squares ← counted_by (record { word = codes "squares"; low = 1; high = 3 }) square_says size.1
+  leaves ← counted_by (record { word = codes "leaves"; low = 0; high = 16 }) leaf_says squares.1
+  last ← line_by (said last_format (λ v. v)) leaves.1
+  end ← no_lines last.1
+  Ok (centres (record { size = size.0; squares = squares.0; leaves = map leaf_of leaves.0 }))

@@ -1,12 +1,12 @@
 //! An answer text, read line by line.
 ghost use Rattle.std.specs.Prelude.{◌≡◌, ◌<◌, ◌≤◌, ◌^◌, length, Some, Ok, IfSome, IfOk};
 ghost use Rattle.bounds_model.specs.AnswerText.Formats.{count_format};
-ghost use Rattle.bounds_model.specs.AnswerText.Kinds.{first_format, size_format, last_format, centres_kind};
-ghost use Rattle.bounds_model.specs.AnswerText.Reading.{answer_at, reading_of};
+ghost use Rattle.bounds_model.specs.AnswerText.Kinds.{first_format, size_format, last_format};
+ghost use Rattle.bounds_model.specs.AnswerText.Reading.{reading_of};
 ghost use Rattle.bounds_model.specs.AnswerText.Spelling.{Spells};
 ghost use Rattle.witness_format.specs.Answers.{answer_of};
 ghost use Rattle.witness_format.specs.Judging.{said};
-ghost use Rattle.witness_format.specs.Lines.{words_left, lines_left, line_by, lines_by, counted_by};
+ghost use Rattle.witness_format.specs.Lines.{words_left, lines_left, line_by, lines_by, counted_by, centres_by};
 ghost use Rattle.witness_format.specs.Outcomes.{Finds, Reads};
 ghost use Rattle.witness_format.specs.Kinds.{known_kinds};
 
@@ -32,8 +32,9 @@ pub fn read(_alloc: Global, bytes: &[u8]) -> Result<Answer, ReadFault>
 }
 
 /// Reads an answer on centres.
+#[tactic(auto, unfolding(crate::specs::Lines::centres_by))]
 fn read_centres(text: &mut Unread<'_>) -> Result<Answer, ReadFault>
-    ensures { Reads answer_of result (answer_at centres_kind (lines_left text.old)) }
+    ensures { Reads answer_of result (centres_by (lines_left text.old)) }
 {
     read_first(text, b"centres")?;
     let size = read_size(text)?;

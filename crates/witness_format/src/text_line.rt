@@ -1,11 +1,9 @@
 //! Values that fill a line of an answer text.
 ghost use Rattle.std.specs.Prelude.{◌≡◌, ℕ, List, [], ◌∷◌, ◌++◌, Option, OnOk};
 ghost use Rattle.bounds_model.specs.AnswerText.SpelledCentres.{square_line, leaf_line};
-ghost use Rattle.bounds_model.specs.AnswerText.Fields.{plane_ratio, point_number};
-ghost use Rattle.bounds_model.specs.AnswerText.LineFormats.{untitled};
 ghost use Rattle.witness_format.specs.Answers.{leaf_of};
-ghost use Rattle.witness_format.specs.Judging.{Judged, said};
-ghost use Rattle.witness_format.specs.Lines.{words_left};
+ghost use Rattle.witness_format.specs.Judging.{Judged};
+ghost use Rattle.witness_format.specs.Lines.{words_left, square_says, leaf_says};
 ghost use Rattle.witness_format.specs.Outcomes.{Finds};
 
 use crate::Leaf;
@@ -43,7 +41,7 @@ impl TextLine for Homog2 {
         push(text, b"\n")
     }
 
-    ghost says = { said (untitled (plane_ratio ∷ [])) (λ v. v.0) };
+    ghost says = { square_says };
 
     fn read(words: Words<'_>) -> Option<Judged<Homog2>> {
         let Some((centre, words)) = fields::plane_ratio(words) else {
@@ -65,7 +63,7 @@ impl TextLine for Leaf {
         push(text, b"\n")
     }
 
-    ghost says = { said (untitled (point_number ∷ point_number ∷ [])) (λ v. record { first = v.0; second = v.1.0 }) };
+    ghost says = { leaf_says };
 
     fn read(words: Words<'_>) -> Option<Judged<Leaf>> {
         let (first, words) = fields::point_number(words)?;
