@@ -6,3 +6,4 @@ pub mod LineCuts
 pub mod LineSteps
 pub mod LineReadings
 
+pub mod CentresTexts

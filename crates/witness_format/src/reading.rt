@@ -1,5 +1,7 @@
 //! An answer text, read line by line.
-ghost use Rattle.std.specs.Prelude.{◌≡◌, ◌<◌, ◌≤◌, ◌^◌, length, Some, Ok, IfSome, IfOk};
+ghost use Rattle.std.specs.Prelude.{◌≡◌, ◌<◌, ◌≤◌, ◌^◌, length, Some, Ok, IfSome, IfOk, IsOkAnd};
+ghost use Rattle.bounds_model.specs.CentresAnswer as model;
+ghost use Rattle.bounds_model.specs.Answers.{centres};
 ghost use Rattle.bounds_model.specs.AnswerText.Formats.{count_format};
 ghost use Rattle.bounds_model.specs.AnswerText.Kinds.{first_format, size_format, last_format};
 ghost use Rattle.bounds_model.specs.AnswerText.Reading.{reading_of};
@@ -25,7 +27,10 @@ use std::alloc::Global;
 pub fn read(_alloc: Global, bytes: &[u8]) -> Result<Answer, ReadFault>
     requires { length bytes.now ≤ 2 ^ 23 }
     ensures reading { Reads answer_of result (reading_of known_kinds bytes.now) }
+    // What is read is spelled so.
     ensures spelled { IfOk result (λ answer. Spells bytes.now (answer_of answer)) }
+    // What is spelled so is read.
+    ensures found { (a : model.CentresAnswer) → Spells bytes.now (centres a) → IsOkAnd result (λ answer. answer_of answer ≡ centres a) }
 {
     let mut text = Unread::all(bytes);
     read_centres(&mut text)

@@ -244,3 +244,8 @@ centres_written a places = record {
     ),
   );
 }
+
+-- their kind
+pub kind-centres_written : (a : CentresAnswer) (places : CentresPlaces a) → (centres_written a places).kind ≡ centres_kind
+unfolding centres_written
+kind-centres_written a places = refl
