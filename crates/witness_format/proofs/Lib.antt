@@ -5,5 +5,4 @@ pub mod FieldJudgements
 pub mod LineCuts
 pub mod LineSteps
 pub mod LineReadings
-
 pub mod CentresTexts

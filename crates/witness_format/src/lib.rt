@@ -19,6 +19,8 @@ mod lines;
 mod numerals;
 mod printing;
 mod reading;
+#[cfg(test)]
+mod tests;
 mod text_line;
 mod words;
 

@@ -48,7 +48,11 @@ fn below_zero(size: u128) -> Option<i128>
     requires { size ≤ 2 ^ 126 + 1 }
     ensures { (n : ℕ) → size ≡ clamped_size n → result ≡ option_map clamped (model.below_zero n) }
 {
-    if size == 0 { None } else { Some(-(size as i128)) }
+    if size == 0 {
+        None
+    } else {
+        Some(-(size as i128))
+    }
 }
 
 /// The whole number that these bytes write: digits, or a minus sign and the digits of a number above 0.

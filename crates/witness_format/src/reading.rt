@@ -12,12 +12,11 @@ ghost use Rattle.witness_format.specs.Lines.{words_left, lines_left, line_by, li
 ghost use Rattle.witness_format.specs.Outcomes.{Finds, Reads};
 ghost use Rattle.witness_format.specs.Kinds.{known_kinds};
 
-use crate::fields;
 use crate::judging::{Judged, decide};
 use crate::lines::Unread;
 use crate::text_line::TextLine;
 use crate::words::Words;
-use crate::{Answer, CentresAnswer, ReadFault};
+use crate::{Answer, CentresAnswer, ReadFault, fields};
 use arrayvec::ArrayVec;
 use exact_fractions::Frac;
 use std::alloc::Global;

@@ -6,11 +6,10 @@ ghost use Rattle.witness_format.specs.Judging.{Judged};
 ghost use Rattle.witness_format.specs.Lines.{words_left, square_says, leaf_says};
 ghost use Rattle.witness_format.specs.Outcomes.{Finds};
 
-use crate::Leaf;
-use crate::fields;
 use crate::judging::{Judged, both};
 use crate::printing::{push, push_natural, push_plane_ratio};
 use crate::words::Words;
+use crate::{Leaf, fields};
 use exact_fractions::Homog2;
 use std::alloc::AllocError;
 

@@ -1,6 +1,5 @@
 -- The texts of annuli, distances and centres.
-use Rattle.std.proofs.Common.{◌≡◌, ℕ, ◌≤◌, List, [], ◌∷◌, length, map, refl, ap, append_assoc, arith}
-use Rattle.std.specs.Prelude.{codes}
+use Rattle.std.proofs.Common.{◌≡◌, ℕ, ◌≤◌, List, [], ◌∷◌, length, map, refl, ap, append_assoc, arith, codes}
 use Rattle.std.proofs.lemmas.List.{append-nil}
 use Rattle.bounds_model.specs.Fractions.{Fraction}
 use Rattle.bounds_model.specs.Plane.{PlaneRatio}

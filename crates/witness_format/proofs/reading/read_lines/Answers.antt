@@ -8,7 +8,7 @@ loop-preserved g c =
     let says = g.T.TextLine.says in
     record {
       so_far = rw c.push.ensures.items
-      (one_more says c.loop.values.items c.args.count c.loop.counter (lines_left c.loop.text) c.in_ok-value.value (lines_left c.read_line.new.text) (lines_by says c.args.count (lines_left c.args.text.now)) c.loop-test.true
-      c.in_ok-value.ensures c.loop.invariant.so_far);
+          (one_more says c.loop.values.items c.args.count c.loop.counter (lines_left c.loop.text) c.in_ok-value.value (lines_left c.read_line.new.text) (lines_by says c.args.count (lines_left c.args.text.now)) c.loop-test.true
+          c.in_ok-value.ensures c.loop.invariant.so_far);
       amount = omega (arith, c.push.ensures.len);
     }
