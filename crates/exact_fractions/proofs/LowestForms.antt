@@ -3,7 +3,7 @@ use Prim.Native.Nat.{◌∣◌}
 use Rattle.std.proofs.Common.{◌≡◌, sym, ◌∙◌, ap, ap₂, ℕ, ◌*◌, ◌/◌, ◌^◌, ◌<◌, ◌≤◌, ℤ, pos, ◌*ℤ◌, ◌≤ℤ◌, ◌<ℤ◌, nat_abs, arith, List, [], ◌∷◌, map, mul-le-mul, le_trans}
 use Rattle.std.specs.Int.{IsGcd}
 use Rattle.std.proofs.lemmas.Int.{ints, unsigned_abs-mul}
-use Rattle.std.proofs.lemmas.List.Elements.{All-head, All-tail}
+use Rattle.std.proofs.lemmas.List.Elements.{All-nil, All-cons, All-head, All-tail}
 use Rattle.std.proofs.Math.Nat.{eq_of_mul-eq-mul_left, div-le_self, dvd_trans, le_of_dvd}
 use Rattle.integers.specs.Size.{Size}
 use Rattle.integers.specs.LowestTerms.{IsLowestTerms}
@@ -133,3 +133,15 @@ IsSpaceRatio-div k x y z w a b c d p e hx hy hz hw some ea eb ec ed = record {
 -- 0 times a number is 0
 pub zero_scaled : (k : ℕ) → pos k *ℤ pos 0 ≡ pos 0
 zero_scaled k = omega (arith, ints)
+
+-- ---- numbers in lowest terms are kept
+
+-- a quotient by 1 is the number
+pub quotient_by_one : (k : ℕ) (q n : ℤ) → k ≡ 1 → pos k *ℤ q ≡ n → q ≡ n
+quotient_by_one k q n one is =
+    let once : q ≡ pos 1 *ℤ q = omega (arith, ints) in
+    once ∙ ap (λ j. pos j *ℤ q) (sym one) ∙ is
+
+-- the greatest common divisor of the numbers of a fraction in lowest terms is 1
+pub IsGcd-lowest : (n d g : ℕ) → IsGcd n d g → HaveNoCommonFactor (pos n ∷ pos d ∷ []) → g ≡ 1
+IsGcd-lowest n d g h lowest = lowest g (All-cons (λ e. g ∣ nat_abs e) (pos n) (pos d ∷ []) h.0 (All-cons (λ e. g ∣ nat_abs e) (pos d) [] h.1 (All-nil (λ e. g ∣ nat_abs e))))

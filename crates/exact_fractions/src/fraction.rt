@@ -30,7 +30,7 @@ impl Model for Frac {
 }
 
 impl Frac {
-    /// The fraction n/d in lowest terms.
+    /// The fraction n/d in lowest terms, which are n and d themselves where they are lowest.
     pub fn new(n: u128, d: u128) -> Frac
         requires some { 0 < d }
         requires numerator { n ≤ 2 ^ 126 }
@@ -39,6 +39,7 @@ impl Frac {
         ensures lowest { IsFraction result }
         ensures numerator { result.n ≤ℤ pos n }
         ensures denominator { result.d ≤ℤ pos d }
+        ensures kept { IsFraction (record { n = pos n; d = pos d }) → result ≡ record { n = pos n; d = pos d } }
     {
         let divisor = gcd(n, d);
         Frac {

@@ -27,8 +27,19 @@ impl Model for Homog2 {
     ghost inverse = { λ v. record { x = v.x; y = v.y; w = v.w } };
 }
 
+impl Default for Homog2 {
+    ghost use Rattle.std.specs.Prelude.{◌≡◌, pos};
+
+    ghost is_default = { λ p. p ≡ record { x = pos 0; y = pos 0; w = pos 1 } };
+
+    /// The origin.
+    fn default() -> Self {
+        Homog2 { x: 0, y: 0, w: 1 }
+    }
+}
+
 impl Homog2 {
-    /// The point (x/w, y/w).
+    /// The point (x/w, y/w). Numbers in lowest terms are kept.
     pub fn new(x: i128, y: i128, w: i128) -> Homog2
         requires x { IsNumber x }
         requires y { IsNumber y }
@@ -36,6 +47,7 @@ impl Homog2 {
         requires some { pos 1 ≤ℤ w }
         ensures place { SamePlace (flat_ratio result) (flat_ratio (record { x = x; y = y; w = w })) }
         ensures lowest { IsPlaneRatio result }
+        ensures kept { IsPlaneRatio (record { x = x; y = y; w = w }) → result ≡ record { x = x; y = y; w = w } }
     {
         let divisor = gcd(x.unsigned_abs(), gcd(y.unsigned_abs(), w.unsigned_abs()));
         Homog2 {

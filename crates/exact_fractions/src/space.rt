@@ -29,7 +29,7 @@ impl Model for Homog3 {
 }
 
 impl Homog3 {
-    /// The point (x/w, y/w, z/w).
+    /// The point (x/w, y/w, z/w). Numbers in lowest terms are kept.
     pub fn new(x: i128, y: i128, z: i128, w: i128) -> Homog3
         requires x { IsNumber x }
         requires y { IsNumber y }
@@ -38,6 +38,7 @@ impl Homog3 {
         requires some { pos 1 ≤ℤ w }
         ensures place { SamePlace result (record { x = x; y = y; z = z; w = w }) }
         ensures lowest { IsSpaceRatio result }
+        ensures kept { IsSpaceRatio (record { x = x; y = y; z = z; w = w }) → result ≡ record { x = x; y = y; z = z; w = w } }
     {
         let divisor = gcd(
             x.unsigned_abs(),

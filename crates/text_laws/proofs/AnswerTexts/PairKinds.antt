@@ -1,6 +1,5 @@
 -- The texts of annuli, distances and centres.
-use Rattle.std.proofs.Common.{◌≡◌, ℕ, ◌≤◌, List, [], ◌∷◌, length, map, refl, ap, append_assoc, arith}
-use Rattle.std.specs.Prelude.{codes}
+use Rattle.std.proofs.Common.{◌≡◌, ℕ, ◌≤◌, List, [], ◌∷◌, length, map, refl, ap, append_assoc, arith, codes}
 use Rattle.std.proofs.lemmas.List.{append-nil}
 use Rattle.bounds_model.specs.Fractions.{Fraction}
 use Rattle.bounds_model.specs.Plane.{PlaneRatio}
@@ -244,3 +243,8 @@ centres_written a places = record {
     ),
   );
 }
+
+-- their kind
+pub kind-centres_written : (a : CentresAnswer) (places : CentresPlaces a) → (centres_written a places).kind ≡ centres_kind
+unfolding centres_written
+kind-centres_written a places = refl

@@ -1,0 +1,102 @@
+-- Clamped numbers lead to the same judgement as the numbers themselves.
+use Rattle.std.proofs.Common.{◌≡◌, ◌∙◌, refl, sym, ap, ℕ, suc, ◌+◌, ◌*◌, min, ℤ, pos, negsuc, neg_ℤ, nat_abs, Bool, true, false, ◌&&◌, List, ◌∷◌, Option, Some, None, arith}
+use Rattle.std.specs.Prelude.{nat_le, ◌==◌}
+use Rattle.std.specs.List.{before_first, after_first}
+use Rattle.std.specs.Option.{option_map}
+use Rattle.std.proofs.lemmas.Int.{ints}
+use Rattle.std.proofs.lemmas.Bool.Decides.{nat_tests}
+use Rattle.bounds_model.specs.Places.{number_limit}
+use Rattle.bounds_model.specs.AnswerText.Numerals.{whole_number}
+use Rattle.bounds_model.specs.AnswerText.Fields.{fraction, plane_ratio, is_in_place}
+use Rattle.text_laws.proofs.AnswerTexts.NumberLaws.{both_true}
+use Rattle.witness_format.specs.Clamps.{clamped_size, clamped}
+use Rattle.witness_format.specs.Judging.{judged_by, judged_field, field_at}
+
+-- a digit behind a clamped number
+pub clamped-digit : (n d : ℕ) → clamped_size (clamped_size n * 10 + d) ≡ clamped_size (n * 10 + d)
+clamped-digit n d = omega arith
+
+-- what is written has a number whose clamped number this is
+pub size_found : (read : Option ℕ) (n : ℕ) → Some n ≡ option_map clamped_size read → (m : ℕ) × (n ≡ clamped_size m) × (read ≡ Some m)
+size_found None n e = absurd cc
+size_found (Some m) n e = (m, cc, refl)
+
+-- the same of a whole number
+pub number_found : (read : Option ℤ) (n : ℤ) → Some n ≡ option_map clamped read → (m : ℤ) × (n ≡ clamped m) × (read ≡ Some m)
+number_found None n e = absurd cc
+number_found (Some m) n e = (m, cc, refl)
+
+-- ---- judgements
+
+-- the number is within the limit
+abbrev within : ℤ → Bool
+within z = nat_le (nat_abs z) number_limit
+
+-- a number is within the limit where its clamped one is
+within-clamped : (z : ℤ) → within (clamped z) ≡ within z
+within-clamped (pos n) = grind (arith, nat_tests)
+within-clamped (negsuc n) = grind (arith, ints, nat_tests)
+
+-- a number within the limit is its own clamped number
+clamped-same : (z : ℤ) → within z ≡ true → clamped z ≡ z
+clamped-same (pos n) small = ap pos (grind (arith, nat_tests))
+clamped-same (negsuc n) small =
+    let same : min (n + 1) (number_limit + 1) ≡ suc n = grind (arith, nat_tests) in
+    ap (λ m. neg_ℤ (pos m)) same
+
+-- two values of which both or none is within the limit, and which are one where they are
+by_limit : {A : Type 0} (small other : Bool) (place : A → Bool) (v w : A) → small ≡ other → (other ≡ true → v ≡ w) → judged_by small (place v) v ≡ judged_by other (place w) w
+by_limit true true place v w same one = ap (λ x. judged_by true (place x) x) (one refl)
+by_limit false false place v w same one = refl
+by_limit true false place v w same one = absurd cc
+by_limit false true place v w same one = absurd cc
+
+-- the clamped numbers of a fraction
+pub fraction-clamped : (n d : ℤ) → judged_field fraction (record { n = clamped n; d = clamped d }) ≡ judged_field fraction (record { n = n; d = d })
+fraction-clamped n d =
+    by_limit _ _ (is_in_place fraction) (record { n = clamped n; d = clamped d }) (record { n = n; d = d }) (λ i. within-clamped n i && (within-clamped d i && true))
+    (λ small.
+    let first = both_true (within n) (within d && true) small in
+    let second = both_true (within d) true first.1 in
+    λ i. record { n = clamped-same n first.0 i; d = clamped-same d second.0 i })
+
+-- those of a point of the plane
+pub plane_ratio-clamped : (x y w : ℤ) → judged_field plane_ratio (record { x = clamped x; y = clamped y; w = clamped w }) ≡ judged_field plane_ratio (record { x = x; y = y; w = w })
+plane_ratio-clamped x y w =
+    by_limit _ _ (is_in_place plane_ratio) (record { x = clamped x; y = clamped y; w = clamped w }) (record { x = x; y = y; w = w }) (λ i. within-clamped x i && (within-clamped y i && (within-clamped w i && true)))
+    (λ small.
+    let first = both_true (within x) (within y && (within w && true)) small in
+    let second = both_true (within y) (within w && true) first.1 in
+    let third = both_true (within w) true second.1 in
+    λ i. record { x = clamped-same x first.0 i; y = clamped-same y second.0 i; w = clamped-same w third.0 i })
+
+-- ---- fields by their clamped numbers
+
+-- a fraction whose numbers are known
+fraction_numbers : (word : List ℕ) (rest : List (List ℕ)) (n d : ℤ) → whole_number (before_first (λ b. b == 47) word) ≡ Some n → whole_number (after_first (λ b. b == 47) word) ≡ Some d
+    → field_at fraction (word ∷ rest) ≡ Some (judged_field fraction (record { n = n; d = d }), rest)
+fraction_numbers word rest n d p q = rw (p, q) refl
+
+-- a point whose numbers are known
+plane_ratio_numbers : (a b c : List ℕ) (rest : List (List ℕ)) (x y w : ℤ) → whole_number a ≡ Some x → whole_number b ≡ Some y → whole_number c ≡ Some w
+    → field_at plane_ratio (a ∷ b ∷ c ∷ rest) ≡ Some (judged_field plane_ratio (record { x = x; y = y; w = w }), rest)
+plane_ratio_numbers a b c rest x y w p q r = rw (p, q, r) refl
+
+-- a fraction
+pub fraction_at : (word : List ℕ) (words rest : List (List ℕ)) (n d : ℤ) → words ≡ word ∷ rest → Some n ≡ option_map clamped (whole_number (before_first (λ b. b == 47) word))
+    → Some d ≡ option_map clamped (whole_number (after_first (λ b. b == 47) word)) → field_at fraction words ≡ Some (judged_field fraction (record { n = n; d = d }), rest)
+fraction_at word words rest n d is n-read d-read =
+    let n-found = number_found (whole_number (before_first (λ b. b == 47) word)) n n-read in
+    let d-found = number_found (whole_number (after_first (λ b. b == 47) word)) d d-read in
+    ap (field_at fraction) is ∙ (fraction_numbers word rest n-found.0 d-found.0 n-found.2 d-found.2
+    ∙ (ap (λ j. Some (j, rest)) (sym (fraction-clamped n-found.0 d-found.0)) ∙ (λ i. Some (judged_field fraction (record { n = sym n-found.1 i; d = sym d-found.1 i }), rest))))
+
+-- a point of the plane
+pub plane_ratio_at : (a b c : List ℕ) (words rest : List (List ℕ)) (x y w : ℤ) → words ≡ a ∷ b ∷ c ∷ rest → Some x ≡ option_map clamped (whole_number a) → Some y ≡ option_map clamped (whole_number b)
+    → Some w ≡ option_map clamped (whole_number c) → field_at plane_ratio words ≡ Some (judged_field plane_ratio (record { x = x; y = y; w = w }), rest)
+plane_ratio_at a b c words rest x y w is x-read y-read w-read =
+    let x-found = number_found (whole_number a) x x-read in
+    let y-found = number_found (whole_number b) y y-read in
+    let w-found = number_found (whole_number c) w w-read in
+    ap (field_at plane_ratio) is ∙ (plane_ratio_numbers a b c rest x-found.0 y-found.0 w-found.0 x-found.2 y-found.2 w-found.2
+    ∙ (ap (λ j. Some (j, rest)) (sym (plane_ratio-clamped x-found.0 y-found.0 w-found.0)) ∙ (λ i. Some (judged_field plane_ratio (record { x = sym x-found.1 i; y = sym y-found.1 i; w = sym w-found.1 i }), rest))))

@@ -1,0 +1,67 @@
+-- How a field is judged whose numbers are within the limit.
+use Rattle.std.proofs.Common.{◌≡◌, ◌∙◌, refl, sym, ap, ℕ, ◌≤◌, ◌^◌, ℤ, pos, negsuc, ◌≤ℤ◌, nat_abs, Bool, true, false, ◌&&◌, Ok, Err, arith}
+use Rattle.std.specs.Prelude.{nat_le}
+use Rattle.std.proofs.lemmas.Bool.{le-leb}
+use Rattle.std.proofs.lemmas.Int.{ints}
+use Rattle.bounds_model.specs.Fractions.{Fraction}
+use Rattle.bounds_model.specs.Plane.{PlaneRatio}
+use Rattle.bounds_model.specs.Places.{number_limit, IsFraction, IsPlaneRatio}
+use Rattle.bounds_model.specs.AnswerText.Fields.{Field, fraction, plane_ratio, Value, is_small, is_in_place}
+use Rattle.text_laws.proofs.AnswerTexts.PlaceLaws.{FieldPlace, is_limited, field_place, field_passes, two_true}
+use Rattle.witness_format.specs.declared.judging.Flaw.TheVariants.{OutOfPlace}
+use Rattle.witness_format.specs.Judging.{Judged, judged_by, judged_field}
+
+-- both tests pass
+by_tests : {A : Type 0} (small place : Bool) (v : A) → small ≡ true → place ≡ true → judged_by small place v ≡ Ok v
+by_tests true true v s p = refl
+by_tests true false v s p = absurd cc
+by_tests false place v s p = absurd cc
+
+-- the first test passes and the second does not
+by_first_test : {A : Type 0} (small place : Bool) (v : A) → small ≡ true → (place ≡ true → ⊥) → judged_by small place v ≡ Err OutOfPlace
+by_first_test true true v s p = absurd (p refl)
+by_first_test true false v s p = refl
+by_first_test false place v s p = absurd cc
+
+-- a field that keeps the range of its place
+pub judged-kept : (field : Field) (v : Value field) → is_limited field ≡ true → FieldPlace field v → judged_field field v ≡ Ok v
+judged-kept field v limited place =
+    let passes = field_passes field v limited place in
+    by_tests (is_small field v) (is_in_place field v) v passes.0 passes.1
+
+-- a field whose numbers are within the limit, and that does not keep its range
+pub judged-out : (field : Field) (v : Value field) → is_small field v ≡ true → (FieldPlace field v → ⊥) → judged_field field v ≡ Err OutOfPlace
+judged-out field v small none = by_first_test (is_small field v) (is_in_place field v) v small (λ place. none (field_place field v small place))
+
+-- ---- fractions
+
+-- a number that is not below 0 is its magnitude
+pub pos_abs : (z : ℤ) → pos 0 ≤ℤ z → pos (nat_abs z) ≡ z
+pos_abs (pos n) low = refl
+pos_abs (negsuc n) low = absurd (omega (arith, ints))
+
+-- the number is within the limit
+small_number : (z : ℤ) → nat_abs z ≤ 2 ^ 126 → nat_le (nat_abs z) number_limit ≡ true
+small_number z small = le-leb (nat_abs z) number_limit small
+
+-- a fraction with these numbers
+pub fraction-kept : (v : Fraction) (n d : ℤ) (a b : ℕ) → IsFraction v → pos a ≡ v.n → pos b ≡ v.d → a ≡ nat_abs n → b ≡ nat_abs d → pos 0 ≤ℤ n → pos 1 ≤ℤ d
+    → ◌≡◌ {A = Judged Fraction} (Ok v) (judged_field fraction (record { n = n; d = d }))
+fraction-kept v n d a b lowest p q e f n-low d-low =
+    let n-is : v.n ≡ n = sym p ∙ (ap pos e ∙ pos_abs n n-low) in
+    let d-is : v.d ≡ d = sym q ∙ (ap pos f ∙ pos_abs d (omega (arith, ints))) in
+    let same : v ≡ record { n = n; d = d } = λ i. record { n = n-is i; d = d-is i } in
+    sym (judged-kept fraction v refl lowest) ∙ ap (judged_field fraction) same
+
+-- numbers that no fraction in lowest terms has
+pub fraction-out : (n d : ℤ) → nat_abs n ≤ 2 ^ 126 → nat_abs d ≤ 2 ^ 126 → (IsFraction (record { n = n; d = d }) → ⊥) → ◌≡◌ {A = Judged Fraction} (Err OutOfPlace) (judged_field fraction (record { n = n; d = d }))
+fraction-out n d n-small d-small none =
+    sym (judged-out fraction (record { n = n; d = d }) (two_true _ _ (small_number n n-small) (two_true _ _ (small_number d d-small) refl)) none)
+
+-- ---- points of the plane
+
+-- numbers that no point in lowest terms has
+pub plane_ratio-out : (x y w : ℤ) → nat_abs x ≤ 2 ^ 126 → nat_abs y ≤ 2 ^ 126 → nat_abs w ≤ 2 ^ 126 → (IsPlaneRatio (record { x = x; y = y; w = w }) → ⊥)
+    → ◌≡◌ {A = Judged PlaneRatio} (Err OutOfPlace) (judged_field plane_ratio (record { x = x; y = y; w = w }))
+plane_ratio-out x y w x-small y-small w-small none =
+    sym (judged-out plane_ratio (record { x = x; y = y; w = w }) (two_true _ _ (small_number x x-small) (two_true _ _ (small_number y y-small) (two_true _ _ (small_number w w-small) refl))) none)

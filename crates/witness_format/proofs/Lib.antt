@@ -1,0 +1,8 @@
+pub mod Digits
+pub mod Clamping
+pub mod Places
+pub mod FieldJudgements
+pub mod LineCuts
+pub mod LineSteps
+pub mod LineReadings
+pub mod CentresTexts

@@ -1,0 +1,28 @@
+use Rattle.std.proofs.Common.{◌≡◌, ◌∙◌, sym, ap, List, ℕ, ◌∷◌, take, drop, ◌+◌, ◌-◌, ◌<◌, length, length-drop, Bool, arith}
+use Rattle.std.specs.Prelude.{◌==◌}
+use Rattle.std.specs.List.{slice_split, position_or_len}
+use Rattle.std.proofs.lemmas.List.{take_all}
+use Rattle.std.proofs.lemmas.List.Splits.{slice_split_first, slice_split_none}
+use Rattle.std.proofs.lemmas.List.Sums.{fails_before_first}
+use Rattle.witness_format.specs.Lines.{words_in, words_left}
+use Rattle.witness_format.proofs.Places.{place_found, place_missing}
+use Rattle.witness_format.proofs.words.Words.next.Goals as goal
+
+abbrev is_blank : ℕ → Bool
+is_blank b = b == 32
+
+pub returns-in-Some : goal.returns-in-Some
+returns-in-Some c =
+    let text = c.in_ok-text.text.now in
+    let place = c.in-Some.place in
+    let found : place ≡ position_or_len is_blank text = place_found is_blank text place c.in-Some.ensures.place in
+    let before : position_or_len is_blank text < length text = omega (arith, found, c.in-Some.ensures.within) in
+    let behind : take (length text - (place + 1)) (drop (place + 1) text) ≡ drop (place + 1) text = take_all (length text - (place + 1)) (drop (place + 1) text) (omega (arith, length-drop (place + 1) text)) in
+    let others : words_left c.new.result ≡ slice_split is_blank (drop (place + 1) text) = c.new.ensures ∙ ap (slice_split is_blank) behind in
+    ap words_in c.in_ok-text.was ∙ (slice_split_first is_blank text 0 before ∙ (ap (λ n. take n text ∷ slice_split is_blank (drop (n + 1) text)) (sym found) ∙ ap (λ (ws : List (List ℕ)). take place text ∷ ws) (sym others)))
+
+pub returns-in-None : goal.returns-in-None
+returns-in-None c =
+    let text = c.in_ok-text.text.now in
+    let missing : position_or_len is_blank text ≡ length text = place_missing is_blank text c.in-None.ensures.place in
+    ap words_in c.in_ok-text.was ∙ slice_split_none is_blank text (λ k d lt. fails_before_first is_blank text k d (omega arith))

@@ -1,0 +1,56 @@
+-- What the words of a line say once their form is right: first the limit of all numbers, then the ranges of their places.
+use Rattle.std.specs.Prelude.{ℕ, Bool, not, if◌then◌else◌, List, [], ◌∷◌, map}
+use Rattle.std.specs.declared.option.Option.{Option}
+use Rattle.std.specs.declared.option.Option.TheVariants.{Some, None}
+use Rattle.std.specs.declared.result.Result.{Result}
+use Rattle.std.specs.declared.result.Result.TheVariants.{Ok, Err}
+use Rattle.bounds_model.specs.AnswerText.Numerals.{◌>>=◌}
+use Rattle.bounds_model.specs.AnswerText.Fields.{Field, Value, value_of, is_small, is_in_place}
+use Rattle.bounds_model.specs.AnswerText.LineFormats.{LineFormat, Values, after_words}
+use Rattle.witness_format.specs.declared.judging.Flaw.{Flaw}
+use Rattle.witness_format.specs.declared.judging.Flaw.TheVariants.{PastLimit, OutOfPlace}
+
+-- a value, or what is wrong with its numbers
+abbrev pub Judged : Type 0 → Type 0
+Judged A = Result A Flaw
+
+-- a value whose numbers are within the limit or not, and in their places or not
+abbrev pub judged_by : {A : Type 0} → Bool → Bool → A → Judged A
+judged_by small place value = if not small then Err PastLimit else if not place then Err OutOfPlace else Ok value
+
+-- two values: a number past the limit goes before one outside the range of its place
+abbrev pub both : {A B : Type 0} → Judged A → Judged B → Judged (A × B)
+both (Ok x) (Ok y) = Ok (x, y)
+both (Ok x) (Err flaw) = Err flaw
+both (Err PastLimit) b = Err PastLimit
+both (Err OutOfPlace) (Ok y) = Err OutOfPlace
+both (Err OutOfPlace) (Err flaw) = Err flaw
+
+-- the value seen in another way
+abbrev pub seen : {A B : Type 0} → (A → B) → Judged A → Judged B
+seen view (Ok x) = Ok (view x)
+seen view (Err flaw) = Err flaw
+
+-- a field's value
+abbrev pub judged_field : (field : Field) → Value field → Judged (Value field)
+judged_field field value = judged_by (is_small field value) (is_in_place field value) value
+
+-- the next field, and the words behind it
+abbrev pub field_at : (field : Field) → List (List ℕ) → Option (Judged (Value field) × List (List ℕ))
+field_at field words = value_of field words >>= λ first. Some (judged_field field first.0, first.1)
+
+-- fields that take all words
+abbrev pub fields_at : (fields : List Field) → List (List ℕ) → Option (Judged (Values fields))
+fields_at [] [] = Some (Ok tt)
+fields_at [] (word ∷ words) = None
+fields_at (field ∷ fields) words = do
+  first ← field_at field words
+  others ← fields_at fields first.1
+  Some (both first.0 others)
+
+-- a line of this format whose fields are seen so
+abbrev pub said : {A : Type 0} → (format : LineFormat) → (Values format.fields → A) → List (List ℕ) → Option (Judged A)
+said format view words = do
+  rest ← after_words format.words words
+  values ← fields_at format.fields rest
+  Some (seen view values)

@@ -1,0 +1,101 @@
+//! The fields of a line: for each, its form, the limit of its numbers and the range of its place.
+ghost use Rattle.std.specs.Prelude.{◌≡◌, ◌≤◌, pos, IfSome, IfOk};
+ghost use Rattle.bounds_model.specs.AnswerText.Fields as model;
+ghost use Rattle.witness_format.specs.Judging.{judged_field, field_at};
+ghost use Rattle.witness_format.specs.Lines.{words_left};
+ghost use Rattle.witness_format.specs.Outcomes.{Finds};
+
+use crate::judging::{Flaw, Judged};
+use crate::numerals::{LIMIT, natural_number, whole_number};
+use crate::words::{Words, cut};
+use exact_fractions::{Frac, Homog2};
+
+/// The greatest number of a point.
+const POINT_LIMIT: u32 = 9999;
+
+/// A number without a sign from a least to a greatest one.
+pub(crate) fn bounded(words: Words<'_>, low: u32, high: u32) -> Option<(Judged<u32>, Words<'_>)>
+    ensures field { Finds (λ x. (x.0, words_left x.1)) result (field_at (model.bounded low high) (words_left words.entry)) }
+    ensures limited { IfSome result (λ x. IfOk x.0 (λ n. n ≤ high)) }
+{
+    let (word, others) = words.next()?;
+    let n = natural_number(word)?;
+    Some((judged_bounded(n, low, high), others))
+}
+
+fn judged_bounded(n: u128, low: u32, high: u32) -> Judged<u32>
+    ensures judged { result ≡ judged_field (model.bounded low high) n }
+    ensures limited { IfOk result (λ n. n ≤ high) }
+{
+    if n > LIMIT {
+        return Err(Flaw::PastLimit);
+    }
+    if n < u128::from(low) || n > u128::from(high) {
+        return Err(Flaw::OutOfPlace);
+    }
+    Ok(n as u32)
+}
+
+/// The number of a point.
+pub(crate) fn point_number(words: Words<'_>) -> Option<(Judged<u32>, Words<'_>)>
+    ensures { Finds (λ x. (x.0, words_left x.1)) result (field_at model.point_number (words_left words.entry)) }
+{
+    bounded(words, 0, POINT_LIMIT)
+}
+
+/// A fraction in lowest terms that is not below 0.
+pub(crate) fn fraction(words: Words<'_>) -> Option<(Judged<Frac>, Words<'_>)>
+    ensures { Finds (λ x. (x.0, words_left x.1)) result (field_at model.fraction (words_left words.entry)) }
+{
+    let (word, others) = words.next()?;
+    let (numerator, denominator) = cut(word, b'/');
+    let n = whole_number(numerator)?;
+    let d = whole_number(denominator)?;
+    Some((judged_fraction(n, d), others))
+}
+
+fn judged_fraction(n: i128, d: i128) -> Judged<Frac>
+    ensures { result ≡ judged_field model.fraction (record { n = n; d = d }) }
+{
+    if n.unsigned_abs() > LIMIT || d.unsigned_abs() > LIMIT {
+        return Err(Flaw::PastLimit);
+    }
+    if n < 0 || d < 1 {
+        return Err(Flaw::OutOfPlace);
+    }
+    let (n, d) = (n as u128, d as u128);
+    let value = Frac::new(n, d);
+    if value.num() != n || value.den() != d {
+        return Err(Flaw::OutOfPlace);
+    }
+    Ok(value)
+}
+
+/// A point of the plane over a denominator, in lowest terms.
+pub(crate) fn plane_ratio(words: Words<'_>) -> Option<(Judged<Homog2>, Words<'_>)>
+    ensures { Finds (λ x. (x.0, words_left x.1)) result (field_at model.plane_ratio (words_left words.entry)) }
+{
+    let (first, words) = words.next()?;
+    let (second, words) = words.next()?;
+    let (third, words) = words.next()?;
+    let x = whole_number(first)?;
+    let y = whole_number(second)?;
+    let w = whole_number(third)?;
+    Some((judged_plane_ratio(x, y, w), words))
+}
+
+fn judged_plane_ratio(x: i128, y: i128, w: i128) -> Judged<Homog2>
+    ensures { result ≡ judged_field model.plane_ratio (record { x = x; y = y; w = w }) }
+{
+    if x.unsigned_abs() > LIMIT || y.unsigned_abs() > LIMIT || w.unsigned_abs() > LIMIT {
+        return Err(Flaw::PastLimit);
+    }
+    if w < 1 {
+        return Err(Flaw::OutOfPlace);
+    }
+    let value = Homog2::new(x, y, w);
+    if value.x() != x || value.y() != y || value.w() != w {
+        return Err(Flaw::OutOfPlace);
+    }
+    Ok(value)
+}

@@ -1,0 +1,30 @@
+//! Answers: their types, and their text both ways.
+//!
+//! - `answer`: an answer of each kind, and its size
+//! - `printing`: the one text of an answer
+//! - `reading`: a text as an answer, or why it is refused
+//! - `text_line`: values that fill a line of such a text
+//! - `lines` and `words`: a text cut into lines, and a line into words
+//! - `numerals`: the numbers that words write
+//! - `fields`: the fields of a line
+//! - `judging`: the order of causes on one line
+//! - `fault`: why a text is refused
+#![tactic(auto)]
+
+mod answer;
+mod fault;
+mod fields;
+mod judging;
+mod lines;
+mod numerals;
+mod printing;
+mod reading;
+#[cfg(test)]
+mod tests;
+mod text_line;
+mod words;
+
+pub use answer::{Answer, CentresAnswer, Leaf, size};
+pub use fault::ReadFault;
+pub use printing::{AnswerBytes, print};
+pub use reading::read;

@@ -1,0 +1,55 @@
+//! The lines of a text.
+ghost use Rattle.std.specs.Prelude.{◌≡◌, ◌+◌, ◌≤◌, ◌^◌, length};
+ghost use Rattle.witness_format.specs.Outcomes.{Reads};
+
+use crate::ReadFault;
+use crate::words::{Words, place_of};
+
+/// The lines of a text that are not yet read, and the number of the first of them.
+#[derive(Drop)]
+pub(crate) struct Unread<'a> {
+    pub(crate) number: u32,
+    bytes: &'a [u8],
+    ghost counted: { number + length bytes.now ≤ 2 ^ 23 + 1 },
+}
+
+impl<'a> Unread<'a> {
+    ghost use Rattle.bounds_model.specs.AnswerText.Reading.{all_lines};
+    ghost use Rattle.witness_format.specs.Lines.{words_left, lines_left, next_words, no_lines};
+
+    /// All lines of a text.
+    pub(crate) fn all(bytes: &'a [u8]) -> Unread<'a>
+        requires { length bytes.now ≤ 2 ^ 23 }
+        ensures { lines_left result ≡ all_lines bytes.now }
+    {
+        Unread { number: 1, bytes }
+    }
+
+    /// The words of the next line, which is then read.
+    pub(crate) fn next_line(&mut self) -> Result<Words<'a>, ReadFault>
+        ensures { Reads (λ words. (words_left words, lines_left self.new)) result (next_words (lines_left self.old)) }
+    {
+        match place_of(self.bytes, b'\n') {
+            Some(place) => {
+                let line = &self.bytes[..place];
+                *self = Unread {
+                    number: self.number + 1,
+                    bytes: &self.bytes[place + 1..],
+                };
+                Ok(Words::new(line))
+            }
+            None => Err(ReadFault::BadAnswer(self.number)),
+        }
+    }
+
+    /// That there are no more lines.
+    pub(crate) fn end(&self) -> Result<(), ReadFault>
+        ensures { Reads (λ x. x) result (no_lines (lines_left self.now)) }
+    {
+        if self.bytes.is_empty() {
+            Ok(())
+        } else {
+            Err(ReadFault::BadAnswer(self.number))
+        }
+    }
+}

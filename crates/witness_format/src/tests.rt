@@ -1,0 +1,224 @@
+//! Texts with the answer or the refusal that they give.
+use crate::{Answer, ReadFault, print, read, size};
+use std::alloc::{AllocError, Global};
+use std::process::Abort;
+use std::test::Fail;
+
+/// Two squares for four points, and the leaves of the four corners.
+const TWO_SQUARES: &[u8] =
+    b"answer 1 centres\nsize 1/1\nsquares 2\n1 1 1\n11 11 1\nleaves 4\n2 3\n0 3\n0 3\n0 2\nend\n";
+
+/// The text is read, and the answer has this text and this size.
+fn stands(rt: &impl Abort, alloc: Global, text: &[u8], numerator: u128, denominator: u128) {
+    assert!(rt; text.len() <= 1 << 23);
+    match read(alloc, text) {
+        Ok(answer) => {
+            let found = size(&answer);
+            assert_eq!(rt;
+                (found.num(), found.den()),
+                (numerator, denominator),
+                "the size of {text:?}"
+            );
+            match print(alloc, &answer) {
+                Ok(bytes) => assert!(rt; bytes.as_slice() == text, "{text:?} is printed otherwise"),
+                Err(_) => panic!(rt; "{text:?} is not printed"),
+            }
+        }
+        Err(fault) => panic!(rt; "{text:?} is refused: {fault:?}"),
+    }
+}
+
+/// The text is refused for this cause.
+fn is_refused(rt: &impl Abort, alloc: Global, text: &[u8], fault: ReadFault) {
+    assert!(rt; text.len() <= 1 << 23);
+    match read(alloc, text) {
+        Ok(_) => panic!(rt; "{text:?} is not refused"),
+        Err(found) => assert_eq!(rt; found, fault, "{text:?}"),
+    }
+}
+
+#[test]
+fn texts_of_answers(rt: HostRuntime) {
+    let alloc = rt.alloc();
+    stands(&rt, alloc, TWO_SQUARES, 1, 1);
+    stands(
+        &rt,
+        alloc,
+        b"answer 1 centres\nsize 3/2\nsquares 1\n3 3 2\nleaves 1\n0 1\nend\n",
+        3,
+        2,
+    );
+    stands(
+        &rt,
+        alloc,
+        b"answer 1 centres\nsize 0/1\nsquares 1\n-7 0 1\nleaves 0\nend\n",
+        0,
+        1,
+    );
+    stands(
+        &rt,
+        alloc,
+        b"answer 1 centres\nsize 85070591730234615865843651857942052864/85070591730234615865843651857942052863\nsquares 1\n-85070591730234615865843651857942052864 0 85070591730234615865843651857942052863\nleaves 0\nend\n",
+        85070591730234615865843651857942052864,
+        85070591730234615865843651857942052863,
+    );
+}
+
+#[test]
+fn numbers_of_two_squares(rt: HostRuntime) -> Result<(), Fail> {
+    match read(rt.alloc(), TWO_SQUARES) {
+        Ok(Answer::Centres(a)) => {
+            assert_eq!(rt; a.squares.len(), 2);
+            for (square, place) in a.squares.as_slice().iter().zip([1, 11]) {
+                assert!(rt; (square.x(), square.y(), square.w()) == (place, place, 1));
+            }
+            assert_eq!(rt; a.leaves.len(), 4);
+            for (leaf, points) in a
+                .leaves
+                .as_slice()
+                .iter()
+                .zip([(2, 3), (0, 3), (0, 3), (0, 2)])
+            {
+                assert_eq!(rt; (leaf.first, leaf.second), points);
+            }
+            Ok(())
+        }
+        Err(fault) => panic!(rt; "refused: {fault:?}"),
+    }
+}
+
+#[test]
+fn refused_texts(rt: HostRuntime) {
+    let alloc = rt.alloc();
+    for (text, line) in [
+        // the first line
+        (b"".as_slice(), 1),
+        (b"answer 1 centres", 1),
+        (b"answer 1 blob\n", 1),
+        (b"answer 2 centres\n", 1),
+        (b"answer  1 centres\n", 1),
+        (b"answer 1 centres \n", 1),
+        (b"answer 1 centres\r\n", 1),
+        (
+            b"answer 85070591730234615865843651857942052865 centres\n",
+            1,
+        ),
+        // the size
+        (b"answer 1 centres\n", 2),
+        (b"answer 1 centres\nsize 2/4\n", 2),
+        (b"answer 1 centres\nsize 0/2\n", 2),
+        (b"answer 1 centres\nsize 1/0\n", 2),
+        (b"answer 1 centres\nsize -1/2\n", 2),
+        (b"answer 1 centres\nsize 1/-2\n", 2),
+        (b"answer 1 centres\nsize 01/2\n", 2),
+        (b"answer 1 centres\nsize +1/2\n", 2),
+        (b"answer 1 centres\nsize 1\n", 2),
+        (b"answer 1 centres\nsize 1/\n", 2),
+        (b"answer 1 centres\nsize 1/2/3\n", 2),
+        (b"answer 1 centres\nsize -0/1\n", 2),
+        (
+            b"answer 1 centres\nsize 85070591730234615865843651857942052865/x\n",
+            2,
+        ),
+        (
+            b"answer 1 centres\nsize 85070591730234615865843651857942052865/1",
+            2,
+        ),
+        // the squares
+        (b"answer 1 centres\nsize 1/1\nsquares 0\n", 3),
+        (b"answer 1 centres\nsize 1/1\nsquares 4\n", 3),
+        (b"answer 1 centres\nsize 1/1\nsquares -1\n", 3),
+        (b"answer 1 centres\nsize 1/1\nsquares 1\n1 1 0\n", 4),
+        (b"answer 1 centres\nsize 1/1\nsquares 1\n2 4 6\n", 4),
+        (b"answer 1 centres\nsize 1/1\nsquares 1\n1 1\n", 4),
+        (b"answer 1 centres\nsize 1/1\nsquares 1\n1 1 1 1\n", 4),
+        (b"answer 1 centres\nsize 1/1\nsquares 1\n1 -0 1\n", 4),
+        (
+            b"answer 1 centres\nsize 1/1\nsquares 2\n1 1 1\nleaves 0\n",
+            5,
+        ),
+        // the leaves
+        (
+            b"answer 1 centres\nsize 1/1\nsquares 1\n1 1 1\nleaves 17\n",
+            5,
+        ),
+        (
+            b"answer 1 centres\nsize 1/1\nsquares 1\n1 1 1\nleaves 1\n0 10000\n",
+            6,
+        ),
+        (
+            b"answer 1 centres\nsize 1/1\nsquares 1\n1 1 1\nleaves 1\n0 -1\n",
+            6,
+        ),
+        // the last line
+        (
+            b"answer 1 centres\nsize 1/1\nsquares 1\n1 1 1\nleaves 0\n",
+            6,
+        ),
+        (
+            b"answer 1 centres\nsize 1/1\nsquares 1\n1 1 1\nleaves 0\nend",
+            6,
+        ),
+        (
+            b"answer 1 centres\nsize 1/1\nsquares 1\n1 1 1\nleaves 0\nend \n",
+            6,
+        ),
+        (
+            b"answer 1 centres\nsize 1/1\nsquares 1\n1 1 1\nleaves 0\nend\n\n",
+            7,
+        ),
+    ] {
+        is_refused(&rt, alloc, text, ReadFault::BadAnswer(line));
+    }
+    for (text, line) in [
+        (
+            b"answer 1 centres\nsize 85070591730234615865843651857942052865/1\n".as_slice(),
+            2,
+        ),
+        (
+            b"answer 1 centres\nsize -1/85070591730234615865843651857942052865\n",
+            2,
+        ),
+        (
+            b"answer 1 centres\nsize 1/1\nsquares 340282366920938463463374607431768211457\n",
+            3,
+        ),
+        (
+            b"answer 1 centres\nsize 1/1\nsquares 1\n2 4 -85070591730234615865843651857942052865\n",
+            4,
+        ),
+        (
+            b"answer 1 centres\nsize 1/1\nsquares 1\n1 1 1\nleaves 1\n10000 85070591730234615865843651857942052865\n",
+            6,
+        ),
+    ] {
+        is_refused(&rt, alloc, text, ReadFault::BigNumber(line));
+    }
+}
+
+/// A text of the greatest length that begins so, goes on with this byte, and ends so.
+fn long_text(alloc: Global, front: &[u8], byte: u8, end: &[u8]) -> Result<Vec<u8>, AllocError> {
+    let mut text = Vec::from_slice(alloc, front)?;
+    while text.len() < (1 << 23) - 32 {
+        text.push(byte)?;
+    }
+    text.extend_from_slice(end)?;
+    Ok(text)
+}
+
+#[test]
+fn long_texts(rt: HostRuntime) -> Result<(), Fail> {
+    let alloc = rt.alloc();
+    let digits = long_text(alloc, b"answer 1 centres\nsize ", b'7', b"/1\n")?;
+    is_refused(&rt, alloc, digits.as_slice(), ReadFault::BigNumber(2));
+    let unended = long_text(alloc, b"answer 1 centres\nsize ", b'7', b"/1")?;
+    is_refused(&rt, alloc, unended.as_slice(), ReadFault::BadAnswer(2));
+    let blanks = long_text(
+        alloc,
+        b"answer 1 centres\nsize 1/1\nsquares 1\n1 1 1",
+        b' ',
+        b"\n",
+    )?;
+    is_refused(&rt, alloc, blanks.as_slice(), ReadFault::BadAnswer(4));
+    Ok(())
+}

@@ -1,0 +1,73 @@
+//! The words of a line.
+ghost use Rattle.std.specs.Prelude.{◌≡◌, ◌≢◌, ◌<◌, ◌==◌, [], ◌∷◌, length, IfSome, MatchOption};
+ghost use Rattle.std.specs.List.{position_from, before_first, after_first, slice_split};
+ghost use Rattle.bounds_model.specs.AnswerText.LineFormats.{after_words};
+ghost use Rattle.witness_format.specs.Outcomes.{Finds};
+
+/// The words of a line that are not yet read.
+#[derive(Clone, Copy)]
+pub(crate) struct Words<'a> {
+    /// A text in which single blanks part the words, or none where there are no more.
+    text: Option<&'a [u8]>,
+}
+
+impl<'a> Words<'a> {
+    ghost use Rattle.witness_format.specs.Lines.{words_in, words_left};
+
+    /// The words of a line, which is given without its line feed.
+    pub(crate) fn new(line: &'a [u8]) -> Words<'a>
+        ensures { words_left result ≡ slice_split (λ b. b == 32) line.now }
+    {
+        Words { text: Some(line) }
+    }
+
+    /// The next word, and those behind it.
+    pub(crate) fn next(self) -> Option<(&'a [u8], Words<'a>)>
+        ensures { MatchOption result (words_left self.entry ≡ [])
+            (λ parts. words_left self.entry ≡ parts.0.now ∷ words_left parts.1) }
+    {
+        let text = self.text?;
+        match place_of(text, b' ') {
+            Some(place) => Some((&text[..place], Words::new(&text[place + 1..]))),
+            None => Some((text, Words { text: None })),
+        }
+    }
+
+    /// The words behind this one, which is to be the next.
+    pub(crate) fn after(self, expected: &[u8]) -> Option<Words<'a>>
+        ensures { Finds words_left result (after_words (expected.now ∷ []) (words_left self.entry)) }
+    {
+        let (word, others) = self.next()?;
+        if expected == word { Some(others) } else { None }
+    }
+
+    /// That there are no more words.
+    pub(crate) fn end(self) -> Option<()>
+        ensures { MatchOption result (words_left self.entry ≢ []) (λ _. words_left self.entry ≡ []) }
+    {
+        match self.next() {
+            None => Some(()),
+            Some(_) => None,
+        }
+    }
+}
+
+/// The place of the first byte of this value.
+pub(crate) fn place_of(text: &[u8], byte: u8) -> Option<usize>
+    ensures place { result ≡ position_from (λ b. b == byte) 0 text.now }
+    ensures within { IfSome result (λ i. i < length text.now) }
+{
+    text.iter().position(|b| *b == byte)
+}
+
+/// What stands before the first byte of this value and what stands after it, or all and nothing where
+/// there is no such byte.
+pub(crate) fn cut(text: &[u8], byte: u8) -> (&[u8], &[u8])
+    ensures before { result.0.now ≡ before_first (λ b. b == byte) text.now }
+    ensures after { result.1.now ≡ after_first (λ b. b == byte) text.now }
+{
+    match place_of(text, byte) {
+        Some(place) => (&text[..place], &text[place + 1..]),
+        None => (text, &[]),
+    }
+}
