@@ -4,13 +4,13 @@
 //! - `status`: how a run ends
 //! - `words`: the words of a command line
 //! - `point_file`: a file's points
-//! - `square`, `printing`: the output for one centre, and its text
+//! - `square`: the output for one centre
+//! - `cause`, `telling`: why there is no whole output, and the line that says so
 #![tactic(auto)]
 
 mod cause;
 mod command;
 mod point_file;
-mod printing;
 mod square;
 mod status;
 mod telling;
