@@ -1,15 +1,13 @@
 -- What is read line by line as an answer on centres is the reading of the text.
-use Rattle.std.proofs.Common.{◌≡◌, ◌∙◌, refl, sym, ap, subst, ℕ, ◌+◌, Bool, true, false, cond, List, [], ◌∷◌, map, codes, Option, Some, None, Result, Ok, Err}
+use Rattle.std.proofs.Common.{◌≡◌, ◌∙◌, refl, sym, ap, subst, ℕ, ◌+◌, cond, List, [], ◌∷◌, map, codes, Option, Some, None, Result, Ok, Err}
 use Rattle.std.specs.Prelude.{is_ok, IfOk, IsOkAnd}
 use Rattle.std.proofs.lemmas.List.{append-nil}
 use Rattle.bounds_model.specs.Fractions.{Fraction}
 use Rattle.bounds_model.specs.Plane.{PlaneRatio}
 use Rattle.bounds_model.specs.CentresAnswer as parts
 use Rattle.bounds_model.specs.Answers.{Answer, centres}
-use Rattle.bounds_model.specs.AnswerText.Numerals as steps
-use Rattle.bounds_model.specs.AnswerText.Lines.{words_of}
 use Rattle.bounds_model.specs.AnswerText.Fields.{Field, plane_ratio, point_number}
-use Rattle.bounds_model.specs.AnswerText.LineFormats.{LineFormat, untitled, Values, form_of}
+use Rattle.bounds_model.specs.AnswerText.LineFormats.{Values, form_of}
 use Rattle.bounds_model.specs.AnswerText.Formats.{Refusal, bad_answer, ◌>>=◌, Unread, judged, next_line, line_at, Count, Part, counted, counts_after, part_at, Body, body_at}
 use Rattle.bounds_model.specs.AnswerText.Kinds.{Kind, first_format, size_format, last_format, centres_kind, leaf}
 use Rattle.bounds_model.specs.AnswerText.Reading.{ended, answer_at, answer_of, kind_of, all_lines, reading_of}

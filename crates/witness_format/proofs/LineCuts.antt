@@ -1,5 +1,5 @@
 -- A line cut off a text, and its words.
-use Rattle.std.proofs.Common.{◌≡◌, ◌∙◌, refl, sym, ap, ℕ, suc, ◌+◌, ◌<◌, ◌≤◌, Bool, true, false, not, ◌&&◌, cond, List, [], ◌∷◌, ◌++◌, length, take, Some, Ok, Err, arith}
+use Rattle.std.proofs.Common.{◌≡◌, ◌∙◌, refl, sym, ap, ℕ, suc, ◌+◌, ◌<◌, Bool, true, false, not, ◌&&◌, cond, List, [], ◌∷◌, ◌++◌, length, take, Some, Ok, Err, arith}
 use Rattle.std.specs.Prelude.{◌==◌}
 use Rattle.std.specs.List.{list_all, concat, onto_first, slice_split, position_or_len, before_first, after_first}
 use Rattle.std.proofs.lemmas.Bool.{eqb-true}
@@ -7,7 +7,7 @@ use Rattle.std.proofs.lemmas.List.{take_all}
 use Rattle.std.proofs.lemmas.List.Splits.{length-slice_split}
 use Rattle.std.proofs.lemmas.List.Sums.{split_at_first, passes_at_first}
 use Rattle.bounds_model.specs.AnswerText.Lines.{lines_of, word_byte, words_of}
-use Rattle.bounds_model.specs.AnswerText.Formats.{Refusal, Unread, bad_answer}
+use Rattle.bounds_model.specs.AnswerText.Formats.{bad_answer}
 use Rattle.text_laws.proofs.AnswerTexts.LineLaws.{lines_at_feed, lines_without_feed, words_without_feed, concat-lines_of}
 use Rattle.witness_format.specs.Lines.{first_words, next_words, no_more}
 

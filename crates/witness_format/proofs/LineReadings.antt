@@ -1,12 +1,12 @@
 -- What is read word by word is what the formats of the model read.
-use Rattle.std.proofs.Common.{◌≡◌, ◌∙◌, refl, sym, ap, ℕ, zero, suc, ◌+◌, ◌-◌, Bool, true, false, not, ◌&&◌, List, [], ◌∷◌, map, Option, Some, None, Result, Ok, Err, arith}
+use Rattle.std.proofs.Common.{◌≡◌, ◌∙◌, refl, ap, ℕ, zero, suc, ◌+◌, ◌-◌, Bool, true, false, not, ◌&&◌, List, [], ◌∷◌, map, Option, Some, None, Result, Ok, Err, arith}
 use Rattle.std.specs.Prelude.{if◌then◌else◌}
 use Rattle.bounds_model.specs.AnswerText.Lines.{words_of}
 use Rattle.bounds_model.specs.AnswerText.Numerals as steps
 use Rattle.bounds_model.specs.AnswerText.Fields.{Field, Value, value_of, is_small, is_in_place}
 use Rattle.bounds_model.specs.AnswerText.LineFormats.{LineFormat, untitled, Values, after_words, values_of, are_small, are_in_place}
 use Rattle.bounds_model.specs.AnswerText.Formats.{Refusal, bad_answer, big_number, Unread, ◌>>=◌, judged, next_line, line_at, lines_at, Count, count_format, counted, part_at}
-use Rattle.witness_format.specs.Judging.{Judged, judged_by, both, seen, judged_field, field_at, fields_at, said}
+use Rattle.witness_format.specs.Judging.{Judged, judged_by, both, seen, judged_field, fields_at, said}
 use Rattle.witness_format.specs.Lines.{decided, numbered_words, line_by, lines_by, counted_by}
 
 -- ---- fields

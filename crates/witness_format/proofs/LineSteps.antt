@@ -1,15 +1,10 @@
 -- Lines that are read one after the other, as a loop does, and words one after the other.
-use Rattle.std.proofs.Common.{◌≡◌, ◌∙◌, refl, sym, ap, ℕ, suc, ◌+◌, ◌-◌, ◌<◌, ◌≤◌, Bool, true, false, cond, List, [], ◌∷◌, ◌++◌, append_assoc, Option, Some, None, Result, Ok, Err, arith}
+use Rattle.std.proofs.Common.{◌≡◌, ◌∙◌, refl, sym, ap, ℕ, suc, ◌+◌, ◌-◌, ◌<◌, Bool, true, false, cond, List, [], ◌∷◌, ◌++◌, append_assoc, Option, Some, None, Result, Ok, Err, arith}
 use Rattle.std.specs.Str.{bytes_eq}
-use Rattle.std.proofs.lemmas.List.{append-nil}
 use Rattle.bounds_model.specs.AnswerText.LineFormats.{after_words}
-use Rattle.bounds_model.specs.AnswerText.Formats.{Refusal, bad_answer, big_number, Unread, ◌>>=◌}
-use Rattle.bounds_model.specs.AnswerText.Kinds.{first_format}
-use Rattle.witness_format.specs.declared.fault.ReadFault.{ReadFault}
-use Rattle.witness_format.specs.declared.fault.ReadFault.TheVariants.{BadAnswer, BigNumber, OutOfMemory}
+use Rattle.bounds_model.specs.AnswerText.Formats.{Refusal, Unread, ◌>>=◌}
 use Rattle.witness_format.specs.Judging.{Judged, said}
 use Rattle.witness_format.specs.Lines.{line_by, lines_by}
-use Rattle.witness_format.specs.Outcomes.{Refuses}
 
 -- ---- lines
 

@@ -31,8 +31,15 @@ pub fn read(_alloc: Global, bytes: &[u8]) -> Result<Answer, ReadFault>
     // What is spelled so is read.
     ensures found { (a : model.CentresAnswer) → Spells bytes.now (centres a) → IsOkAnd result (λ answer. answer_of answer ≡ centres a) }
 {
-    let mut text = Unread::all(bytes);
-    read_centres(&mut text)
+    read_known(bytes)
+}
+
+/// Reads a text of one of the known kinds.
+fn read_known(bytes: &[u8]) -> Result<Answer, ReadFault>
+    requires { length bytes.now ≤ 2 ^ 23 }
+    ensures { Reads answer_of result (reading_of known_kinds bytes.now) }
+{
+    read_centres(&mut Unread::all(bytes))
 }
 
 /// Reads an answer on centres.

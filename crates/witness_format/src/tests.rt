@@ -196,10 +196,10 @@ fn refused_texts(rt: HostRuntime) {
     }
 }
 
-/// A text of the greatest length that begins so, goes on with this byte, and ends so.
+/// A text of almost the greatest length that begins so, goes on with this byte, and ends so.
 fn long_text(alloc: Global, front: &[u8], byte: u8, end: &[u8]) -> Result<Vec<u8>, AllocError> {
     let mut text = Vec::from_slice(alloc, front)?;
-    while text.len() < (1 << 23) - 32 {
+    for _ in 0..(1 << 23) - 64 {
         text.push(byte)?;
     }
     text.extend_from_slice(end)?;

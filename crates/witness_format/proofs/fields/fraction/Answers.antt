@@ -3,7 +3,9 @@ use Rattle.std.specs.Int.{w128}
 use Rattle.std.specs.Option.{option_map}
 use Rattle.std.proofs.lemmas.Int.{to_z-of_z}
 use Rattle.bounds_model.specs.AnswerText.Numerals.{whole_number}
+use Rattle.bounds_model.specs.AnswerText.Fields.{fraction}
 use Rattle.witness_format.specs.Clamps.{clamped}
+use Rattle.witness_format.specs.Judging.{judged_field}
 use Rattle.witness_format.specs.Lines.{words_left}
 use Rattle.witness_format.proofs.Clamping.{fraction_at}
 use Rattle.witness_format.proofs.fields.fraction.Goals as goal
@@ -12,7 +14,7 @@ pub returns : goal.returns
 returns c =
     let fits_n : FitsSigned w128 c.in_ok-n.n = search rules in
     let fits_d : FitsSigned w128 c.in_ok-d.d = search rules in
-    let judged = simp to_z-of_z at c.judged_fraction.ensures in
+    let judged : c.judged_fraction.result ≡ judged_field fraction (record { n = c.in_ok-n.n; d = c.in_ok-d.d }) = simp to_z-of_z at c.judged_fraction.ensures in
     fraction_at c.in_ok-word.word.now (words_left c.args.words) (words_left c.in_ok-word.others) c.in_ok-n.n c.in_ok-d.d c.in_ok-word.ensures
     (c.in_ok-n.ensures ∙ ap (λ w. option_map clamped (whole_number w)) c.cut.ensures.before) (c.in_ok-d.ensures ∙ ap (λ w. option_map clamped (whole_number w)) c.cut.ensures.after)
-    ∙ ap (λ j. Some (j, words_left c.in_ok-word.others)) (sym judged)
+    ∙ sym (ap (λ j. Some (j, words_left c.in_ok-word.others)) judged)

@@ -1,4 +1,4 @@
-use Rattle.std.proofs.Common.{arith, ap, take, ◌+◌, ◌≡◌, ◌∙◌, length, drop}
+use Rattle.std.proofs.Common.{arith, ap, take, ◌≡◌, length}
 use Rattle.std.proofs.lemmas.Grind.{common_steps}
 use Rattle.std.specs.Prelude.{◌==◌}
 use Rattle.std.specs.List.{position_or_len}

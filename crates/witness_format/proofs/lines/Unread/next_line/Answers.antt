@@ -2,8 +2,6 @@ use Rattle.std.proofs.Common.{◌≡◌, ◌∙◌, sym, ap, ◌+◌, ◌-◌, �
 use Rattle.std.specs.List.{slice_split, position_or_len}
 use Rattle.std.proofs.lemmas.List.{take_all}
 use Rattle.bounds_model.specs.AnswerText.Lines.{lines_of}
-use Rattle.bounds_model.specs.AnswerText.Formats as model
-use Rattle.witness_format.specs.Lines.{words_left}
 use Rattle.witness_format.proofs.Places.{place_found, place_missing}
 use Rattle.witness_format.proofs.LineCuts.{is_feed, is_blank, next_words-cut, next_words-refused}
 use Rattle.witness_format.proofs.lines.Unread.next_line.Goals as goal
