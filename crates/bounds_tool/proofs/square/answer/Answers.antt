@@ -1,9 +1,8 @@
-use Rattle.std.proofs.Common.{arith, rules, ◌≡◌, ◌∙◌, sym, ap, subst, pos, ◌+ℤ◌, ◌*ℤ◌, SFits, w32, [], ◌∷◌, ◌++◌}
+use Rattle.std.proofs.Common.{arith, rules, ◌≡◌, ◌∙◌, sym, ap, subst, SFits, w32, [], ◌∷◌, ◌++◌}
 use Rattle.std.specs.Int.{w128}
 use Rattle.std.proofs.lemmas.Int.{to_z-of_z}
 use Rattle.bounds_model.specs.Numbers.{IsWithin}
-use Rattle.bounds_model.specs.Places.{IsFraction, IsPlaneRatio}
-use Rattle.bounds_tool.specs.Squares.{half_of, centre_of, fraction_of}
+use Rattle.bounds_tool.specs.Squares.{half_of, centre_of}
 use Rattle.bounds_tool.proofs.Outputs.{within_more, centre_within, size_kept, place_kept, centre_given, ratio_at, answer_parts}
 use Rattle.bounds_tool.proofs.square.answer.Goals as goal
 
