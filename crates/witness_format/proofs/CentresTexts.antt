@@ -36,11 +36,6 @@ viewed-then : {A B C : Type 0} (view : A → B) (read : Result (A × Unread) Ref
 viewed-then view (Ok x) f g same = same x.0 x.1
 viewed-then view (Err refusal) f g same = refl
 
--- one step after another, grouped in two ways
-grouped : {A B C : Type 0} (read : Result A Refusal) (f : A → Result B Refusal) (g : B → Result C Refusal) → ((read >>= f) >>= g) ≡ (read >>= λ x. f x >>= g)
-grouped (Ok x) f g = refl
-grouped (Err refusal) f g = refl
-
 -- nothing follows the last line
 ended_here : (answer : Answer) (number : ℕ) (lines : List (List ℕ)) → (no_more number lines >>= λ end. Ok answer) ≡ ended answer number lines
 ended_here answer number [] = refl

@@ -8,6 +8,6 @@ pub enum ReadFault {
     BadAnswer(u32),
     /// A number on the line of this number is past the limit.
     BigNumber(u32),
-    /// Memory was refused. It comes for no answer that holds all of its parts in itself.
+    /// Memory was refused. An answer on centres holds its parts in itself, so that this does not come for it.
     OutOfMemory,
 }

@@ -1,5 +1,5 @@
 //! The one text of an answer, line by line.
-ghost use Rattle.std.specs.Prelude.{◌≡◌, ◌<◌, ◌^◌, ℕ, List, ◌++◌, length, decimal, codes, IfOk, OnOk};
+ghost use Rattle.std.specs.Prelude.{◌≡◌, ℕ, List, ◌++◌, length, decimal, codes, IfOk, OnOk};
 ghost use Rattle.std.specs.Fmt.{signed_decimal};
 ghost use Rattle.std.specs.List.{flat_map};
 ghost use Rattle.bounds_model.specs.Answers.{HasPlaces};
@@ -104,7 +104,6 @@ fn push_count(text: &mut Vec<u8>, word: &[u8], count: usize) -> Result<(), Alloc
 
 /// A word and a number of lines, and these lines.
 fn push_counted<T: TextLine>(text: &mut Vec<u8>, word: &[u8], lines: &[T]) -> Result<(), AllocError>
-    requires { length lines.now < 2 ^ 32 }
     ensures { OnOk result (text.new.items ≡ text.old.items ++ count_line word.now (length lines.now) ++ flat_map T.spelled lines.now) }
 {
     push_count(text, word, lines.len())?;

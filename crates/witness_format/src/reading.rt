@@ -22,7 +22,8 @@ use exact_fractions::Frac;
 use std::alloc::Global;
 
 /// Reads an answer text. The first line that is refused decides, and on one line its form goes before a
-/// number past the limit, and that before a number outside the range of its place.
+/// number past the limit, and that before a number outside the range of its place. Nothing is allocated for
+/// an answer on centres.
 pub fn read(_alloc: Global, bytes: &[u8]) -> Result<Answer, ReadFault>
     requires { length bytes.now ≤ 2 ^ 23 }
     ensures reading { Reads answer_of result (reading_of known_kinds bytes.now) }
