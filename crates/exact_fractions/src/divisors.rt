@@ -75,7 +75,7 @@ fn gcd_of_odd_64(a: u64, b: u64) -> u64
 }
 
 /// The number over one of its divisors.
-pub(crate) fn quotient(n: i128, divisor: u128) -> i128
+pub fn quotient(n: i128, divisor: u128) -> i128
     requires number { IsNumber n }
     requires divisor { IsDivisorOf divisor n }
     ensures { pos divisor *ℤ result ≡ n }

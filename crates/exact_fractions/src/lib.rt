@@ -12,7 +12,7 @@ mod space;
 #[cfg(test)]
 mod tests;
 
-pub use divisors::gcd;
+pub use divisors::{gcd, quotient};
 pub use fraction::Frac;
 pub use plane::Homog2;
 pub use space::Homog3;

@@ -1,6 +1,9 @@
 -- Points and vectors by their coordinates.
-use Rattle.std.proofs.Common.{◌≡◌, ap, ap₂, ◌∙◌, ℤ}
-use Rattle.bounds_model.specs.Space.{SpacePoint}
+use Rattle.std.proofs.Common.{◌≡◌, refl, ap, ap₂, ◌∙◌, ℤ, zero, suc, pos, negsuc, ◌*ℤ◌, ◌<ℤ◌, ◌≤ℤ◌, ◌⊎◌, inl, inr, arith}
+use Rattle.std.proofs.lemmas.Int.{ints, by_lt_z}
+use Rattle.integers.specs.Size.{Size}
+use Rattle.integers.proofs.Order.{square_nonneg, square_positive}
+use Rattle.bounds_model.specs.Space.{SpacePoint, origin, squared_length}
 use Rattle.kernel_laws.specs.Signs.{determinant}
 
 -- points with equal coordinates are equal
@@ -12,3 +15,24 @@ same_point {a} {b} {c} {d} {e} {f} h k l =
 -- determinants of equal vectors are equal
 pub same_determinant : {a b c d e f : SpacePoint} → a ≡ d → b ≡ e → c ≡ f → determinant a b c ≡ determinant d e f
 same_determinant {a} {b} {c} {d} {e} {f} h k l = ap (λ v. determinant v b c) h ∙ ap₂ (λ v w. determinant d v w) k l
+
+-- 0 and 1 are at most 1
+pub square_size : {q : ℤ} → (q ≡ pos 0) ⊎ (q ≡ pos 1) → Size 1 q
+square_size (inl e) = record { abs = omega (arith, ints) }
+square_size (inr e) = record { abs = omega (arith, ints) }
+
+zero_of_square : (z : ℤ) → (z *ℤ z) ≤ℤ pos 0 → z ≡ pos 0
+zero_of_square (pos zero) h = refl
+zero_of_square (pos (suc n)) h = let p : pos 0 <ℤ (pos (suc n) *ℤ pos (suc n)) = square_positive (pos (suc n)) (λ e. absurd (cc)) in absurd (omega (arith, ints))
+zero_of_square (negsuc n) h = let p : pos 0 <ℤ (negsuc n *ℤ negsuc n) = square_positive (negsuc n) (λ e. absurd (cc)) in absurd (omega (arith, ints))
+
+-- a vector that is not zero has a squared length above 0
+pub squared_length_positive : (v : SpacePoint) → (v ≡ origin → ⊥) → pos 0 <ℤ squared_length v
+squared_length_positive v h =
+    by_lt_z (pos 0) (squared_length v)
+    (λ above. above)
+    (λ most.
+    let xx = square_nonneg v.x in
+    let yy = square_nonneg v.y in
+    let zz = square_nonneg v.z in
+    absurd (h (same_point (zero_of_square v.x (omega (arith, ints))) (zero_of_square v.y (omega (arith, ints))) (zero_of_square v.z (omega (arith, ints))))))

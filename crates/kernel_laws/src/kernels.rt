@@ -1,9 +1,14 @@
 //! The plane and the space.
-ghost use Rattle.std.specs.Prelude.{◌≡◌, ◌⊎◌, ◌^◌, ℕ, pos};
+ghost use Rattle.std.specs.Prelude.{◌≡◌, ◌↔◌, ◌⊎◌, ◌^◌, ℕ, pos};
 ghost use Rattle.bounds_model.specs.Space.{SpacePoint, vector, dot as product};
-ghost use Rattle.kernel_laws.specs.Vectors.{vector_of};
+ghost use Rattle.bounds_model.specs.Potentials.{AreAffinelyDependent};
+ghost use Rattle.kernel_laws.specs.Vectors.{vector_of, vectors_of};
+ghost use Rattle.kernel_laws.specs.Solutions.{AreItems, weight_limit};
+ghost use Rattle.kernel_laws.specs.Answers.{Answers, IsNull};
 ghost use Rattle.kernel_laws.specs.Limits.{IsVectorWithin, IsDifference};
 
+use crate::potentials::Potential;
+use crate::solver::{Solved, solve};
 use crate::vectors::Vector;
 use bounded_coords::{Point2, Point3};
 
@@ -29,6 +34,12 @@ pub trait Kernel: Copy {
         requires a { IsVectorWithin (2 ^ 62) (vector_of a) }
         requires b { IsVectorWithin (2 ^ 62) (vector_of b) }
         ensures { result ≡ product (vector_of a) (vector_of b) };
+
+    /// The weights of equal potentials for 1 to DIM + 2 items, or, exactly where they are affinely dependent, numbers that show it.
+    fn solve<T: Potential>(&self, items: &[Vector]) -> Solved
+        requires { AreItems T.SQUARE DIM (vectors_of items.now) }
+        ensures answer { Answers T.SQUARE (weight_limit T.SQUARE DIM) (vectors_of items.now) result }
+        ensures null { IsNull result ↔ AreAffinelyDependent (vectors_of items.now) };
 
     ghost two_or_three: { (DIM ≡ 2) ⊎ (DIM ≡ 3) };
 
@@ -67,6 +78,10 @@ impl Kernel for Plane {
         products(a, b)
     }
 
+    fn solve<T: Potential>(&self, items: &[Vector]) -> Solved {
+        solve::<T>(2, items)
+    }
+
     ghost two_or_three = { inl refl };
 
     ghost flat = { λ p h. refl };
@@ -95,13 +110,17 @@ impl Kernel for Space {
         products(a, b)
     }
 
+    fn solve<T: Potential>(&self, items: &[Vector]) -> Solved {
+        solve::<T>(3, items)
+    }
+
     ghost two_or_three = { inr refl };
 
     ghost flat = { λ p h. absurd (Prim.omega arith) };
 }
 
 /// The sum of the products of the coordinates.
-fn products(a: Vector, b: Vector) -> i128
+pub(crate) fn products(a: Vector, b: Vector) -> i128
     requires a { IsVectorWithin (2 ^ 62) (vector_of a) }
     requires b { IsVectorWithin (2 ^ 62) (vector_of b) }
     ensures { result ≡ product (vector_of a) (vector_of b) }

@@ -4,18 +4,24 @@
 //! - `kernels`: the plane and the space
 //! - `potentials`: the two kinds of potentials
 //! - `signs`: on which side of a line, a plane or a circle a point lies
+//! - `solver`: weights of equal potentials, or numbers that show a dependence; below it `weights`, `lists` and `arithmetic`
 //! - `laws`: the laws of signs
 #![tactic(auto)]
 
+mod arithmetic;
 mod kernels;
 pub mod laws;
+mod lists;
 mod potentials;
 mod signs;
+mod solver;
 #[cfg(test)]
 mod tests;
 mod vectors;
+mod weights;
 
 pub use kernels::{Kernel, Plane, Space};
 pub use potentials::{BallPotential, NormPotential, Potential};
 pub use signs::{Sign, orient2, orient3, side};
+pub use solver::Solved;
 pub use vectors::{Sum, Vector};

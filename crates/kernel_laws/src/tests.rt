@@ -3,8 +3,8 @@ ghost use Rattle.std.specs.Prelude.{◌≡◌};
 ghost use Rattle.bounds_model.specs.Space.{vector, squared_length};
 
 use crate::{
-    BallPotential, Kernel, NormPotential, Plane, Potential, Sign, Space, Sum, Vector, orient2,
-    orient3, side,
+    BallPotential, Kernel, NormPotential, Plane, Potential, Sign, Solved, Space, Sum, Vector,
+    orient2, orient3, side,
 };
 use bounded_coords::{Point2, Point3};
 
@@ -88,4 +88,187 @@ fn sides_of_a_circle(rt: HostRuntime) {
     ] {
         assert!(rt; side_of_small_circle(x, y) == want, "at ({x}, {y})");
     }
+}
+
+/// Whether these are the weights.
+fn has_weights(solved: &Solved, want: &[i128]) -> bool {
+    match solved {
+        Solved::Weights(weights) => weights.as_slice() == want,
+        Solved::Null(_) => false,
+    }
+}
+
+/// Whether these numbers show that the items are dependent.
+fn is_shown_by(solved: &Solved, want: &[i128]) -> bool {
+    match solved {
+        Solved::Weights(_) => false,
+        Solved::Null(numbers) => numbers.as_slice() == want,
+    }
+}
+
+#[test]
+fn weights_in_the_plane(rt: HostRuntime) {
+    let o = Vector { x: 0, y: 0, z: 0 };
+    assert!(rt; has_weights(&Plane.solve::<BallPotential>(&[o]), &[1]));
+    assert!(rt;
+        has_weights(
+            &Plane.solve::<BallPotential>(&[o, Vector { x: 6, y: 2, z: 0 }]),
+            &[1, 1]
+        )
+    );
+    // a right angle, and an obtuse one
+    assert!(rt;
+        has_weights(
+            &Plane.solve::<BallPotential>(&[
+                o,
+                Vector { x: 4, y: 0, z: 0 },
+                Vector { x: 0, y: 2, z: 0 }
+            ]),
+            &[0, 1, 1]
+        )
+    );
+    assert!(rt;
+        has_weights(
+            &Plane.solve::<BallPotential>(&[
+                o,
+                Vector { x: 6, y: 0, z: 0 },
+                Vector { x: 3, y: 1, z: 0 }
+            ]),
+            &[5, 5, -8]
+        )
+    );
+    assert!(rt;
+        has_weights(
+            &Plane.solve::<BallPotential>(&[
+                Vector {
+                    x: -200000,
+                    y: 200000,
+                    z: 0
+                },
+                Vector {
+                    x: 200000,
+                    y: 200000,
+                    z: 0
+                },
+                Vector {
+                    x: -200000,
+                    y: -200000,
+                    z: 0
+                }
+            ]),
+            &[0, 1, 1]
+        )
+    );
+    // both turns
+    assert!(rt;
+        has_weights(
+            &Plane.solve::<NormPotential>(&[
+                Vector { x: 1, y: 0, z: 0 },
+                Vector { x: -1, y: 1, z: 0 },
+                Vector { x: -1, y: -1, z: 0 }
+            ]),
+            &[2, 1, 1]
+        )
+    );
+    assert!(rt;
+        has_weights(
+            &Plane.solve::<NormPotential>(&[
+                Vector { x: 1, y: 0, z: 0 },
+                Vector { x: -1, y: -1, z: 0 },
+                Vector { x: -1, y: 1, z: 0 }
+            ]),
+            &[2, 1, 1]
+        )
+    );
+}
+
+#[test]
+fn weights_in_space(rt: HostRuntime) {
+    let (x, y, z) = (
+        Vector { x: 1, y: 0, z: 0 },
+        Vector { x: 0, y: 1, z: 0 },
+        Vector { x: 0, y: 0, z: 1 },
+    );
+    assert!(rt;
+        has_weights(
+            &Space.solve::<NormPotential>(&[
+                Vector { x: 1, y: 0, z: 0 },
+                Vector { x: 0, y: 2, z: 0 }
+            ]),
+            &[4, 1]
+        )
+    );
+    assert!(rt; has_weights(&Space.solve::<BallPotential>(&[x, y, z]), &[1, 1, 1]));
+    assert!(rt; has_weights(&Space.solve::<NormPotential>(&[x, y, z]), &[1, 1, 1]));
+    let (p, q, r, s) = (
+        Vector { x: 1, y: 1, z: 1 },
+        Vector { x: 1, y: -1, z: -1 },
+        Vector { x: -1, y: 1, z: -1 },
+        Vector { x: -1, y: -1, z: 1 },
+    );
+    assert!(rt; has_weights(&Space.solve::<BallPotential>(&[p, q, r, s]), &[1, 1, 1, 1]));
+    assert!(rt; has_weights(&Space.solve::<NormPotential>(&[p, q, r, s]), &[1, 1, 1, 1]));
+    assert!(rt; has_weights(&Space.solve::<NormPotential>(&[p, r, q, s]), &[1, 1, 1, 1]));
+    let (a, b, c, d) = (
+        Vector {
+            x: -8000,
+            y: -8000,
+            z: -8000,
+        },
+        Vector {
+            x: 8000,
+            y: -8000,
+            z: -8000,
+        },
+        Vector {
+            x: -8000,
+            y: 8000,
+            z: -8000,
+        },
+        Vector {
+            x: -8000,
+            y: -8000,
+            z: 8000,
+        },
+    );
+    assert!(rt; has_weights(&Space.solve::<BallPotential>(&[a, b, c, d]), &[-1, 1, 1, 1]));
+}
+
+#[test]
+fn numbers_of_dependent_items(rt: HostRuntime) {
+    let o = Vector { x: 0, y: 0, z: 0 };
+    let (x, y, z) = (
+        Vector { x: 1, y: 0, z: 0 },
+        Vector { x: 0, y: 1, z: 0 },
+        Vector { x: 0, y: 0, z: 1 },
+    );
+    assert!(rt; is_shown_by(&Plane.solve::<BallPotential>(&[o, o]), &[1, -1]));
+    assert!(rt;
+        is_shown_by(
+            &Plane.solve::<BallPotential>(&[
+                o,
+                Vector { x: 1, y: 1, z: 0 },
+                Vector { x: 2, y: 2, z: 0 }
+            ]),
+            &[-2, 4, -2]
+        )
+    );
+    assert!(rt;
+        is_shown_by(
+            &Plane.solve::<BallPotential>(&[o, x, y, Vector { x: 1, y: 1, z: 0 }]),
+            &[-1, 1, 1, -1]
+        )
+    );
+    assert!(rt;
+        is_shown_by(
+            &Space.solve::<BallPotential>(&[o, x, y, Vector { x: 1, y: 1, z: 0 }]),
+            &[-1, 1, 1, -1]
+        )
+    );
+    assert!(rt;
+        is_shown_by(
+            &Space.solve::<BallPotential>(&[o, x, y, z, Vector { x: 1, y: 1, z: 1 }]),
+            &[-2, 1, 1, 1, -1]
+        )
+    );
 }

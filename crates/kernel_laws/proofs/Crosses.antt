@@ -1,0 +1,51 @@
+-- The sizes of cross products and triple products in space.
+use Rattle.std.proofs.Common.{◌≡◌, ◌∙◌, ap, ap₂, ℕ, ◌^◌, ℤ, pos, ◌-ℤ◌, List, [], ◌∷◌, FitsSigned, of_z, arith}
+use Rattle.std.proofs.lemmas.Int.{ints}
+use mir.Syntax.{w128}
+use Rattle.integers.specs.Size.{Size}
+use Rattle.integers.proofs.MachineArithmetic.{Given, given, with_inputs, codes, size_within}
+use Rattle.bounds_model.specs.Space.{SpacePoint, dot}
+use Rattle.kernel_laws.specs.Limits.{IsVectorWithin}
+use Rattle.kernel_laws.specs.Systems.{cross}
+
+abbrev inputs : {u v : SpacePoint} {m n : ℕ} → IsVectorWithin m u → IsVectorWithin n v → List Given
+inputs u v = given u.x ∷ given u.y ∷ given u.z ∷ given v.x ∷ given v.y ∷ given v.z ∷ []
+
+-- of two differences
+pub cross_within : (u v : SpacePoint) → IsVectorWithin 32000 u → IsVectorWithin 32000 v → IsVectorWithin (2 ^ 31) (cross u v)
+cross_within u v hu hv = record {
+  x = with_inputs (inputs hu hv) (λ xs h a b c d e f. simp (a, b, c, d, e, f, codes) (size_within xs h _ tt));
+  y = with_inputs (inputs hu hv) (λ xs h a b c d e f. simp (a, b, c, d, e, f, codes) (size_within xs h _ tt));
+  z = with_inputs (inputs hu hv) (λ xs h a b c d e f. simp (a, b, c, d, e, f, codes) (size_within xs h _ tt));
+}
+
+-- the product of a centre and a cross product
+pub product_within : (m n : SpacePoint) → IsVectorWithin (2 ^ 75) m → IsVectorWithin (2 ^ 31) n → Size (2 ^ 110) (dot m n)
+product_within m n hm hn = with_inputs (inputs hm hn) (λ xs h a b c d e f. simp (a, b, c, d, e, f, codes) (size_within xs h _ tt))
+
+-- the product of a cross product and a difference
+pub small_product : (m n : SpacePoint) → IsVectorWithin (2 ^ 31) m → IsVectorWithin 32000 n → Size (2 ^ 50) (dot m n)
+small_product m n hm hn = with_inputs (inputs hm hn) (λ xs h a b c d e f. simp (a, b, c, d, e, f, codes) (size_within xs h _ tt))
+
+-- the triple product of three differences
+pub volume_within : (u v w : SpacePoint) → IsVectorWithin 32000 u → IsVectorWithin 32000 v → IsVectorWithin 32000 w → Size (2 ^ 50) (dot (cross u v) w)
+volume_within u v w hu hv hw = small_product (cross u v) w (cross_within u v hu hv) hw
+
+-- the product of two cross products
+pub cross_product_within : (m n : SpacePoint) → IsVectorWithin (2 ^ 31) m → IsVectorWithin (2 ^ 31) n → Size (2 ^ 64) (dot m n)
+cross_product_within m n hm hn = with_inputs (inputs hm hn) (λ xs h a b c d e f. simp (a, b, c, d, e, f, codes) (size_within xs h _ tt))
+
+-- the list of four weights, by equal parts
+pub four_numbers : {t p q s u x y z : ℤ} → t ≡ u → p ≡ x → q ≡ y → s ≡ z → (let ws : List ℤ = (t -ℤ p -ℤ q -ℤ s) ∷ p ∷ q ∷ s ∷ [] in ws) ≡ (u -ℤ x -ℤ y -ℤ z) ∷ x ∷ y ∷ z ∷ []
+four_numbers {t} {p} {q} {s} {u} {x} {y} {z} e f g h =
+    let first : (let ws : List ℤ = (t -ℤ p -ℤ q -ℤ s) ∷ p ∷ q ∷ s ∷ [] in ws) ≡ (u -ℤ p -ℤ q -ℤ s) ∷ p ∷ q ∷ s ∷ [] = ap (λ t. (t -ℤ p -ℤ q -ℤ s) ∷ p ∷ q ∷ s ∷ []) e in
+    let second : (let ws : List ℤ = (u -ℤ p -ℤ q -ℤ s) ∷ p ∷ q ∷ s ∷ [] in ws) ≡ (u -ℤ x -ℤ q -ℤ s) ∷ x ∷ q ∷ s ∷ [] = ap (λ p. (u -ℤ p -ℤ q -ℤ s) ∷ p ∷ q ∷ s ∷ []) f in
+    first ∙ second ∙ ap₂ (λ q s. (u -ℤ x -ℤ q -ℤ s) ∷ x ∷ q ∷ s ∷ []) g h
+
+-- a number that code found to be 0
+pub zero_from : {z : ℤ} → FitsSigned w128 z → of_z w128 z ≡ 0 → z ≡ pos 0
+zero_from f e = omega (arith, ints)
+
+-- or not to be 0
+pub not_zero_from : {z : ℤ} → FitsSigned w128 z → (of_z w128 z ≡ 0 → ⊥) → z ≡ pos 0 → ⊥
+not_zero_from f h e = h (ap (of_z w128) e)
