@@ -33,4 +33,3 @@ pub mod AnswerText
 pub mod PointText
 pub mod Demo
 pub mod ErrorLines
-pub mod Words
