@@ -10,11 +10,10 @@ use Rattle.bounds_model.specs.PointText as text
 use Rattle.bounds_model.specs.PointText.{sets_of_text}
 use Rattle.bounds_model.specs.AnswerText.Formats as format
 use Rattle.bounds_model.specs.AnswerText.Reading.{reading_of}
-use Rattle.bounds_model.specs.Demo.{demo_sets}
 use Rattle.bounds_model.specs.ErrorLines.{Cause, InputFile, points_file, answer_file, words_not_understood, too_long, bad_line, out_of_range, too_many_points, no_points, wrong_sets, bad_answer, big_number}
 use Rattle.witness_format.specs.Kinds.{known_kinds}
 use Rattle.bnd_io.specs.Files.{Folder, bytes_of}
-use Rattle.bounds_tool.specs.Words.{Task, solve_task, check_task, demo_task, task_of}
+use Rattle.bounds_tool.specs.Words.{Task, solve_task, check_task, task_of}
 
 -- one step after another, up to the first cause
 infixl 10 ◌>>=◌
@@ -24,20 +23,17 @@ abbrev pub ◌>>=◌ : {A B : Type 0} → Result A Cause → (A → Result B Cau
 
 -- what is to be done with accepted files
 pub data Work : Type 0 where
-  solving : Ask → Sets → Work              -- to answer what is asked of these points
-  checking : Ask → Sets → Answer → Work    -- to judge this answer
-  demonstrating : Ask → ℕ → Sets → Work    -- to answer what is asked of these points, which were made, so many in each set
+  solving : Ask → Sets → Work  -- to answer what is asked of these points
+  checking : Ask → Sets → Answer → Work  -- to judge this answer
 
 -- the most bytes of a point file, and of an answer file
-abbrev pub point_file_limit : ℕ
-point_file_limit = 2 ^ 21
-
-abbrev pub answer_file_limit : ℕ
-answer_file_limit = 2 ^ 23
+abbrev pub limit_of : InputFile → ℕ
+limit_of points_file = 2 ^ 21
+limit_of answer_file = 2 ^ 23
 
 -- the length of a file is judged before its text
-abbrev pub bytes_within : ℕ → InputFile → List ℕ → Result (List ℕ) Cause
-bytes_within limit file bytes = if nat_le (length bytes) limit then Ok bytes else Err (too_long file)
+abbrev pub bytes_within : InputFile → List ℕ → Result (List ℕ) Cause
+bytes_within file bytes = if nat_le (length bytes) (limit_of file) then Ok bytes else Err (too_long file)
 
 -- why a text of points is refused
 abbrev pub points_cause : text.Refusal → Cause
@@ -63,13 +59,13 @@ read_answer (Err refusal) = Err (answer_cause refusal)
 -- the points of a point file, for what is asked
 abbrev pub points_in : Ask → List ℕ → Result Sets Cause
 points_in ask bytes = do
-  whole ← bytes_within point_file_limit points_file bytes
+  whole ← bytes_within points_file bytes
   read_points (sets_of_text ask whole)
 
 -- the answer of an answer file
 abbrev pub answer_in : List ℕ → Result Answer Cause
 answer_in bytes = do
-  whole ← bytes_within answer_file_limit answer_file bytes
+  whole ← bytes_within answer_file bytes
   read_answer (reading_of known_kinds whole)
 
 -- the work of a task: the point file is judged whole before the answer file
@@ -81,7 +77,6 @@ work_of folder (check_task ask points answer) = do
   sets ← points_in ask (bytes_of folder points)
   a ← answer_in (bytes_of folder answer)
   Ok (checking ask sets a)
-work_of folder (demo_task ask seed count) = Ok (demonstrating ask count (demo_sets ask seed count))
 
 -- the work that the words call for, which are judged before any file
 abbrev pub judge_task : Folder → Option Task → Result Work Cause
