@@ -11,6 +11,7 @@
 
 mod cause;
 mod command;
+mod demo_points;
 mod output;
 mod reading;
 mod solving;
@@ -19,8 +20,6 @@ mod telling;
 mod words;
 
 pub use command::run;
+pub use demo_points::make;
 pub use solving::{KgonFault, solve};
 pub use status::Status;
-
-#[cfg(test)]
-mod tests;
