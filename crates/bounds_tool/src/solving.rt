@@ -7,9 +7,9 @@ ghost use Rattle.witness_format.specs.Answers.{answer_of};
 ghost use Rattle.bounds_tool.specs.Kinds.{IsSolved};
 ghost use Rattle.bounds_tool.specs.Solving.{point_count};
 
-use p_centres::centres;
 use bounded_coords::{Ask, Sets, Steps};
 use optimality::answer::passing_answers_are_best;
+use p_centres::centres;
 use std::alloc::Global;
 use std::sync::ledger::Ledger;
 use witness_format::Answer;

@@ -66,7 +66,7 @@ fn judged_answers(rt: HostRuntime) -> Result<(), Fail> {
         (
             &circle,
             triangle,
-            b"answer 1 circle\nsize 25/4\ncenter 4 4 2\nsupports 2\n1 1\n2 1\nend\n",
+            b"answer 1 circle\nsize 25/4\ncenter 5 3 2\nsupports 2\n1 1\n2 1\nend\n",
             false,
         ),
         (
