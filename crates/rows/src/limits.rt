@@ -7,7 +7,7 @@ use std::test::Fail;
 #[test]
 fn files_at_their_limits(rt: HostRuntime) -> Result<(), Fail> {
     let alloc = rt.alloc();
-    let solve: [&str; 4] = ["centres", "a", "--p", "1"];
+    let solve: [&str; 2] = ["circle", "a"];
     let check: [&str; 5] = ["check", "a", "b", "--kind", "circle"];
     let comment = vec![in alloc; b'#'; 8_388_609]?;
     let mut many = Vec::new(alloc);
