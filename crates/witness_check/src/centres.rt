@@ -1,7 +1,7 @@
 //! Centres: squares of one size that cover the points, and leaves which show that no smaller ones do.
 ghost use Rattle.std.specs.Prelude.{◌≡◌, ◌↔◌, ◌<◌, ◌*ℤ◌, ◌-ℤ◌, ◌≤ℤ◌, pos, nat_abs, length, map, All, Any, IsTrue};
-ghost use Rattle.bounds_model.specs.Numbers.{IsWithin};
-ghost use Rattle.bounds_model.specs.Plane.{plane_limit, point_at};
+ghost use Rattle.integers.specs.Size.{Size};
+ghost use Rattle.bounds_model.specs.Plane.{point_at};
 ghost use Rattle.bounds_model.specs.Asks.{ask_centres, plane};
 ghost use Rattle.bounds_model.specs.Answers.{Passes, IsBest, centres};
 ghost use Rattle.bounds_model.specs.Centres.{IsNear};
@@ -104,8 +104,19 @@ fn is_near(p: &Point2, c: &Homog2, radius: &Frac) -> bool
 {
     let (w, d) = (c.w() as i64, radius.den() as i64);
     let reach = radius.num() as i64 * w;
-    (w * p.x() as i64 - c.x() as i64).abs() * d <= reach
-        && (w * p.y() as i64 - c.y() as i64).abs() * d <= reach
+    is_in_reach(i64::from(p.x()), c.x() as i64, w, d, reach)
+        && is_in_reach(i64::from(p.y()), c.y() as i64, w, d, reach)
+}
+
+/// Whether a coordinate, times w, is at most reach / d away from the centre's numerator over w.
+fn is_in_reach(coordinate: i64, centre: i64, w: i64, d: i64, reach: i64) -> bool
+    requires coordinate { Size 200000 coordinate }
+    requires centre { Size 1000000 centre }
+    requires w { Size 2 w }
+    requires d { Size 2 d }
+    ensures { IsTrue result ↔ ((pos (nat_abs (w *ℤ coordinate -ℤ centre)) *ℤ d) ≤ℤ reach) }
+{
+    (w * coordinate - centre).abs() * d <= reach
 }
 
 // ---- the leaves
