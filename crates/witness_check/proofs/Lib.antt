@@ -1,2 +1,4 @@
+pub mod CentresPassing
+pub mod Leaves
 pub mod Narrowing
 pub mod Passing

@@ -1,8 +1,12 @@
 -- Lists of which each element, or none, has a property, one element after another.
-use Rattle.std.proofs.Common.{◌≡◌, sym, subst, ap, ◌∙◌, ℕ, ◌+◌, ◌<◌, ◌≤◌, ◌⊎◌, inl, inr, arith, List, length, get_or}
-use Rattle.std.specs.Prelude.{slice_get, Some}
-use Rattle.std.proofs.lemmas.List.{get_or_default}
+use Rattle.std.proofs.Common.{◌≡◌, sym, subst, ap, ◌∙◌, ℕ, ◌+◌, ◌<◌, ◌≤◌, ◌⊎◌, inl, inr, arith, Bool, true, false, List, length, get_or}
+use Rattle.std.specs.Prelude.{slice_get, Some, All, map}
+use Rattle.std.proofs.lemmas.List.{get_or_default, get_or-map, length-map}
 use Rattle.std.proofs.lemmas.Option.{get_or_from_slice_get}
+
+-- no test answers both
+pub clash : {b : Bool} → b ≡ true → b ≡ false → ⊥
+clash is is_not = cc
 
 below_or_at : (k i : ℕ) → k < i + 1 → (k < i) ⊎ (k ≡ i)
 below_or_at k i h = grind arith
@@ -22,3 +26,8 @@ each_more P xs i x is before here k d low = elim (below_or_at k i low) [
   | inl less ↦ before k d less
   | inr same ↦ subst P (sym (ap (λ j. get_or xs j d) same ∙ get_or_from_slice_get xs i x d is)) here
 ]
+
+-- what all elements have as they are seen by a view, those that are seen have
+pub All-unmap : {X Y : Type 0} (P : Y → Type 0) (f : X → Y) (xs : List X) → All P (map f xs) → All (λ x. P (f x)) xs
+All-unmap P f xs all k d below =
+    subst P (get_or-map f xs k d (f d) below) (all k (f d) (subst (λ n. k < n) (sym (length-map xs f)) below))

@@ -1,2 +1,2 @@
+pub mod CentresLimits
 pub mod Kinds
-pub mod Radii
