@@ -42,10 +42,9 @@ passes points a few squares leaves limits tight = record {
 pub passes_within_limits : {count : ℕ} (points : List PlanePoint) (a : CentresAnswer) → count ≡ 1 → length points ≤ 10000 → length a.squares ≤ 3 → length a.leaves ≤ 16 → IsWithinLimits count points a
     → PassesCentres count points a ↔ CoversTightly points a
 passes_within_limits points a one few squares leaves limits =
-    let within = subst (λ n. IsWithinLimits n points a) one limits in
-    (
+    let within = subst (λ n. IsWithinLimits n points a) one limits in (
       λ passing. let p = subst (λ n. PassesCentres n points a) one passing in record { near = p.covers.near; leaves = p.leaves },
-      λ tight. subst (λ n. PassesCentres n points a) (sym one) (passes points a few squares leaves within tight)
+      λ tight. subst (λ n. PassesCentres n points a) (sym one) (passes points a few squares leaves within tight),
     )
 
 -- an answer that passes is within the limits

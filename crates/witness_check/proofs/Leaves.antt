@@ -1,10 +1,9 @@
 -- The leaves for one square.
-use Rattle.std.proofs.Common.{◌≡◌, ◌≢◌, refl, sym, subst, ◌∙◌, ◌↔◌, ℕ, zero, suc, ◌+◌, ◌-◌, ◌<◌, ◌≤◌, List, [], ◌∷◌, length, map, All, IsTrue, Bool, get_or, arith}
+use Rattle.std.proofs.Common.{◌≡◌, ◌≢◌, refl, ◌↔◌, ℕ, zero, suc, ◌-◌, ◌<◌, List, [], ◌∷◌, length, map, All, IsTrue, Bool, get_or, arith}
 use native.Mathlib.Numerals.{unary_clauses}
 use Rattle.std.specs.Prelude.{Contains}
 use Rattle.std.proofs.lemmas.List.{get_or_default}
 use Rattle.bounds_model.specs.Plane.{PlanePoint, point_at, origin}
-use Rattle.bounds_model.specs.CentresAnswer as model
 use Rattle.bounds_model.specs.CentresAnswer.{AreFar, AreLeaves, IsLeaf}
 use Rattle.witness_format.specs.Answers.{leaf_of}
 use Rattle.witness_format.specs.declared.answer.Leaf.{Leaf}
@@ -27,9 +26,8 @@ one_leaf zero points leaves some one names is = absurd (some refl)
 one_leaf (suc side) points [] some one names is = absurd (cc)
 one_leaf (suc side) points (leaf ∷ []) some one names is =
     let far = simp unary_clauses at is in
-    let named : NamesPoints (length points) (leaf_of leaf) = names 0 (leaf_of leaf) (omega arith) in
-    (
+    let named : NamesPoints (length points) (leaf_of leaf) = names 0 (leaf_of leaf) (omega arith) in (
       λ yes. (refl, only (IsLeaf side 1 points) (leaf_of leaf) (record { first = listed points leaf.first named.0; second = listed points leaf.second named.1; far = far.0 yes })),
-      λ leaves. far.1 (leaves.1 0 (leaf_of leaf) (omega arith)).far
+      λ leaves. far.1 (leaves.1 0 (leaf_of leaf) (omega arith)).far,
     )
 one_leaf (suc side) points (leaf ∷ (other ∷ rest)) some one names is = absurd (omega arith)

@@ -1,10 +1,10 @@
 -- Numbers that become narrower in code, and stay the same.
-use Rattle.std.proofs.Common.{◌≡◌, sym, subst, ap, ap₂, ◌∙◌, ℕ, ◌≤◌, ◌<◌, ◌^◌, ℤ, pos, nat_abs, ◌-ℤ◌, ◌*ℤ◌, ◌≤ℤ◌, Bool, IsTrue, arith, to_z, of_z, w32, w64, le_trans}
+use Rattle.std.proofs.Common.{◌≡◌, sym, subst, ap, ap₂, ◌∙◌, ℕ, ◌<◌, ◌^◌, ℤ, pos, nat_abs, ◌-ℤ◌, ◌*ℤ◌, ◌≤ℤ◌, Bool, IsTrue, arith, to_z, of_z, w32, w64}
 use Rattle.std.proofs.lemmas.Int.{ints, to_z_pos}
 use mir.Syntax.{w128}
 use Rattle.std.proofs.Common.{◌↔◌}
 use Rattle.integers.specs.Size.{Size}
-use Rattle.integers.proofs.Sizes.{size_more, wrap_is, wrap_is_in, size_mul, size_unsigned}
+use Rattle.integers.proofs.Sizes.{wrap_is, wrap_is_in, size_mul}
 
 -- a number of 128 bits in 64
 pub narrowed : {z n : ℤ} → z ≡ n → Size 1000000 n → to_z w64 (of_z w64 (to_z w128 (of_z w128 z))) ≡ n

@@ -24,7 +24,9 @@ pub fn check(
     ensures best { IsOkAnd result (λ yes. IsTrue yes → IsBest (asked ask.now) (lent sets.entry) (answer_of answer.now)) }
 {
     match (ask, sets, answer) {
-        (Ask::Centres(p), Sets::Plane(cloud), Answer::Centres(a)) => Ok(check_centres(cloud, *p, a)),
+        (Ask::Centres(p), Sets::Plane(cloud), Answer::Centres(a)) => Ok(check_centres(
+            cloud, *p, a,
+        )),
         _ => Ok(false),
     }
 }

@@ -1,5 +1,4 @@
-use Rattle.std.proofs.Common.{◌≡◌, ◌∙◌, ap, ap₂, ◌↔◌, ◌⊎◌, inl, inr, ℕ, ◌<◌, ◌≤◌, ℤ, nat_abs, ◌-ℤ◌, IsTrue, ltb, arith, rules, to_z, of_z, w32}
-use Rattle.integers.specs.Size.{Size}
+use Rattle.std.proofs.Common.{◌≡◌, ◌∙◌, ap₂, ℕ, ℤ, nat_abs, ◌-ℤ◌, rules, to_z, of_z, w32}
 use Rattle.integers.proofs.Sizes.{size_between, wrap_is_in}
 use Rattle.bounds_model.specs.Numbers.{IsWithin}
 use Rattle.witness_check.proofs.centres.are_far.Goals as goal

@@ -1,10 +1,6 @@
-use Rattle.std.proofs.Common.{◌≡◌, sym, subst, ap₂, ◌↔◌, ℕ, zero, suc, ◌-◌, ◌<◌, ◌≤◌, List, [], ◌∷◌, length, map, All, IsTrue, Bool, get_or, arith}
-use Rattle.bounds_model.specs.Plane.{PlanePoint, point_at}
-use Rattle.bounds_model.specs.CentresAnswer as model
-use Rattle.bounds_model.specs.CentresAnswer.{AreFar, AreLeaves}
+use Rattle.std.proofs.Common.{length, arith}
 use Rattle.bounded_coords.specs.Clouds.{points_of}
 use Rattle.witness_format.specs.Answers.{leaf_of}
-use Rattle.witness_format.specs.declared.answer.Leaf.{Leaf}
 use Rattle.witness_check.specs.CentresLimits.{NamesPoints}
 use Rattle.witness_check.proofs.Leaves.{one_leaf}
 use Rattle.witness_check.proofs.Passing.{All-unmap}

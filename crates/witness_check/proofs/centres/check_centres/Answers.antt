@@ -1,7 +1,6 @@
-use Rattle.std.proofs.Common.{◌≡◌, ◌∙◌, sym, subst, ap, ◌↔◌, ℕ, ◌≤◌, List, length, map, All, Any, IsTrue, Bool}
+use Rattle.std.proofs.Common.{◌≡◌, sym, subst, ap, ◌↔◌, ℕ, ◌≤◌, List, length, map, All, Any, IsTrue, Bool}
 use Rattle.std.proofs.lemmas.List.{length-map}
 use Rattle.bounds_model.specs.Plane.{PlanePoint, PlaneRatio}
-use Rattle.bounds_model.specs.Fractions.{Fraction}
 use Rattle.bounds_model.specs.Asks.{ask_centres, plane}
 use Rattle.bounds_model.specs.Answers.{centres}
 use Rattle.bounds_model.specs.Centres.{IsNear}
@@ -21,10 +20,9 @@ decided : {yes : Bool} {count n : ℕ} (points : List PlanePoint) (a : CentresAn
 decided {yes} {count} {n} points a squares leaves one few same_squares same_leaves three sixteen limits near side_is last =
     let within : IsWithinLimits count points a = subst (λ ls. IsWithinLimits count points (record { size = a.size; squares = a.squares; leaves = ls })) same_leaves (subst (λ ss. IsWithinLimits count points (record { size = a.size; squares = ss; leaves = leaves })) same_squares limits) in
     let tight = passes_within_limits points a one few (subst (λ ss. length ss ≤ 3) same_squares three) (subst (λ ls. length ls ≤ 16) same_leaves sixteen) within in
-    let decides : IsTrue yes ↔ AreLeaves (side a.size) 1 points a.leaves = subst (λ ls. IsTrue yes ↔ AreLeaves (side a.size) 1 points ls) same_leaves (subst (λ m. IsTrue yes ↔ AreLeaves m 1 points leaves) side_is last) in
-    (
+    let decides : IsTrue yes ↔ AreLeaves (side a.size) 1 points a.leaves = subst (λ ls. IsTrue yes ↔ AreLeaves (side a.size) 1 points ls) same_leaves (subst (λ m. IsTrue yes ↔ AreLeaves m 1 points leaves) side_is last) in (
       λ t. tight.1 (record { near = subst (λ ss. All (λ p. Any (IsNear a.size p) ss) points) same_squares near; leaves = decides.0 t }),
-      λ p. decides.1 (tight.0 p).leaves
+      λ p. decides.1 (tight.0 p).leaves,
     )
 
 pub returns-then-cover-clause-passes : goal.returns-then-cover-clause-passes
@@ -40,5 +38,5 @@ returns-then-cover-clause-best c = λ yes.
 pub returns-else-cover-clause-passes : goal.returns-else-cover-clause-passes
 returns-else-cover-clause-passes c = (
   λ yes. absurd (clash yes c.if-cover.false),
-  λ p. c.cover.ensures.1 (subst (λ squares. All (λ q. Any (IsNear c.args.a.now.size q) squares) (points_of c.args.cloud)) (sym c.as_slice-squares.ensures.value) p.covers.near)
+  λ p. c.cover.ensures.1 (subst (λ squares. All (λ q. Any (IsNear c.args.a.now.size q) squares) (points_of c.args.cloud)) (sym c.as_slice-squares.ensures.value) p.covers.near),
 )

@@ -1,4 +1,4 @@
-use Rattle.std.proofs.Common.{◌≡◌, sym, subst, ℕ, ◌<◌, List, length, get_or}
+use Rattle.std.proofs.Common.{◌≡◌, subst, ℕ, List}
 use Rattle.std.specs.Prelude.{Any, All, slice_get, Some}
 use Rattle.bounds_model.specs.Centres.{IsNear}
 use Rattle.bounded_coords.specs.Clouds.{points_of}

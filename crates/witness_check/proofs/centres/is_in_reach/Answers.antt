@@ -1,8 +1,7 @@
-use Rattle.std.proofs.Common.{◌≡◌, ap, ap₂, ◌∙◌, subst, sym, List, [], ◌∷◌, ℕ, ℤ, pos, nat_abs, ◌+ℤ◌, ◌-ℤ◌, ◌*ℤ◌, ◌≤ℤ◌, ◌≤◌, neg_ℤ, IsTrue, to_z, of_z, to_z-of_z, FitsSigned, w64, arith, rules}
-use Rattle.std.proofs.lemmas.Int.{ints}
+use Rattle.std.proofs.Common.{◌≡◌, ap, ◌∙◌, subst, sym, [], ◌∷◌, ℤ, pos, nat_abs, ◌-ℤ◌, ◌*ℤ◌, to_z, of_z, to_z-of_z, FitsSigned, w64, rules}
 use Rattle.integers.specs.Size.{Size}
 use Rattle.integers.proofs.Sizes.{size_mul, size_sub, size_unsigned}
-use Rattle.integers.proofs.MachineArithmetic.{Given, given, with_inputs, codes, computes, fits, size_within}
+use Rattle.integers.proofs.MachineArithmetic.{given, with_inputs, codes, computes, fits}
 use Rattle.witness_check.proofs.centres.is_in_reach.Goals as goal
 
 pub overflow_mul-w : goal.overflow_mul-w

@@ -1,4 +1,4 @@
-use Rattle.std.proofs.Common.{◌≡◌, sym, subst, ap₂, ◌↔◌, ℕ, List, IsTrue, Bool, get_or}
+use Rattle.std.proofs.Common.{◌≡◌, sym, subst, ap₂, ◌↔◌, ℕ, List, IsTrue, Bool}
 use Rattle.std.specs.Prelude.{slice_get, Some}
 use Rattle.std.proofs.lemmas.Option.{get_or_from_slice_get}
 use Rattle.bounds_model.specs.Plane.{PlanePoint, point_at, origin}

@@ -5,7 +5,7 @@ use Rattle.bounds_model.specs.Plane.{PlanePoint}
 use Rattle.bounded_coords.specs.Clouds.{points_of}
 use Rattle.witness_format.specs.Answers.{leaf_of}
 use Rattle.witness_format.specs.declared.answer.Leaf.{Leaf}
-use Rattle.witness_check.specs.CentresLimits.{IsWithinLimits, NamesPoints}
+use Rattle.witness_check.specs.CentresLimits.{NamesPoints}
 use Rattle.witness_check.proofs.Passing.{All-unmap, clash}
 use Rattle.witness_check.proofs.centres.is_within_limits.Goals as goal
 use Rattle.witness_check.proofs.centres.is_within_limits.Goals.{then-squares-from, else-squares-from, then-is_small_radius, else-is_small_radius}
@@ -28,7 +28,7 @@ returns-then-are_small_centres c =
             centres = w.are_small_centres.ensures.0 (cc);
             numbers = names.0 yes;
           },
-          λ limits. names.1 limits.numbers
+          λ limits. names.1 limits.numbers,
         )
         | else-squares-from v ↦ absurd (v.if-squares-from.false (eqb-true _ _ (sym v.value-is ∙ w.if-is_small_radius.true)))
       ]
