@@ -24,7 +24,7 @@ mod tests;
 mod text_line;
 mod words;
 
-pub use answer::{Answer, CentresAnswer, Leaf, size};
+pub use answer::{Answer, BallAnswer2, BallAnswer3, CentresAnswer, Leaf, Weighted, size};
 pub use fault::ReadFault;
 pub use printing::{AnswerBytes, print};
 pub use reading::read;

@@ -14,7 +14,7 @@ ghost use Rattle.witness_format.specs.Kinds.{known_kinds};
 
 use crate::judging::{Judged, decide};
 use crate::lines::Unread;
-use crate::text_line::TextLine;
+use crate::text_line::ReadLine;
 use crate::words::Words;
 use crate::{Answer, CentresAnswer, ReadFault, fields};
 use arrayvec::ArrayVec;
@@ -122,7 +122,7 @@ fn last_words(words: Words<'_>) -> Option<Judged<()>>
 // ---- a count and its lines
 
 /// The line of a count, and as many lines, from `low` to `CAP`.
-fn read_counted<T: TextLine + Default, const CAP: usize>(
+fn read_counted<T: ReadLine + Default, const CAP: usize>(
     text: &mut Unread<'_>,
     word: &[u8],
     low: u32,
@@ -158,7 +158,7 @@ fn count_words(words: Words<'_>, word: &[u8], low: u32, high: u32) -> Option<Jud
 }
 
 /// So many lines.
-fn read_lines<T: TextLine + Default, const CAP: usize>(
+fn read_lines<T: ReadLine + Default, const CAP: usize>(
     text: &mut Unread<'_>,
     count: u32,
 ) -> Result<ArrayVec<T, CAP>, ReadFault>
@@ -174,7 +174,7 @@ fn read_lines<T: TextLine + Default, const CAP: usize>(
 }
 
 /// The next line.
-fn read_line<T: TextLine>(text: &mut Unread<'_>) -> Result<T, ReadFault>
+fn read_line<T: ReadLine>(text: &mut Unread<'_>) -> Result<T, ReadFault>
     ensures { Reads (λ value. (value, lines_left text.new)) result (line_by T.says (lines_left text.old)) }
 {
     let number = text.number;

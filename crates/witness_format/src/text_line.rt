@@ -1,7 +1,8 @@
 //! Values that fill a line of an answer text.
 ghost use Rattle.std.specs.Prelude.{◌≡◌, ℕ, List, [], ◌∷◌, ◌++◌, Option, OnOk};
 ghost use Rattle.bounds_model.specs.AnswerText.SpelledCentres.{square_line, leaf_line};
-ghost use Rattle.witness_format.specs.Answers.{leaf_of};
+ghost use Rattle.bounds_model.specs.AnswerText.Spelling.{weighted_line};
+ghost use Rattle.witness_format.specs.Answers.{weighted_of, leaf_of};
 ghost use Rattle.witness_format.specs.Judging.{Judged};
 ghost use Rattle.witness_format.specs.Lines.{words_left, square_says, leaf_says};
 ghost use Rattle.witness_format.specs.Outcomes.{Finds};
@@ -9,7 +10,7 @@ ghost use Rattle.witness_format.specs.Outcomes.{Finds};
 use crate::judging::{Judged, both};
 use crate::printing::{push, push_natural, push_plane_ratio};
 use crate::words::Words;
-use crate::{Leaf, fields};
+use crate::{Leaf, Weighted, fields};
 use exact_fractions::Homog2;
 use std::alloc::AllocError;
 
@@ -21,7 +22,10 @@ pub(crate) trait TextLine: Copy {
     /// Writes the line behind a text.
     fn print(&self, text: &mut Vec<u8>) -> Result<(), AllocError>
         ensures { OnOk result (text.new.items ≡ text.old.items ++ spelled self.now) };
+}
 
+/// A value that is read from a line of an answer text.
+pub(crate) trait ReadLine: Copy {
     /// What the words of such a line say.
     ghost says: { List (List ℕ) → Option (Judged Self) };
 
@@ -39,7 +43,9 @@ impl TextLine for Homog2 {
         push_plane_ratio(text, self)?;
         push(text, b"\n")
     }
+}
 
+impl ReadLine for Homog2 {
     ghost says = { square_says };
 
     fn read(words: Words<'_>) -> Option<Judged<Homog2>> {
@@ -61,7 +67,9 @@ impl TextLine for Leaf {
         push_natural(text, u128::from(self.second))?;
         push(text, b"\n")
     }
+}
 
+impl ReadLine for Leaf {
     ghost says = { leaf_says };
 
     fn read(words: Words<'_>) -> Option<Judged<Leaf>> {
@@ -72,5 +80,17 @@ impl TextLine for Leaf {
             first: points.0,
             second: points.1,
         }))
+    }
+}
+
+impl TextLine for Weighted {
+    ghost spelled = { λ s. weighted_line (weighted_of s) };
+
+    #[tactic(auto, unfolding(bounds_model::specs::AnswerText::Spelling::weighted_line))]
+    fn print(&self, text: &mut Vec<u8>) -> Result<(), AllocError> {
+        push_natural(text, u128::from(self.point))?;
+        push(text, b" ")?;
+        push_natural(text, self.weight)?;
+        push(text, b"\n")
     }
 }

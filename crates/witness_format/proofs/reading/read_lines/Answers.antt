@@ -5,7 +5,7 @@ use Rattle.witness_format.proofs.reading.read_lines.Goals as goal
 
 pub loop-preserved : goal.loop-preserved
 loop-preserved g c =
-    let says = g.T.TextLine.says in
+    let says = g.T.ReadLine.says in
     record {
       so_far = rw c.push.ensures.items
           (one_more says c.loop.values.items c.args.count c.loop.counter (lines_left c.loop.text) c.in_ok-value.value (lines_left c.read_line.new.text) (lines_by says c.args.count (lines_left c.args.text.now)) c.loop-test.true
