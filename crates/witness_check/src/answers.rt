@@ -5,7 +5,7 @@ ghost use Rattle.bounded_coords.specs.Asked.{asked, lent};
 ghost use Rattle.witness_format.specs.Answers.{answer_of};
 ghost use Rattle.witness_check.specs.Kinds.{IsBuilt};
 
-use crate::check_centres;
+use crate::{check_centres, check_circle, check_sphere};
 use bounded_coords::{Ask, OutOfMemory, Sets};
 use optimality::answer::passing_answers_are_best;
 use std::alloc::Global;
@@ -24,9 +24,11 @@ pub fn check(
     ensures best { IsOkAnd result (λ yes. IsTrue yes → IsBest (asked ask.now) (lent sets.entry) (answer_of answer.now)) }
 {
     match (ask, sets, answer) {
-        (Ask::Centres(p), Sets::Plane(cloud), Answer::Centres(a)) => Ok(check_centres(
-            cloud, *p, a,
-        )),
+        (Ask::Circle, Sets::Plane(cloud), Answer::Circle(a)) => Ok(check_circle(cloud, a)),
+        (Ask::Sphere, Sets::Space(cloud), Answer::Sphere(a)) => Ok(check_sphere(cloud, a)),
+        (Ask::Centres(p), Sets::Plane(cloud), Answer::Centres(a)) => {
+            Ok(check_centres(cloud, *p, a))
+        }
         _ => Ok(false),
     }
 }
