@@ -3,6 +3,7 @@ use Rattle.std.specs.Prelude.{◌≡◌, ℕ, ◌+◌, ◌*◌, ◌<◌, ◌≤�
 use Rattle.integers.specs.Total.{total}
 use Rattle.bounds_model.specs.Space.{SpacePoint, point_at, vector, plus, times, squared_length, weighted_sum}
 use Rattle.bounds_model.specs.Fractions.{Fraction, SameValue}
+use Rattle.bounds_model.specs.Places.{IsFraction}
 use Rattle.bounds_model.specs.BallAnswer.{Weighted, weight_sum, first_support, supported_size, IsOnBall, IsNotOutside}
 use Rattle.kernel_laws.specs.Vectors.{sum_of}
 use Rattle.kernel_laws.specs.Limits.{IsVectorWithin, reach, ball_limit}
@@ -18,6 +19,7 @@ pub record HasBallLimits (dim count : ℕ) (supports : List Weighted) : Type 0 w
 -- the supports hold a ball of this squared radius in place, around all points
 pub record HoldsBall (dim : ℕ) (points : List SpacePoint) (supports : List Weighted) (size : Fraction) : Type 0 where
   pub limits : HasBallLimits dim (length points) supports
+  pub size_place : IsFraction size
   pub size_is : SameValue size (supported_size points supports)
   pub on_ball : All (IsOnBall points supports) supports
   pub none_outside : All (IsNotOutside points supports) points

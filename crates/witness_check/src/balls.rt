@@ -1,14 +1,15 @@
 //! Circles and spheres: weighted points that hold a ball in place around all points.
-ghost use Rattle.std.specs.Prelude.{◌≡◌, ◌↔◌, ◌≤◌, ◌<◌, pos, ◌+ℤ◌, ◌*ℤ◌, length, map, All, IsTrue, MatchOption};
-ghost use Rattle.bounds_model.specs.Plane.{PlanePoint};
+ghost use Rattle.std.specs.Prelude.{◌≡◌, ◌↔◌, ◌≤◌, ◌<◌, ◌^◌, pos, ◌+ℤ◌, ◌*ℤ◌, ◌<ℤ◌, length, map, All, IsTrue, MatchOption};
+ghost use Rattle.integers.specs.Size.{Size};
 ghost use Rattle.bounds_model.specs.Space.{vector, origin, SamePlace, flat, flat_ratio};
 ghost use Rattle.bounds_model.specs.Fractions.{SameValue};
+ghost use Rattle.bounds_model.specs.Places.{IsNumber, IsFraction, IsPlaneRatio, IsSpaceRatio};
 ghost use Rattle.bounds_model.specs.BallAnswer.{first_support, supported_size, supported_centre, IsOnBall, IsNotOutside};
 ghost use Rattle.bounds_model.specs.Asks.{ask_circle, ask_sphere, plane, space};
 ghost use Rattle.bounds_model.specs.Answers.{Passes, IsBest, circle, sphere};
 ghost use Rattle.bounded_coords.specs.Clouds.{points_of};
 ghost use Rattle.kernel_laws.specs.Vectors.{sum_of};
-ghost use Rattle.kernel_laws.specs.Signs.{sign_of, height};
+ghost use Rattle.kernel_laws.specs.Signs.{height};
 ghost use Rattle.witness_format.specs.Answers.{weighted_of, circle_of, sphere_of};
 ghost use Rattle.witness_check.specs.HeldBalls.{HasBallLimits, HoldsBall, IsHeld, IsInRange};
 
@@ -98,9 +99,12 @@ fn are_numbers(supports: &[Weighted], count: u32) -> bool
 /// Whether the size is half the weighted mean of the supports' squared distances from the first.
 fn is_size(size: &Frac, held: &Held) -> bool
     requires some { 1 ≤ held.now.total }
-    ensures { IsTrue result ↔ SameValue size.now (record { n = pos held.now.moment; d = pos 2 *ℤ pos held.now.total }) }
+    requires total { held.now.total ≤ 2 ^ 92 }
+    requires moment { held.now.moment ≤ 2 ^ 122 }
+    ensures { IsTrue result ↔ (IsFraction size.now × SameValue size.now (record { n = pos held.now.moment; d = pos 2 *ℤ pos held.now.total })) }
 {
-    *size == Frac::new(held.moment, 2 * held.total)
+    let mean = Frac::new(held.moment, 2 * held.total);
+    size.num() == mean.num() && size.den() == mean.den()
 }
 
 /// Whether all supports are on the ball.
@@ -116,7 +120,7 @@ fn are_on_ball<K: Kernel>(
 {
     let first = cloud.at(supports[0].point);
     for s in supports {
-        if where_is(kernel, held, first, cloud.at(s.point)) != Sign::Zero {
+        if !is_on(kernel, held, first, cloud.at(s.point)) {
             return false;
         }
     }
@@ -136,20 +140,35 @@ fn is_none_outside<K: Kernel>(
 {
     let first = cloud.at(supports[0].point);
     for i in 0..cloud.len() {
-        if where_is(kernel, held, first, cloud.at(i)) == Sign::Minus {
+        if is_outside(kernel, held, first, cloud.at(i)) {
             return false;
         }
     }
     true
 }
 
-/// Where a point is: `Minus` is outside the ball, `Zero` on it and `Plus` inside.
-fn where_is<K: Kernel>(kernel: &K, held: &Held, first: &K::P, p: &K::P) -> Sign
+/// Whether a point is on the ball.
+fn is_on<K: Kernel>(kernel: &K, held: &Held, first: &K::P, p: &K::P) -> bool
     requires some { 1 ≤ held.now.total }
     requires range { IsInRange K.DIM held.now }
-    ensures { result ≡ sign_of (height (sum_of held.now.pull) held.now.total (vector (K.place first.now) (K.place p.now))) }
+    ensures { IsTrue result ↔ (height (sum_of held.now.pull) held.now.total (vector (K.place first.now) (K.place p.now)) ≡ pos 0) }
 {
-    side(kernel, held.pull, held.total, kernel.diff(first, p))
+    matches!(
+        side(kernel, held.pull, held.total, kernel.diff(first, p)),
+        Sign::Zero
+    )
+}
+
+/// Whether a point is outside the ball.
+fn is_outside<K: Kernel>(kernel: &K, held: &Held, first: &K::P, p: &K::P) -> bool
+    requires some { 1 ≤ held.now.total }
+    requires range { IsInRange K.DIM held.now }
+    ensures { IsTrue result ↔ (height (sum_of held.now.pull) held.now.total (vector (K.place first.now) (K.place p.now)) <ℤ pos 0) }
+{
+    matches!(
+        side(kernel, held.pull, held.total, kernel.diff(first, p)),
+        Sign::Minus
+    )
 }
 
 // ---- the centre
@@ -158,23 +177,32 @@ fn where_is<K: Kernel>(kernel: &K, held: &Held, first: &K::P, p: &K::P) -> Sign
 fn is_plane_centre(centre: &Homog2, first: &Point2, held: &Held) -> bool
     requires some { 1 ≤ held.now.total }
     requires range { IsInRange 2 held.now }
-    ensures { IsTrue result ↔ ((centre.now.x *ℤ pos held.now.total ≡ (pos held.now.total *ℤ first.now.x +ℤ held.now.pull.x) *ℤ centre.now.w) × (centre.now.y *ℤ pos held.now.total ≡ (pos held.now.total *ℤ first.now.y +ℤ held.now.pull.y) *ℤ centre.now.w)) }
+    ensures { IsTrue result ↔ (IsPlaneRatio centre.now × SamePlace (flat_ratio centre.now) (flat_ratio (record { x = pos held.now.total *ℤ first.now.x +ℤ held.now.pull.x; y = pos held.now.total *ℤ first.now.y +ℤ held.now.pull.y; w = pos held.now.total }))) }
 {
-    let w = held.total as i128;
-    let x = w * first.x() as i128 + held.pull.x;
-    let y = w * first.y() as i128 + held.pull.y;
-    *centre == Homog2::new(x, y, w)
+    let x = mean(held.total, first.x(), held.pull.x);
+    let y = mean(held.total, first.y(), held.pull.y);
+    *centre == Homog2::new(x, y, held.total as i128)
 }
 
 /// Whether the centre is the weighted mean of the supports.
 fn is_space_centre(centre: &Homog3, first: &Point3, held: &Held) -> bool
     requires some { 1 ≤ held.now.total }
     requires range { IsInRange 3 held.now }
-    ensures { IsTrue result ↔ SamePlace centre.now (record { x = pos held.now.total *ℤ first.now.x +ℤ held.now.pull.x; y = pos held.now.total *ℤ first.now.y +ℤ held.now.pull.y; z = pos held.now.total *ℤ first.now.z +ℤ held.now.pull.z; w = pos held.now.total }) }
+    ensures { IsTrue result ↔ (IsSpaceRatio centre.now × SamePlace centre.now (record { x = pos held.now.total *ℤ first.now.x +ℤ held.now.pull.x; y = pos held.now.total *ℤ first.now.y +ℤ held.now.pull.y; z = pos held.now.total *ℤ first.now.z +ℤ held.now.pull.z; w = pos held.now.total })) }
 {
-    let w = held.total as i128;
-    let x = w * first.x() as i128 + held.pull.x;
-    let y = w * first.y() as i128 + held.pull.y;
-    let z = w * first.z() as i128 + held.pull.z;
-    *centre == Homog3::new(x, y, z, w)
+    let x = mean(held.total, first.x(), held.pull.x);
+    let y = mean(held.total, first.y(), held.pull.y);
+    let z = mean(held.total, first.z(), held.pull.z);
+    *centre == Homog3::new(x, y, z, held.total as i128)
+}
+
+/// A coordinate of the weighted mean, times the sum of the weights: seen from the first support, it is that of the pull.
+fn mean(total: u128, first: i32, pull: i128) -> i128
+    requires total { total ≤ 2 ^ 92 }
+    requires first { Size 200000 first }
+    requires pull { Size (2 ^ 111) pull }
+    ensures value { result ≡ pos total *ℤ first +ℤ pull }
+    ensures number { IsNumber result }
+{
+    total as i128 * first as i128 + pull
 }
