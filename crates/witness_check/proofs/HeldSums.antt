@@ -41,7 +41,7 @@ moment_adds : (m w q : ℕ) (s : ℤ) → pos q ≡ s → pos (m + w * q) ≡ po
 moment_adds m w q s e = ap (λ v. pos m +ℤ v) (ap (λ v. pos w *ℤ v) e)
 
 -- points with equal coordinates are equal
-same_point : {a b c d e f : ℤ} → a ≡ d → b ≡ e → c ≡ f → (let p : SpacePoint = record { x = a; y = b; z = c } in p) ≡ (let q : SpacePoint = record { x = d; y = e; z = f } in q)
+pub same_point : {a b c d e f : ℤ} → a ≡ d → b ≡ e → c ≡ f → (let p : SpacePoint = record { x = a; y = b; z = c } in p) ≡ (let q : SpacePoint = record { x = d; y = e; z = f } in q)
 same_point {a} {b} {c} {d} {e} {f} h k l =
     let first : (let p : SpacePoint = record { x = a; y = b; z = c } in p) ≡ (let q : SpacePoint = record { x = d; y = b; z = c } in q) = ap (λ v. record { x = v; y = b; z = c }) h in
     first ∙ ap₂ (λ v w. record { x = d; y = v; z = w }) k l

@@ -3,6 +3,7 @@ use Prim.Native.Nat.{◌∣◌}
 use Rattle.std.proofs.Common.{Bool, IsTrue, int_eq, ◌&&◌, ◌≡◌, ◌↔◌, sym, subst, ◌∙◌, ap, ap₂, ℕ, ℤ, pos, nat_abs, neg_ℤ, ◌*ℤ◌, ◌<ℤ◌, List, [], ◌∷◌, map, arith}
 use Rattle.std.specs.Prelude.{All}
 use Rattle.std.proofs.lemmas.Int.{ints}
+use Rattle.std.proofs.lemmas.Bool.Decides.{Decides-at, Decides-and, Decides-int_eq}
 use Rattle.std.proofs.lemmas.List.Elements.{All-nil, All-cons, All-head, All-tail}
 use Rattle.std.proofs.Math.IntN.{*ℤ_comm}
 use Rattle.integers.proofs.Identities.{den-ring, read, polys}
@@ -98,8 +99,27 @@ has_space_place a b v p place same = (
 
 -- ---- equal numbers
 
+-- points over denominators with equal numbers are equal
+pub plane_ratio_by : {x y w a b c : ℤ} → x ≡ a → y ≡ b → w ≡ c → (let p : PlaneRatio = record { x = x; y = y; w = w } in p) ≡ (let q : PlaneRatio = record { x = a; y = b; w = c } in q)
+plane_ratio_by {x} {y} {w} {a} {b} {c} h k l =
+    let first : (let p : PlaneRatio = record { x = x; y = y; w = w } in p) ≡ (let q : PlaneRatio = record { x = a; y = y; w = w } in q) = ap (λ v. record { x = v; y = y; w = w }) h in
+    first ∙ ap₂ (λ v u. record { x = a; y = v; w = u }) k l
+
+pub space_ratio_by : {x y z w a b c d : ℤ} → x ≡ a → y ≡ b → z ≡ c → w ≡ d → (let p : SpaceRatio = record { x = x; y = y; z = z; w = w } in p) ≡ (let q : SpaceRatio = record { x = a; y = b; z = c; w = d } in q)
+space_ratio_by {x} {y} {z} {w} {a} {b} {c} {d} h k l m =
+    let first : (let p : SpaceRatio = record { x = x; y = y; z = z; w = w } in p) ≡ (let q : SpaceRatio = record { x = a; y = b; z = z; w = w } in q) = ap₂ (λ v u. record { x = v; y = u; z = z; w = w }) h k in
+    first ∙ ap₂ (λ v u. record { x = a; y = b; z = v; w = u }) l m
+
+-- what `==` answers
 pub plane_ratio_same : {yes : Bool} (a b : PlaneRatio) → yes ≡ (int_eq a.x b.x && (int_eq a.y b.y && int_eq a.w b.w)) → IsTrue yes ↔ (a ≡ b)
-plane_ratio_same {yes} a b e = ?
+plane_ratio_same {yes} a b e =
+    let parts = Decides-at yes (int_eq a.x b.x && (int_eq a.y b.y && int_eq a.w b.w)) e
+        (Decides-and (int_eq a.x b.x) (int_eq a.y b.y && int_eq a.w b.w) (Decides-int_eq a.x b.x) (Decides-and (int_eq a.y b.y) (int_eq a.w b.w) (Decides-int_eq a.y b.y) (Decides-int_eq a.w b.w))) in
+    (λ t. let h = parts.0 t in plane_ratio_by h.0 h.1.0 h.1.1, λ h. parts.1 (ap (λ p. p.x) h, (ap (λ p. p.y) h, ap (λ p. p.w) h)))
 
 pub space_ratio_same : {yes : Bool} (a b : SpaceRatio) → yes ≡ (int_eq a.x b.x && (int_eq a.y b.y && (int_eq a.z b.z && int_eq a.w b.w))) → IsTrue yes ↔ (a ≡ b)
-space_ratio_same {yes} a b e = ?
+space_ratio_same {yes} a b e =
+    let parts = Decides-at yes (int_eq a.x b.x && (int_eq a.y b.y && (int_eq a.z b.z && int_eq a.w b.w))) e
+        (Decides-and (int_eq a.x b.x) (int_eq a.y b.y && (int_eq a.z b.z && int_eq a.w b.w)) (Decides-int_eq a.x b.x)
+        (Decides-and (int_eq a.y b.y) (int_eq a.z b.z && int_eq a.w b.w) (Decides-int_eq a.y b.y) (Decides-and (int_eq a.z b.z) (int_eq a.w b.w) (Decides-int_eq a.z b.z) (Decides-int_eq a.w b.w)))) in
+    (λ t. let h = parts.0 t in space_ratio_by h.0 h.1.0 h.1.1.0 h.1.1.1, λ h. parts.1 (ap (λ p. p.x) h, (ap (λ p. p.y) h, (ap (λ p. p.z) h, ap (λ p. p.w) h))))

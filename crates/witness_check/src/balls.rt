@@ -55,17 +55,19 @@ fn held_ball<K: Kernel>(
     supports: &[Weighted],
     size: &Frac,
 ) -> Option<Held>
-    ensures held { MatchOption result (HoldsBall K.DIM (map K.place (points_of cloud.entry)) (map weighted_of supports.now) size.now → ⊥) (λ h. HoldsBall K.DIM (map K.place (points_of cloud.entry)) (map weighted_of supports.now) size.now × IsHeld K.DIM (map K.place (points_of cloud.entry)) (map weighted_of supports.now) h) }
+    ensures { MatchOption result (HoldsBall K.DIM (map K.place (points_of cloud.entry)) (map weighted_of supports.now) size.now → ⊥) (λ h. HoldsBall K.DIM (map K.place (points_of cloud.entry)) (map weighted_of supports.now) size.now × IsHeld K.DIM (map K.place (points_of cloud.entry)) (map weighted_of supports.now) h) }
 {
     let held = sums(kernel, cloud, supports)?;
-    if is_size(size, &held)
-        && are_on_ball(kernel, cloud, supports, &held)
-        && is_none_outside(kernel, cloud, supports, &held)
-    {
-        Some(held)
-    } else {
-        None
+    if !is_size(size, &held) {
+        return None;
     }
+    if !are_on_ball(kernel, cloud, supports, &held) {
+        return None;
+    }
+    if !is_none_outside(kernel, cloud, supports, &held) {
+        return None;
+    }
+    Some(held)
 }
 
 // ---- the limits
@@ -75,7 +77,10 @@ fn held_ball<K: Kernel>(
 fn sums<K: Kernel>(kernel: &K, cloud: Cloud<'_, K::P>, supports: &[Weighted]) -> Option<Held>
     ensures { MatchOption result (HasBallLimits K.DIM (length (points_of cloud.entry)) (map weighted_of supports.now) → ⊥) (λ h. HasBallLimits K.DIM (length (points_of cloud.entry)) (map weighted_of supports.now) × IsHeld K.DIM (map K.place (points_of cloud.entry)) (map weighted_of supports.now) h) }
 {
-    if supports.is_empty() || !are_numbers(supports, cloud.len()) {
+    if supports.is_empty() {
+        return None;
+    }
+    if !are_numbers(supports, cloud.len()) {
         return None;
     }
     let first = cloud.at(supports[0].point);
