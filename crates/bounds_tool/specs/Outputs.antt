@@ -1,5 +1,5 @@
 -- What a run may write.
-use Rattle.std.specs.Prelude.{◌≡◌, ◌⊎◌, ℕ, Bool, true, false, List, codes}
+use Rattle.std.specs.Prelude.{◌≡◌, ◌⊎◌, ℕ, true, false, List, codes}
 use Rattle.bounds_model.specs.Asks.{Ask, Sets}
 use Rattle.bounds_model.specs.Answers.{Answer, Passes, IsBest}
 use Rattle.bounds_model.specs.AnswerText.Spelling.{Spells}
