@@ -148,10 +148,9 @@ pub circle_decided : {yes : Bool} (points : List PlanePoint) (a : CircleAnswer) 
     → (IsTrue yes ↔ (IsPlaneRatio a.centre × SamePlace (flat_ratio a.centre) (flat_ratio (record { x = pos h.total *ℤ first.x +ℤ h.pull.x; y = pos h.total *ℤ first.y +ℤ h.pull.y; w = pos h.total }))))
     → IsTrue yes ↔ PassesCircle points a
 circle_decided points a h first few three held is test =
-    let mean = flat_mean_is points a.supports h first held.1 is in
-    (
+    let mean = flat_mean_is points a.supports h first held.1 is in (
       λ t. let both = test.0 t in circle_passes points a few three held.0 both.0 (subst (SamePlace (flat_ratio a.centre)) mean both.1),
-      λ p. test.1 (p.places.centre, subst (SamePlace (flat_ratio a.centre)) (sym mean) p.witness.centre)
+      λ p. test.1 (p.places.centre, subst (SamePlace (flat_ratio a.centre)) (sym mean) p.witness.centre),
     )
 
 pub sphere_decided : {yes : Bool} (points : List SpacePoint) (a : SphereAnswer) (h : Held) (first : SpacePoint) → length points ≤ 10000 → length a.supports ≤ 4
@@ -159,10 +158,9 @@ pub sphere_decided : {yes : Bool} (points : List SpacePoint) (a : SphereAnswer) 
     → (IsTrue yes ↔ (IsSpaceRatio a.centre × SamePlace a.centre (record { x = pos h.total *ℤ first.x +ℤ h.pull.x; y = pos h.total *ℤ first.y +ℤ h.pull.y; z = pos h.total *ℤ first.z +ℤ h.pull.z; w = pos h.total })))
     → IsTrue yes ↔ PassesSphere points a
 sphere_decided points a h first few four held is test =
-    let mean = mean_is points a.supports h first held.1 is in
-    (
+    let mean = mean_is points a.supports h first held.1 is in (
       λ t. let both = test.0 t in sphere_passes points a few four held.0 both.0 (subst (SamePlace a.centre) mean both.1),
-      λ p. test.1 (p.places.centre, subst (SamePlace a.centre) (sym mean) p.witness.centre)
+      λ p. test.1 (p.places.centre, subst (SamePlace a.centre) (sym mean) p.witness.centre),
     )
 
 -- a list seen as it is

@@ -56,15 +56,14 @@ returns g c =
     let weights = subst (λ ss. All (λ s. pos 1 ≤ℤ s.weight) (map weighted_of ss)) whole c.loop-s.invariant.weights in
     let sums = subst (λ ss. IsSumOver (map place points) (first_support (map place points) (map weighted_of supports)) (map weighted_of ss) c.loop-s.held) whole c.loop-s.invariant.sums in
     let some = subst (λ n. 1 ≤ n) (sym (length-map supports weighted_of)) (not_empty supports c.is_empty.ensures c.if-is_empty.false) in
-    let numbers = subst (λ n. All (λ s. s.point < n) supports) c.len.ensures.count (c.are_numbers.ensures.0 c.if-not-are_numbers.false) in
-    (
+    let numbers = subst (λ n. All (λ s. s.point < n) supports) c.len.ensures.count (c.are_numbers.ensures.0 c.if-not-are_numbers.false) in (
       record {
         some = some;
         numbers = All-map (λ s. s.point < length points) weighted_of supports numbers;
         weights = weights;
         weight_limit = within sums.weights c.loop-s.invariant.range.total;
       },
-      record { some = some_weight (map weighted_of supports) c.loop-s.held.total some weights sums.weights; range = c.loop-s.invariant.range; sums = sums }
+      record { some = some_weight (map weighted_of supports) c.loop-s.held.total some weights sums.weights; range = c.loop-s.invariant.range; sums = sums },
     )
   where
     within : {t limit : ℕ} {a : ℤ} → pos t ≡ a → t ≤ limit → a ≤ℤ pos limit
