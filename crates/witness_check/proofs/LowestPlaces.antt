@@ -1,8 +1,7 @@
 -- A value, or a place, has one form in lowest terms.
 use Prim.Native.Nat.{◌∣◌}
-use Rattle.std.proofs.Common.{Bool, IsTrue, int_eq, ◌&&◌, ◌≡◌, ◌↔◌, sym, subst, ◌∙◌, ap, ap₂, ℕ, ℤ, pos, nat_abs, neg_ℤ, ◌*ℤ◌, ◌<ℤ◌, List, [], ◌∷◌, map, arith}
+use Rattle.std.proofs.Common.{Bool, IsTrue, int_eq, ◌&&◌, ◌≡◌, ◌↔◌, sym, subst, ◌∙◌, ap, ap₂, ℤ, pos, nat_abs, neg_ℤ, ◌*ℤ◌, ◌<ℤ◌, [], ◌∷◌}
 use Rattle.std.specs.Prelude.{All}
-use Rattle.std.proofs.lemmas.Int.{ints}
 use Rattle.std.proofs.lemmas.Bool.Decides.{Decides-at, Decides-and, Decides-int_eq}
 use Rattle.std.proofs.lemmas.List.Elements.{All-nil, All-cons, All-head, All-tail}
 use Rattle.std.proofs.Math.IntN.{*ℤ_comm}

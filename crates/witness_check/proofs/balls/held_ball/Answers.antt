@@ -1,4 +1,4 @@
-use Rattle.std.proofs.Common.{◌≡◌, sym, subst, ℕ, ◌≤◌, ◌^◌, length, map, pos, le_trans}
+use Rattle.std.proofs.Common.{sym, subst, map, le_trans}
 use Rattle.std.proofs.lemmas.List.{length-map}
 use Rattle.bounds_model.specs.Fractions.{SameValue}
 use Rattle.bounded_coords.specs.Clouds.{points_of}

@@ -1,6 +1,5 @@
-use Rattle.std.proofs.Common.{◌≡◌, refl, subst, ◌∙◌, ◌≤◌, ◌^◌, inl, pos, ◌+ℤ◌, ◌*ℤ◌, FitsSigned, w32, rules}
+use Rattle.std.proofs.Common.{refl, subst, ◌≤◌, ◌^◌, inl, pos, ◌+ℤ◌, ◌*ℤ◌, FitsSigned, w32, rules}
 use mir.Syntax.{w128}
-use Rattle.bounds_model.specs.Plane.{PlaneRatio}
 use Rattle.bounds_model.specs.Space.{SamePlace, flat_ratio}
 use Rattle.witness_check.proofs.HeldSums.{total_limit}
 use Rattle.witness_check.proofs.Means.{entry, denominator, denominator_positive}

@@ -1,6 +1,6 @@
-use Rattle.std.proofs.Common.{◌≡◌, refl, subst, ◌∙◌, ◌≤◌, ◌^◌, inr, pos, ◌+ℤ◌, ◌*ℤ◌, FitsSigned, w32, rules}
+use Rattle.std.proofs.Common.{refl, subst, ◌≤◌, ◌^◌, inr, pos, ◌+ℤ◌, ◌*ℤ◌, FitsSigned, w32, rules}
 use mir.Syntax.{w128}
-use Rattle.bounds_model.specs.Space.{SpaceRatio, SamePlace}
+use Rattle.bounds_model.specs.Space.{SamePlace}
 use Rattle.witness_check.proofs.HeldSums.{total_limit}
 use Rattle.witness_check.proofs.Means.{entry, denominator, denominator_positive}
 use Rattle.witness_check.proofs.LowestPlaces.{has_space_place, space_ratio_same, space_ratio_by}

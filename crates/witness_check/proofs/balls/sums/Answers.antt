@@ -1,16 +1,14 @@
-use Rattle.std.proofs.Common.{◌≡◌, refl, sym, subst, ◌∙◌, ap, ap₂, ℕ, ◌+◌, ◌<◌, ◌≤◌, ℤ, pos, ◌≤ℤ◌, List, [], ◌∷◌, ◌++◌, length, map, take, get_or, Bool, false, eqb, arith}
+use Rattle.std.proofs.Common.{◌≡◌, refl, sym, subst, ◌∙◌, ap₂, ℕ, ◌<◌, ◌≤◌, ℤ, pos, ◌≤ℤ◌, List, [], ◌∷◌, length, map, take, get_or, Bool, false, eqb, arith}
 use Rattle.std.specs.Prelude.{All}
 use Rattle.std.proofs.lemmas.Int.{ints}
 use Rattle.std.proofs.lemmas.List.{map_more, take_all, length-map}
 use Rattle.std.proofs.lemmas.List.Elements.{All-map, All-push}
 use Rattle.bounds_model.specs.Space.{vector}
-use Rattle.bounds_model.specs.BallAnswer.{first_support, weight_sum}
-use Rattle.kernel_laws.specs.Limits.{ball_limit}
+use Rattle.bounds_model.specs.BallAnswer.{first_support}
 use Rattle.bounded_coords.specs.Clouds.{points_of}
 use Rattle.witness_format.specs.Answers.{weighted_of}
 use Rattle.witness_format.specs.declared.answer.Weighted.{Weighted}
-use Rattle.witness_check.specs.declared.held.Held.{Held}
-use Rattle.witness_check.specs.HeldBalls.{HasBallLimits, IsHeld, IsInRange, IsSumOver}
+use Rattle.witness_check.specs.HeldBalls.{IsSumOver}
 use Rattle.witness_check.proofs.Passing.{All-unmap, clash}
 use Rattle.witness_check.proofs.Supports.{placed, first_placed}
 use Rattle.witness_check.proofs.SupportSums.{sum_over_more, too_heavy, some_weight}

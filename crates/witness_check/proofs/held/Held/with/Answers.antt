@@ -1,4 +1,4 @@
-use Rattle.std.proofs.Common.{◌≡◌, ℕ, ◌+◌, ◌*◌, ◌≤◌, ◌^◌, ℤ, pos, ◌+ℤ◌, ◌*ℤ◌, ◌∙◌, ap₂, arith, rules, FitsSigned, to_z, of_z, to_z-of_z, w64}
+use Rattle.std.proofs.Common.{◌≡◌, ◌+◌, ◌≤◌, ℤ, pos, ◌+ℤ◌, ◌*ℤ◌, ◌∙◌, ap₂, arith, rules, FitsSigned, to_z, of_z, to_z-of_z, w64}
 use mir.Syntax.{w128}
 use Rattle.kernel_laws.specs.Limits.{ball_limit}
 use Rattle.witness_check.proofs.HeldSums.{moment_fits, added}
