@@ -1,15 +1,14 @@
 -- What is left to ask of a circle or a sphere once its supports hold a ball in place: the centre.
-use Rattle.std.proofs.Common.{◌≡◌, refl, sym, subst, ◌∙◌, ap, ap₂, ℕ, zero, suc, ◌<◌, ◌≤◌, ◌^◌, ℤ, pos, ◌+ℤ◌, ◌-ℤ◌, ◌*ℤ◌, ◌≤ℤ◌, List, [], ◌∷◌, length, map, Bool, IsTrue, ◌↔◌, arith}
+use Rattle.std.proofs.Common.{◌≡◌, refl, sym, subst, ◌∙◌, ap, ap₂, ℕ, zero, suc, ◌≤◌, ◌^◌, ℤ, pos, ◌+ℤ◌, ◌-ℤ◌, ◌*ℤ◌, ◌≤ℤ◌, List, [], ◌∷◌, length, map, Bool, IsTrue, ◌↔◌, arith}
 use Rattle.std.specs.Prelude.{All}
 use Rattle.std.proofs.lemmas.Int.{ints}
 use Rattle.std.proofs.lemmas.List.{length-map}
 use Rattle.std.proofs.lemmas.List.Elements.{All-nil, All-cons, All-head, All-tail, All-weaker}
 use Rattle.integers.proofs.Sums.{total_nonneg_all}
 use Rattle.bounds_model.specs.Plane.{PlanePoint}
-use Rattle.bounds_model.specs.Space.{SpacePoint, point_at, origin, plus, times, vector, weighted_sum, flat, flat_ratio, SamePlace}
+use Rattle.bounds_model.specs.Space.{SpacePoint, point_at, plus, times, vector, weighted_sum, flat, flat_ratio, SamePlace}
 use Rattle.bounds_model.specs.Places.{IsPlaneRatio, IsSpaceRatio, IsNatural}
 use Rattle.bounds_model.specs.BallAnswer.{Weighted, CircleAnswer, SphereAnswer, IsSupportPlace, weight_sum, first_support, pull, supported_size, supported_centre, PassesCircle, PassesSphere}
-use Rattle.kernel_laws.specs.Vectors.{sum_of}
 use Rattle.witness_check.specs.declared.held.Held.{Held}
 use Rattle.witness_check.specs.HeldBalls.{HasBallLimits, HoldsBall, IsHeld}
 use Rattle.witness_check.proofs.LowestPlaces.{space_ratio_by}
@@ -148,10 +147,9 @@ pub circle_decided : {yes : Bool} (points : List PlanePoint) (a : CircleAnswer) 
     → (IsTrue yes ↔ (IsPlaneRatio a.centre × SamePlace (flat_ratio a.centre) (flat_ratio (record { x = pos h.total *ℤ first.x +ℤ h.pull.x; y = pos h.total *ℤ first.y +ℤ h.pull.y; w = pos h.total }))))
     → IsTrue yes ↔ PassesCircle points a
 circle_decided points a h first few three held is test =
-    let mean = flat_mean_is points a.supports h first held.1 is in
-    (
+    let mean = flat_mean_is points a.supports h first held.1 is in (
       λ t. let both = test.0 t in circle_passes points a few three held.0 both.0 (subst (SamePlace (flat_ratio a.centre)) mean both.1),
-      λ p. test.1 (p.places.centre, subst (SamePlace (flat_ratio a.centre)) (sym mean) p.witness.centre)
+      λ p. test.1 (p.places.centre, subst (SamePlace (flat_ratio a.centre)) (sym mean) p.witness.centre),
     )
 
 pub sphere_decided : {yes : Bool} (points : List SpacePoint) (a : SphereAnswer) (h : Held) (first : SpacePoint) → length points ≤ 10000 → length a.supports ≤ 4
@@ -159,10 +157,9 @@ pub sphere_decided : {yes : Bool} (points : List SpacePoint) (a : SphereAnswer) 
     → (IsTrue yes ↔ (IsSpaceRatio a.centre × SamePlace a.centre (record { x = pos h.total *ℤ first.x +ℤ h.pull.x; y = pos h.total *ℤ first.y +ℤ h.pull.y; z = pos h.total *ℤ first.z +ℤ h.pull.z; w = pos h.total })))
     → IsTrue yes ↔ PassesSphere points a
 sphere_decided points a h first few four held is test =
-    let mean = mean_is points a.supports h first held.1 is in
-    (
+    let mean = mean_is points a.supports h first held.1 is in (
       λ t. let both = test.0 t in sphere_passes points a few four held.0 both.0 (subst (SamePlace a.centre) mean both.1),
-      λ p. test.1 (p.places.centre, subst (SamePlace a.centre) (sym mean) p.witness.centre)
+      λ p. test.1 (p.places.centre, subst (SamePlace a.centre) (sym mean) p.witness.centre),
     )
 
 -- a list seen as it is

@@ -1,13 +1,9 @@
 -- Sums over supports, one support after another, and how large they are.
 use Rattle.std.proofs.Common.{◌≡◌, refl, sym, subst, ◌∙◌, ap, ap₂, ℕ, ◌+◌, ◌*◌, ◌^◌, ◌≤◌, ◌⊎◌, inl, inr, ℤ, pos, ◌+ℤ◌, ◌*ℤ◌, arith, le_trans, mul-le-mul, le_refl}
-use Rattle.std.proofs.lemmas.Int.{ints}
 use Rattle.integers.specs.Size.{Size}
 use Rattle.integers.proofs.Sizes.{size_add, size_mul, size_unsigned}
-use Rattle.bounds_model.specs.Space.{SpacePoint, plus, times, squared_length}
-use Rattle.kernel_laws.specs.declared.vectors.Sum.{Sum}
-use Rattle.kernel_laws.specs.Vectors.{sum_of}
-use Rattle.kernel_laws.specs.Limits.{IsVectorWithin, IsDifference, reach, ball_limit}
-use Rattle.witness_check.specs.declared.held.Held.{Held}
+use Rattle.bounds_model.specs.Space.{SpacePoint, squared_length}
+use Rattle.kernel_laws.specs.Limits.{IsVectorWithin, reach, ball_limit}
 use Rattle.witness_check.specs.HeldBalls.{IsInRange, Adds, squared_reach}
 
 -- ---- the limits as numerals

@@ -1,8 +1,7 @@
 -- A value, or a place, has one form in lowest terms.
 use Prim.Native.Nat.{◌∣◌}
-use Rattle.std.proofs.Common.{Bool, IsTrue, int_eq, ◌&&◌, ◌≡◌, ◌↔◌, sym, subst, ◌∙◌, ap, ap₂, ℕ, ℤ, pos, nat_abs, neg_ℤ, ◌*ℤ◌, ◌<ℤ◌, List, [], ◌∷◌, map, arith}
+use Rattle.std.proofs.Common.{Bool, IsTrue, int_eq, ◌&&◌, ◌≡◌, ◌↔◌, sym, subst, ◌∙◌, ap, ap₂, ℤ, pos, nat_abs, neg_ℤ, ◌*ℤ◌, ◌<ℤ◌, [], ◌∷◌}
 use Rattle.std.specs.Prelude.{All}
-use Rattle.std.proofs.lemmas.Int.{ints}
 use Rattle.std.proofs.lemmas.Bool.Decides.{Decides-at, Decides-and, Decides-int_eq}
 use Rattle.std.proofs.lemmas.List.Elements.{All-nil, All-cons, All-head, All-tail}
 use Rattle.std.proofs.Math.IntN.{*ℤ_comm}
@@ -114,12 +113,12 @@ space_ratio_by {x} {y} {z} {w} {a} {b} {c} {d} h k l m =
 pub plane_ratio_same : {yes : Bool} (a b : PlaneRatio) → yes ≡ (int_eq a.x b.x && (int_eq a.y b.y && int_eq a.w b.w)) → IsTrue yes ↔ (a ≡ b)
 plane_ratio_same {yes} a b e =
     let parts = Decides-at yes (int_eq a.x b.x && (int_eq a.y b.y && int_eq a.w b.w)) e
-        (Decides-and (int_eq a.x b.x) (int_eq a.y b.y && int_eq a.w b.w) (Decides-int_eq a.x b.x) (Decides-and (int_eq a.y b.y) (int_eq a.w b.w) (Decides-int_eq a.y b.y) (Decides-int_eq a.w b.w))) in
+    (Decides-and (int_eq a.x b.x) (int_eq a.y b.y && int_eq a.w b.w) (Decides-int_eq a.x b.x) (Decides-and (int_eq a.y b.y) (int_eq a.w b.w) (Decides-int_eq a.y b.y) (Decides-int_eq a.w b.w))) in
     (λ t. let h = parts.0 t in plane_ratio_by h.0 h.1.0 h.1.1, λ h. parts.1 (ap (λ p. p.x) h, (ap (λ p. p.y) h, ap (λ p. p.w) h)))
 
 pub space_ratio_same : {yes : Bool} (a b : SpaceRatio) → yes ≡ (int_eq a.x b.x && (int_eq a.y b.y && (int_eq a.z b.z && int_eq a.w b.w))) → IsTrue yes ↔ (a ≡ b)
 space_ratio_same {yes} a b e =
     let parts = Decides-at yes (int_eq a.x b.x && (int_eq a.y b.y && (int_eq a.z b.z && int_eq a.w b.w))) e
-        (Decides-and (int_eq a.x b.x) (int_eq a.y b.y && (int_eq a.z b.z && int_eq a.w b.w)) (Decides-int_eq a.x b.x)
-        (Decides-and (int_eq a.y b.y) (int_eq a.z b.z && int_eq a.w b.w) (Decides-int_eq a.y b.y) (Decides-and (int_eq a.z b.z) (int_eq a.w b.w) (Decides-int_eq a.z b.z) (Decides-int_eq a.w b.w)))) in
+    (Decides-and (int_eq a.x b.x) (int_eq a.y b.y && (int_eq a.z b.z && int_eq a.w b.w)) (Decides-int_eq a.x b.x)
+    (Decides-and (int_eq a.y b.y) (int_eq a.z b.z && int_eq a.w b.w) (Decides-int_eq a.y b.y) (Decides-and (int_eq a.z b.z) (int_eq a.w b.w) (Decides-int_eq a.z b.z) (Decides-int_eq a.w b.w)))) in
     (λ t. let h = parts.0 t in space_ratio_by h.0 h.1.0 h.1.1.0 h.1.1.1, λ h. parts.1 (ap (λ p. p.x) h, (ap (λ p. p.y) h, (ap (λ p. p.z) h, ap (λ p. p.w) h))))

@@ -1,10 +1,9 @@
 -- Sums over supports, as one support after another joins.
-use Rattle.std.proofs.Common.{◌≡◌, refl, sym, subst, ◌∙◌, ap, ap₂, ℕ, ◌+◌, ◌<◌, ◌≤◌, ◌⊎◌, inl, inr, ℤ, pos, ◌+ℤ◌, ◌*ℤ◌, ◌≤ℤ◌, ◌<ℤ◌, List, [], ◌∷◌, ◌++◌, length, map, take, drop, get_or, arith}
+use Rattle.std.proofs.Common.{◌≡◌, sym, ◌∙◌, ap, ap₂, ℕ, ◌+◌, ◌<◌, ◌≤◌, ◌⊎◌, inl, inr, ℤ, pos, ◌+ℤ◌, ◌*ℤ◌, ◌≤ℤ◌, ◌<ℤ◌, List, [], ◌∷◌, ◌++◌, length, map, take, drop, get_or, arith}
 use Rattle.std.specs.Prelude.{All}
 use Rattle.std.proofs.lemmas.Int.{ints}
 use Rattle.std.proofs.lemmas.List.{map_more, map-append, take-append-drop}
-use Rattle.std.proofs.lemmas.List.Elements.{All-map, All-drop, All-weaker, All-push}
-use Rattle.integers.specs.Total.{total}
+use Rattle.std.proofs.lemmas.List.Elements.{All-map, All-drop, All-weaker}
 use Rattle.integers.proofs.Sums.{total-append, total-one_more, total_nonneg_all, total_positive}
 use Rattle.bounds_model.specs.Space.{SpacePoint, origin, plus, times, vector, point_at, squared_length, weighted_sum}
 use Rattle.bounds_model.specs.BallAnswer as model

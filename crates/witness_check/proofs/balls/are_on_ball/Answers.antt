@@ -1,4 +1,4 @@
-use Rattle.std.proofs.Common.{◌≡◌, refl, sym, subst, ℕ, ◌<◌, ◌≤◌, List, length, map, get_or, arith}
+use Rattle.std.proofs.Common.{◌≡◌, refl, subst, map, get_or}
 use Rattle.std.specs.Prelude.{All, take}
 use Rattle.std.proofs.lemmas.List.{take_all}
 use Rattle.std.proofs.lemmas.List.Elements.{All-map, All-more}
@@ -23,10 +23,9 @@ returns-then-not-is_on g c =
     let supports = c.args.supports.now in
     let s : Weighted = get_or supports c.loop-s.s-index (record { point = 0; weight = 0 }) in
     let first = first_placed place points supports (record { point = 0; weight = 0 }) c.at-first.result.now (some_supports supports c.requires.limits.some) c.at-first.ensures in
-    let on = on_ball_by (map place points) (map weighted_of supports) c.args.held.now (place c.at-first.result.now) (place c.at.result.now) (weighted_of s) c.requires.held first (placed place points s.point c.at.result.now c.at.ensures) c.is_on.ensures in
-    (
+    let on = on_ball_by (map place points) (map weighted_of supports) c.args.held.now (place c.at-first.result.now) (place c.at.result.now) (weighted_of s) c.requires.held first (placed place points s.point c.at.result.now c.at.ensures) c.is_on.ensures in (
       λ no. absurd (cc no),
-      λ all. absurd (clash (on.1 (All-unmap (IsOnBall (map place points) (map weighted_of supports)) weighted_of supports all c.loop-s.s-index (record { point = 0; weight = 0 }) c.loop-s-test.true)) c.if-not-is_on.true)
+      λ all. absurd (clash (on.1 (All-unmap (IsOnBall (map place points) (map weighted_of supports)) weighted_of supports all c.loop-s.s-index (record { point = 0; weight = 0 }) c.loop-s-test.true)) c.if-not-is_on.true),
     )
 
 pub loop-s-preserved : goal.loop-s-preserved
@@ -44,8 +43,7 @@ returns g c =
     let place = g.K.Kernel.place in
     let points = points_of c.args.cloud in
     let supports = c.args.supports.now in
-    let whole : take c.loop-s.s-index supports ≡ supports = take_all c.loop-s.s-index supports c.loop-s-test.false in
-    (
+    let whole : take c.loop-s.s-index supports ≡ supports = take_all c.loop-s.s-index supports c.loop-s-test.false in (
       λ yes. All-map (IsOnBall (map place points) (map weighted_of supports)) weighted_of supports (subst (All (λ s. IsOnBall (map place points) (map weighted_of supports) (weighted_of s))) whole c.loop-s.invariant),
-      λ all. refl
+      λ all. refl,
     )

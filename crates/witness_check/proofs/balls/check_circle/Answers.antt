@@ -1,4 +1,4 @@
-use Rattle.std.proofs.Common.{◌≡◌, sym, subst, ap, ℕ, ◌<◌, ◌≤◌, length, map, IsTrue, ◌↔◌, get_or}
+use Rattle.std.proofs.Common.{◌≡◌, sym, subst, ap, ◌<◌, ◌≤◌, map, IsTrue, ◌↔◌, get_or}
 use Rattle.std.proofs.lemmas.List.{length-map}
 use Rattle.bounds_model.specs.Space.{flat}
 use Rattle.bounds_model.specs.BallAnswer.{CircleAnswer, PassesCircle}

@@ -1,4 +1,4 @@
-use Rattle.std.proofs.Common.{◌≡◌, sym, subst, ℕ, ◌≤◌, ◌^◌, length, map, pos, le_trans}
+use Rattle.std.proofs.Common.{sym, subst, map, le_trans}
 use Rattle.std.proofs.lemmas.List.{length-map}
 use Rattle.bounds_model.specs.Fractions.{SameValue}
 use Rattle.bounded_coords.specs.Clouds.{points_of}
@@ -28,8 +28,7 @@ returns-then-not-is_size g c = λ h.
 
 pub returns : goal.returns
 returns g c =
-    let size = c.is_size.ensures.0 c.if-not-is_size.false in
-    (
+    let size = c.is_size.ensures.0 c.if-not-is_size.false in (
       record {
         limits = subst (λ n. HasBallLimits g.K.Kernel.DIM n (map weighted_of c.args.supports.now)) (sym (length-map (points_of c.args.cloud) g.K.Kernel.place)) c.in_ok-held.ensures.0;
         size_place = size.0;
@@ -37,5 +36,5 @@ returns g c =
         on_ball = c.are_on_ball.ensures.0 c.if-not-are_on_ball.false;
         none_outside = c.is_none_outside.ensures.0 c.if-not-is_none_outside.false;
       },
-      c.in_ok-held.ensures.1
+      c.in_ok-held.ensures.1,
     )

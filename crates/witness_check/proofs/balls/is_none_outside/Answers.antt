@@ -1,4 +1,4 @@
-use Rattle.std.proofs.Common.{◌≡◌, refl, sym, subst, ℕ, ◌<◌, ◌≤◌, List, length, map, arith}
+use Rattle.std.proofs.Common.{◌≡◌, refl, subst, map, arith}
 use Rattle.std.specs.Prelude.{All, take}
 use Rattle.std.proofs.lemmas.List.{take_all}
 use Rattle.std.proofs.lemmas.List.Elements.{All-map}
@@ -18,10 +18,9 @@ returns-then-is_outside g c =
     let points = points_of c.args.cloud in
     let supports = c.args.supports.now in
     let first = first_placed place points supports (record { point = 0; weight = 0 }) c.at-first.result.now (some_supports supports c.requires.limits.some) c.at-first.ensures in
-    let outside = outside_by (map place points) (map weighted_of supports) c.args.held.now (place c.at-first.result.now) (place c.at.result.now) c.requires.held first c.is_outside.ensures in
-    (
+    let outside = outside_by (map place points) (map weighted_of supports) c.args.held.now (place c.at-first.result.now) (place c.at.result.now) c.requires.held first c.is_outside.ensures in (
       λ no. absurd (cc no),
-      λ all. absurd (outside.0 c.if-is_outside.true (at_point (λ p. IsNotOutside (map place points) (map weighted_of supports) (place p)) points c.loop-i.i c.at.result.now c.at.ensures (All-unmap (IsNotOutside (map place points) (map weighted_of supports)) place points all)))
+      λ all. absurd (outside.0 c.if-is_outside.true (at_point (λ p. IsNotOutside (map place points) (map weighted_of supports) (place p)) points c.loop-i.i c.at.result.now c.at.ensures (All-unmap (IsNotOutside (map place points) (map weighted_of supports)) place points all))),
     )
 
 pub loop-i-preserved : goal.loop-i-preserved
@@ -38,8 +37,7 @@ returns g c =
     let place = g.K.Kernel.place in
     let points = points_of c.args.cloud in
     let supports = c.args.supports.now in
-    let whole : take c.loop-i.i points ≡ points = take_all c.loop-i.i points (omega arith) in
-    (
+    let whole : take c.loop-i.i points ≡ points = take_all c.loop-i.i points (omega arith) in (
       λ yes. All-map (IsNotOutside (map place points) (map weighted_of supports)) place points (subst (All (λ p. IsNotOutside (map place points) (map weighted_of supports) (place p))) whole c.loop-i.invariant),
-      λ all. refl
+      λ all. refl,
     )

@@ -1,6 +1,5 @@
-use Rattle.std.proofs.Common.{◌≡◌, refl, subst, ◌∙◌, ◌≤◌, ◌^◌, inl, pos, ◌+ℤ◌, ◌*ℤ◌, FitsSigned, w32, rules}
+use Rattle.std.proofs.Common.{refl, subst, ◌≤◌, ◌^◌, inl, pos, ◌+ℤ◌, ◌*ℤ◌, FitsSigned, w32, rules}
 use mir.Syntax.{w128}
-use Rattle.bounds_model.specs.Plane.{PlaneRatio}
 use Rattle.bounds_model.specs.Space.{SamePlace, flat_ratio}
 use Rattle.witness_check.proofs.HeldSums.{total_limit}
 use Rattle.witness_check.proofs.Means.{entry, denominator, denominator_positive}
@@ -22,5 +21,5 @@ returns c =
     let place = subst (λ v. SamePlace (flat_ratio c.new.result) (flat_ratio v)) (plane_ratio_by in_x in_y (denominator below)) c.new.ensures.place in
     let same = plane_ratio_same c.args.centre.now c.new.result c.eq.ensures in
     let is = has_plane_place c.args.centre.now c.new.result (record { x = pos held.total *ℤ c.args.first.now.x +ℤ held.pull.x; y = pos held.total *ℤ c.args.first.now.y +ℤ held.pull.y; w = pos held.total })
-        (denominator_positive c.requires.some) c.new.ensures.lowest place in
+    (denominator_positive c.requires.some) c.new.ensures.lowest place in
     (λ yes. is.1 (same.0 yes), λ h. same.1 (is.0 h))

@@ -1,6 +1,6 @@
-use Rattle.std.proofs.Common.{◌≡◌, refl, subst, ◌∙◌, ◌≤◌, ◌^◌, inr, pos, ◌+ℤ◌, ◌*ℤ◌, FitsSigned, w32, rules}
+use Rattle.std.proofs.Common.{refl, subst, ◌≤◌, ◌^◌, inr, pos, ◌+ℤ◌, ◌*ℤ◌, FitsSigned, w32, rules}
 use mir.Syntax.{w128}
-use Rattle.bounds_model.specs.Space.{SpaceRatio, SamePlace}
+use Rattle.bounds_model.specs.Space.{SamePlace}
 use Rattle.witness_check.proofs.HeldSums.{total_limit}
 use Rattle.witness_check.proofs.Means.{entry, denominator, denominator_positive}
 use Rattle.witness_check.proofs.LowestPlaces.{has_space_place, space_ratio_same, space_ratio_by}
@@ -25,5 +25,5 @@ returns c =
     let place = subst (λ v. SamePlace c.new.result v) (space_ratio_by in_x in_y in_z (denominator below)) c.new.ensures.place in
     let same = space_ratio_same c.args.centre.now c.new.result c.eq.ensures in
     let is = has_space_place c.args.centre.now c.new.result (record { x = pos held.total *ℤ c.args.first.now.x +ℤ held.pull.x; y = pos held.total *ℤ c.args.first.now.y +ℤ held.pull.y; z = pos held.total *ℤ c.args.first.now.z +ℤ held.pull.z; w = pos held.total })
-        (denominator_positive c.requires.some) c.new.ensures.lowest place in
+    (denominator_positive c.requires.some) c.new.ensures.lowest place in
     (λ yes. is.1 (same.0 yes), λ h. same.1 (is.0 h))

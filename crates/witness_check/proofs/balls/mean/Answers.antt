@@ -1,9 +1,9 @@
-use Rattle.std.proofs.Common.{ℕ, ◌≤◌, ◌<◌, ◌^◌, ℤ, List, [], ◌∷◌, arith}
+use Rattle.std.proofs.Common.{ℕ, ◌≤◌, ◌<◌, ◌^◌, ℤ, [], ◌∷◌, arith}
 use Rattle.std.proofs.lemmas.Int.{to_z_pos}
 use mir.Syntax.{w128}
 use Rattle.integers.specs.Size.{Size}
 use Rattle.integers.proofs.Sizes.{size_unsigned, below_size, above_size}
-use Rattle.integers.proofs.MachineArithmetic.{Given, given, with_inputs, codes, size_within}
+use Rattle.integers.proofs.MachineArithmetic.{given, with_inputs, codes, size_within}
 use Rattle.bounds_model.specs.Places.{IsNumber}
 use Rattle.witness_check.proofs.balls.mean.Goals as goal
 

@@ -1,16 +1,14 @@
-use Rattle.std.proofs.Common.{◌≡◌, refl, sym, subst, ◌∙◌, ap, ap₂, ℕ, ◌+◌, ◌<◌, ◌≤◌, ℤ, pos, ◌≤ℤ◌, List, [], ◌∷◌, ◌++◌, length, map, take, get_or, Bool, false, eqb, arith}
+use Rattle.std.proofs.Common.{◌≡◌, refl, sym, subst, ◌∙◌, ap₂, ℕ, ◌<◌, ◌≤◌, ℤ, pos, ◌≤ℤ◌, List, [], ◌∷◌, length, map, take, get_or, Bool, false, eqb, arith}
 use Rattle.std.specs.Prelude.{All}
 use Rattle.std.proofs.lemmas.Int.{ints}
 use Rattle.std.proofs.lemmas.List.{map_more, take_all, length-map}
 use Rattle.std.proofs.lemmas.List.Elements.{All-map, All-push}
 use Rattle.bounds_model.specs.Space.{vector}
-use Rattle.bounds_model.specs.BallAnswer.{first_support, weight_sum}
-use Rattle.kernel_laws.specs.Limits.{ball_limit}
+use Rattle.bounds_model.specs.BallAnswer.{first_support}
 use Rattle.bounded_coords.specs.Clouds.{points_of}
 use Rattle.witness_format.specs.Answers.{weighted_of}
 use Rattle.witness_format.specs.declared.answer.Weighted.{Weighted}
-use Rattle.witness_check.specs.declared.held.Held.{Held}
-use Rattle.witness_check.specs.HeldBalls.{HasBallLimits, IsHeld, IsInRange, IsSumOver}
+use Rattle.witness_check.specs.HeldBalls.{IsSumOver}
 use Rattle.witness_check.proofs.Passing.{All-unmap, clash}
 use Rattle.witness_check.proofs.Supports.{placed, first_placed}
 use Rattle.witness_check.proofs.SupportSums.{sum_over_more, too_heavy, some_weight}
@@ -56,15 +54,14 @@ returns g c =
     let weights = subst (λ ss. All (λ s. pos 1 ≤ℤ s.weight) (map weighted_of ss)) whole c.loop-s.invariant.weights in
     let sums = subst (λ ss. IsSumOver (map place points) (first_support (map place points) (map weighted_of supports)) (map weighted_of ss) c.loop-s.held) whole c.loop-s.invariant.sums in
     let some = subst (λ n. 1 ≤ n) (sym (length-map supports weighted_of)) (not_empty supports c.is_empty.ensures c.if-is_empty.false) in
-    let numbers = subst (λ n. All (λ s. s.point < n) supports) c.len.ensures.count (c.are_numbers.ensures.0 c.if-not-are_numbers.false) in
-    (
+    let numbers = subst (λ n. All (λ s. s.point < n) supports) c.len.ensures.count (c.are_numbers.ensures.0 c.if-not-are_numbers.false) in (
       record {
         some = some;
         numbers = All-map (λ s. s.point < length points) weighted_of supports numbers;
         weights = weights;
         weight_limit = within sums.weights c.loop-s.invariant.range.total;
       },
-      record { some = some_weight (map weighted_of supports) c.loop-s.held.total some weights sums.weights; range = c.loop-s.invariant.range; sums = sums }
+      record { some = some_weight (map weighted_of supports) c.loop-s.held.total some weights sums.weights; range = c.loop-s.invariant.range; sums = sums },
     )
   where
     within : {t limit : ℕ} {a : ℤ} → pos t ≡ a → t ≤ limit → a ≤ℤ pos limit

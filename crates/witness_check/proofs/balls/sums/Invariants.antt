@@ -1,4 +1,3 @@
-use Rattle.std.proofs.Common.{◌≤◌}
 use Rattle.std.specs.Prelude.{map, take, All, pos, ◌≤ℤ◌}
 use Rattle.bounds_model.specs.BallAnswer.{first_support}
 use Rattle.bounded_coords.specs.Clouds.{points_of}

@@ -1,8 +1,6 @@
-use Rattle.std.proofs.Common.{◌≡◌, subst, ℕ, List}
-use Rattle.std.specs.Prelude.{Any, All, slice_get, Some}
+use Rattle.std.specs.Prelude.{Any}
 use Rattle.bounds_model.specs.Centres.{IsNear}
 use Rattle.bounded_coords.specs.Clouds.{points_of}
-use Rattle.std.proofs.lemmas.Option.{get_or_from_slice_get, slice_get_within}
 use Rattle.witness_check.proofs.Passing.{at_point, each_more}
 use Rattle.witness_check.proofs.centres.cover.Goals as goal
 

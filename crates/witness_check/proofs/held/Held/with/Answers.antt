@@ -1,4 +1,4 @@
-use Rattle.std.proofs.Common.{◌≡◌, ℕ, ◌+◌, ◌*◌, ◌≤◌, ◌^◌, ℤ, pos, ◌+ℤ◌, ◌*ℤ◌, ◌∙◌, ap₂, arith, rules, FitsSigned, to_z, of_z, to_z-of_z, w64}
+use Rattle.std.proofs.Common.{◌≡◌, ◌+◌, ◌≤◌, ℤ, pos, ◌+ℤ◌, ◌*ℤ◌, ◌∙◌, ap₂, arith, rules, FitsSigned, to_z, of_z, to_z-of_z, w64}
 use mir.Syntax.{w128}
 use Rattle.kernel_laws.specs.Limits.{ball_limit}
 use Rattle.witness_check.proofs.HeldSums.{moment_fits, added}
@@ -24,5 +24,5 @@ pub returns : goal.returns
 returns g c =
     let limit : c.args.self.total + c.args.weight ≤ ball_limit g.K.Kernel.DIM = omega arith in
     let sums = added c.requires.range c.requires.to.within limit c.squared.ensures.value c.squared.ensures.limit
-        (stepped c.args.self.pull.x c.args.to.x (pos c.args.weight) (search rules) (search rules) (search rules) c.plus.ensures) (stepped c.args.self.pull.y c.args.to.y (pos c.args.weight) (search rules) (search rules) (search rules) c.plus-2.ensures) (stepped c.args.self.pull.z c.args.to.z (pos c.args.weight) (search rules) (search rules) (search rules) c.plus-3.ensures) in
+    (stepped c.args.self.pull.x c.args.to.x (pos c.args.weight) (search rules) (search rules) (search rules) c.plus.ensures) (stepped c.args.self.pull.y c.args.to.y (pos c.args.weight) (search rules) (search rules) (search rules) c.plus-2.ensures) (stepped c.args.self.pull.z c.args.to.z (pos c.args.weight) (search rules) (search rules) (search rules) c.plus-3.ensures) in
     (omega arith, sums.0, sums.1)
