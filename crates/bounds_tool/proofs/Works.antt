@@ -1,11 +1,10 @@
 -- The work that a task calls for, and its outputs, where the files tell.
-use Rattle.std.proofs.Common.{◌≡◌, ◌∙◌, refl, ap, ℕ, Bool, true, false, List, Option, Some, None, Result, Ok, Err, IfSome, IsTrue, ◌↔◌}
+use Rattle.std.proofs.Common.{◌≡◌, ◌∙◌, refl, ap, ℕ, Bool, true, false, List, Option, Some, None, Ok, IfSome, IsTrue, ◌↔◌}
 use Rattle.bounds_model.specs.Asks.{Ask, Sets}
 use Rattle.bounds_model.specs.Answers.{Answer, Passes, IsBest}
-use Rattle.bounds_model.specs.ErrorLines.{Cause}
 use Rattle.bounds_model.specs.AnswerText.Spelling.{Spells}
 use Rattle.bnd_io.specs.Files.{Folder, bytes_of}
-use Rattle.bounds_tool.specs.Words.{Task, solve_task, check_task}
+use Rattle.bounds_tool.specs.Words.{solve_task, check_task}
 use Rattle.bounds_tool.specs.Judging.{Work, solving, checking, ◌>>=◌, points_in, answer_in, work_of}
 use Rattle.bounds_tool.specs.Outputs as outputs
 use Rattle.bounds_tool.specs.Outputs.{IsSolution, IsDone, IsMeantAs}

@@ -1,5 +1,5 @@
 -- What answering a question takes.
-use Rattle.std.specs.Prelude.{ℕ, ◌+◌, List, length}
+use Rattle.std.specs.Prelude.{ℕ, ◌+◌, length}
 use Rattle.bounds_model.specs.Asks.{Sets, plane, space, two, bare}
 
 -- how many points there are

@@ -1,7 +1,6 @@
 use Rattle.std.proofs.Common.{◌∙◌, sym}
-use Rattle.bnd_io.specs.Faults.{Rose}
 use Rattle.bounds_tool.specs.Causes.{meant}
-use Rattle.bounds_tool.specs.Run.{texts, TaskFault}
+use Rattle.bounds_tool.specs.Run.{texts}
 use Rattle.bounds_tool.proofs.Endings.{IsRefusal-cause, TaskFault-cause, MayEnd-cause, MayEnd-output}
 use Rattle.bounds_tool.proofs.command.run.Goals as goal
 
