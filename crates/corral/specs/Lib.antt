@@ -1,0 +1,4 @@
+pub mod Parts
+pub mod Supports
+pub mod Rise
+pub mod Laws
