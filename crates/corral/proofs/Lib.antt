@@ -5,3 +5,4 @@ pub mod Walk
 pub mod Settling
 pub mod Measure
 pub mod TooMany
+pub mod MomentSizes
