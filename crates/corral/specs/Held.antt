@@ -1,12 +1,13 @@
 -- Items with weights.
 use Rattle.std.specs.Prelude.{ℕ, ◌+◌, ℤ, pos, List, All, map}
+use Rattle.std.specs.Coded.{le_prop}
 use Rattle.bounds_model.specs.Numbers.{HasCount}
 use Rattle.bounds_model.specs.Space.{SpacePoint}
 use Rattle.bounds_model.specs.Potentials.{WeightedVector}
 use Rattle.corral.specs.declared.items.Id.{Id}
 use Rattle.corral.specs.declared.items.Items.{Items}
 use Rattle.corral.specs.declared.holding.Held.{Held}
-use Rattle.corral.specs.Items.{IsItem, item}
+use Rattle.corral.specs.Items.{IsItem, IsItem-prop, item}
 
 -- the names of items with weights
 abbrev pub names : List Held → List Id
@@ -28,3 +29,7 @@ weighted_item place items s = record { weight = pos s.weight; vector = item plac
 -- the weighted vectors of a list of them
 abbrev pub weighted_items : {K P : Type 0} → (P → SpacePoint) → Items K P → List Held → List WeightedVector
 weighted_items place items held = map (weighted_item place items) held
+
+-- this holds in one way at most
+pub AreHeld-prop : {K P : Type 0} (dim : ℕ) (items : Items K P) (held : List Held) → IsProp (AreHeld dim items held)
+AreHeld-prop dim items held = hlevel (IsItem-prop, le_prop)

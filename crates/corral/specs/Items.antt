@@ -1,5 +1,6 @@
 -- Items: points as seen from the first one, or differences of the points of two sets.
 use Rattle.std.specs.Prelude.{◌≡◌, ◌<◌, ℤ, pos, List, length, map}
+use Rattle.std.specs.Coded.{Coded-set, coded_ℕ, ×_prop, le_prop}
 use Rattle.bounds_model.specs.Space.{SpacePoint, vector, point_at}
 use Rattle.bounded_coords.specs.Clouds.{points_of}
 use Rattle.corral.specs.declared.items.Id.{Id}
@@ -30,3 +31,8 @@ second_points (Differences p q) = points_of q
 abbrev pub square_of : {K P : Type 0} → Items K P → ℤ
 square_of (Points cloud) = pos 1
 square_of (Differences p q) = pos 0
+
+-- this holds in one way at most
+pub IsItem-prop : {K P : Type 0} (items : Items K P) (id : Id) → IsProp (IsItem items id)
+IsItem-prop (Points cloud) id = ×_prop le_prop (Coded-set coded_ℕ id.second id.first)
+IsItem-prop (Differences p q) id = ×_prop le_prop le_prop

@@ -8,7 +8,7 @@ ghost use Rattle.kernel_laws.specs.Limits.{IsVectorWithin, IsDifference, reach};
 ghost use Rattle.kernel_laws.specs.Solutions.{AreItems};
 ghost use Rattle.corral.specs.Parts.{IsPart};
 ghost use Rattle.corral.specs.Items.{IsItem, item, square_of};
-ghost use Rattle.corral.specs.Held.{AreHeld, names, weighted_items};
+ghost use Rattle.corral.specs.Held.{AreHeld, AreHeld-prop, names, weighted_items};
 ghost use Rattle.corral.specs.Balances.{IsBalance, vectors, candidate_names, AreCandidates};
 
 use crate::holding::{Held, Support};
@@ -29,7 +29,7 @@ pub struct Corral<'a, K: Kernel, T: Potential> {
     balance: Balance,
     potential: PhantomData<T>,
     ghost suited: { T.SQUARE ≡ square_of items },
-    ghost held: { ∥ AreHeld K.DIM items balance.held.items ∥₁ },
+    ghost held: { AreHeld K.DIM items balance.held.items } by { AreHeld-prop K.DIM items balance.held.items },
     ghost balanced: { IsBalance K.DIM T.SQUARE (weighted_items K.place items balance.held.items) balance },
 }
 

@@ -1,6 +1,6 @@
 //! Weighted items.
 ghost use Rattle.std.specs.Prelude.{◌≡◌, ◌+◌, ◌<◌, ◌≤◌, length, map, slice_get, Some, IsSomeAnd};
-ghost use Rattle.corral.specs.Held.{AreHeld};
+ghost use Rattle.corral.specs.Held.{AreHeld, AreHeld-prop};
 
 use crate::items::{Id, Items};
 use arrayvec::ArrayVec;
@@ -18,7 +18,7 @@ pub(crate) struct Held {
 pub struct Support<'a, K: Kernel> {
     items: Items<'a, K>,
     held: ArrayVec<Held, 4>,
-    ghost are_held: { ∥ AreHeld K.DIM items held.items ∥₁ },
+    ghost are_held: { AreHeld K.DIM items held.items } by { AreHeld-prop K.DIM items held.items },
 }
 
 impl<'a, K: Kernel> Support<'a, K> {
@@ -64,7 +64,7 @@ impl<'a, K: Kernel> Support<'a, K> {
         requires { i < length (supports_of self.now) }
         ensures { IsSomeAnd (slice_get (supports_of self.now) i) (λ s. slice_get (first_points (items_of self.now)) s.id.first ≡ Some result.now) }
     {
-        self.items.first(self.id(i))
+        self.items.first(self.held[i as usize].id)
     }
 
     /// The point of support i, or the point of q where it is a difference.
@@ -72,6 +72,6 @@ impl<'a, K: Kernel> Support<'a, K> {
         requires { i < length (supports_of self.now) }
         ensures { IsSomeAnd (slice_get (supports_of self.now) i) (λ s. slice_get (second_points (items_of self.now)) s.id.second ≡ Some result.now) }
     {
-        self.items.second(self.id(i))
+        self.items.second(self.held[i as usize].id)
     }
 }
