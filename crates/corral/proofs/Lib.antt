@@ -6,3 +6,6 @@ pub mod Settling
 pub mod Measure
 pub mod TooMany
 pub mod MomentSizes
+pub mod Running
+pub mod Places
+pub mod Ends
