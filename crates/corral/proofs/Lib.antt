@@ -1,6 +1,13 @@
+pub mod Values
+pub mod Moments
 pub mod Parts
+pub mod Insertions
+pub mod Blends
 pub mod Supports
+pub mod Kept
+pub mod Ratios
 pub mod Duality
+pub mod Drops
 pub mod Walk
 pub mod Settling
 pub mod Measure
