@@ -41,6 +41,12 @@ numbered (item ∷ items) (n ∷ ns) = record { weight = item.weight; number = n
 tails : {m n : ℕ} → suc m ≡ suc n → m ≡ n
 tails e = omega arith
 
+-- there are as many
+pub length-numbered : (items : List WeightedVector) (ns : List ℤ) → length ns ≡ length items → length (numbered items ns) ≡ length items
+length-numbered [] ns e = refl
+length-numbered (item ∷ items) [] e = absurd (omega arith)
+length-numbered (item ∷ items) (n ∷ ns) e = ap suc (length-numbered items ns (tails e))
+
 -- by weight they are the items again
 pub by_weight-numbered : (items : List WeightedVector) (ns : List ℤ) → length ns ≡ length items → by_weight (numbered items ns) ≡ items
 by_weight-numbered [] ns e = refl
@@ -62,6 +68,13 @@ all-numbered P (item ∷ items) [] e h = All-nil P
 all-numbered P (item ∷ items) (n ∷ ns) e h =
     let t : Numbered = record { weight = item.weight; number = n; vector = item.vector } in
     All-cons P n ns (All-head (λ (t : Numbered). P t.number) t (numbered items ns) h) (all-numbered P items ns (tails e) (All-tail (λ (t : Numbered). P t.number) t (numbered items ns) h))
+
+-- what holds of each item's weight holds of each weight
+pub all-by_weight : (P : ℤ → Type 0) (ts : List Numbered) → All (λ item. P item.weight) (by_weight ts) → All (λ t. P t.weight) ts
+all-by_weight P [] h = All-nil (λ (t : Numbered). P t.weight)
+all-by_weight P (t ∷ ts) h =
+    let item : WeightedVector = record { weight = t.weight; vector = t.vector } in
+    All-cons (λ (t : Numbered). P t.weight) t ts (All-head (λ (item : WeightedVector). P item.weight) item (by_weight ts) h) (all-by_weight P ts (All-tail (λ (item : WeightedVector). P item.weight) item (by_weight ts) h))
 
 -- the vectors are the same
 pub vectors-blended : (k l : ℤ) (ts : List Numbered) → support_vectors (blended k l ts) ≡ support_vectors (by_weight ts)

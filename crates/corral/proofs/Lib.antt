@@ -8,6 +8,7 @@ pub mod Kept
 pub mod Ratios
 pub mod Duality
 pub mod Drops
+pub mod Dependent
 pub mod Walk
 pub mod Settling
 pub mod Measure
