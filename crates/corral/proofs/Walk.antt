@@ -86,17 +86,34 @@ IsSolvedWith Q square part = AreAffinelyDependent part ⊎ ((weights : List ℤ)
 abbrev pub AreAllSolvedWith : (List SpacePoint → List ℤ → Type 0) → ℤ → List SpacePoint → Type 0
 AreAllSolvedWith Q square vectors = (part : List SpacePoint) → IsPart part vectors → 1 ≤ length part → IsSolvedWith Q square part
 
--- a part with weights of at least 1 that balance it, of which that holds, and of no less value than the items
-pub record HasSupports (Q : List SpacePoint → List ℤ → Type 0) (square : ℤ) (items : List WeightedVector) : Type 0 where
+-- a part with weights of at least 1 that balance it, of which that holds
+pub record Candidate (Q : List SpacePoint → List ℤ → Type 0) (square : ℤ) (vectors : List SpacePoint) : Type 0 where
   pub part : List SpacePoint
   pub weights : List ℤ
-  pub is_part : IsPart part (support_vectors items)
+  pub is_part : IsPart part vectors
   pub balanced : AreBalanced square part weights
   pub at_least_one : All (λ w. pos 1 ≤ℤ w) weights
   pub holds : Q part weights
-  pub no_less : IsAtMost (value square items) (value square (weighted weights part))
 
-no_less_trans : (square : ℤ) (a b c : List WeightedVector) → pos 0 <ℤ mass a → pos 0 <ℤ mass b → pos 0 <ℤ mass c → IsAtMost (value square a) (value square b) → IsAtMost (value square b) (value square c) → IsAtMost (value square a) (value square c)
+-- the vectors of its part with its weights
+abbrev pub items_of : {Q : List SpacePoint → List ℤ → Type 0} {square : ℤ} {vectors : List SpacePoint} → Candidate Q square vectors → List WeightedVector
+items_of c = weighted c.weights c.part
+
+-- their sum of weights
+pub mass_of : {Q : List SpacePoint → List ℤ → Type 0} {square : ℤ} {vectors : List SpacePoint} (c : Candidate Q square vectors) → pos 0 <ℤ mass (items_of c)
+mass_of c = subst (λ m. pos 0 <ℤ m) (sym (mass-weighted c.weights c.part c.balanced.as_many)) c.balanced.positive
+
+-- a candidate among the parts of a part is one among the parts of the whole
+abbrev pub candidate_of_more : {Q : List SpacePoint → List ℤ → Type 0} {square : ℤ} {vectors more : List SpacePoint} → IsPart vectors more → Candidate Q square vectors → Candidate Q square more
+candidate_of_more h c = record { part = c.part; weights = c.weights; is_part = part_trans c.is_part h; balanced = c.balanced; at_least_one = c.at_least_one; holds = c.holds }
+
+-- a candidate among the parts of the items, of no less value than the items
+pub record HasSupports (Q : List SpacePoint → List ℤ → Type 0) (square : ℤ) (items : List WeightedVector) : Type 0 where
+  pub candidate : Candidate Q square (support_vectors items)
+  pub no_less : IsAtMost (value square items) (value square (items_of candidate))
+
+-- a chain of values
+pub no_less_trans : (square : ℤ) (a b c : List WeightedVector) → pos 0 <ℤ mass a → pos 0 <ℤ mass b → pos 0 <ℤ mass c → IsAtMost (value square a) (value square b) → IsAtMost (value square b) (value square c) → IsAtMost (value square a) (value square c)
 no_less_trans square a b c ha hb hc h k = fraction_le_trans (value square a).n (value square a).d (value square b).n (value square b).d (value square c).n (value square c).d (positive_mul ha ha) (positive_mul hb hb) (positive_mul hc hc) h k
 
 -- one step: the walk has ended, or goes on with fewer items
@@ -107,12 +124,14 @@ step Q square items some weights (inr solution) = by (all_or_fewer square items 
     by : All (λ w. pos 1 ≤ℤ w) solution.0 ⊎ HasFewer square items → HasSupports Q square items ⊎ HasFewer square items
     by (inl all) =
         inl (record {
-          part = support_vectors items;
-          weights = solution.0;
-          is_part = part_whole (support_vectors items);
-          balanced = solution.1;
-          at_least_one = all;
-          holds = solution.2;
+          candidate = record {
+            part = support_vectors items;
+            weights = solution.0;
+            is_part = part_whole (support_vectors items);
+            balanced = solution.1;
+            at_least_one = all;
+            holds = solution.2;
+          };
           no_less = (about_weights square items solution.0 some weights solution.1).no_less;
         })
     by (inr fewer) = inr fewer
@@ -120,13 +139,8 @@ step Q square items some weights (inr solution) = by (all_or_fewer square items 
 -- what fewer items end at
 onward : (Q : List SpacePoint → List ℤ → Type 0) (square : ℤ) (items : List WeightedVector) → 1 ≤ length items → All (λ item. pos 1 ≤ℤ item.weight) items → (h : HasFewer square items) → HasSupports Q square h.fewer → HasSupports Q square items
 onward Q square items some weights h r = record {
-  part = r.part;
-  weights = r.weights;
-  is_part = part_trans r.is_part h.is_part;
-  balanced = r.balanced;
-  at_least_one = r.at_least_one;
-  holds = r.holds;
-  no_less = no_less_trans square items h.fewer (weighted r.weights r.part) (mass_positive items some weights) (mass_positive h.fewer h.some h.weights) (subst (λ m. pos 0 <ℤ m) (sym (mass-weighted r.weights r.part r.balanced.as_many)) r.balanced.positive) h.no_less r.no_less;
+  candidate = candidate_of_more h.is_part r.candidate;
+  no_less = no_less_trans square items h.fewer (items_of r.candidate) (mass_positive items some weights) (mass_positive h.fewer h.some h.weights) (mass_of r.candidate) h.no_less r.no_less;
 }
 
 -- of at most n items
@@ -148,9 +162,9 @@ walk_with Q square items some weights solved = walk_within Q square (length item
 pub walk : WalkEndsAtSupports
 walk square flag items some weights solved =
     let r = walk_with (λ part ws. Unit {0}) square items some weights (λ part is_part some_part. plainly part (solved part is_part some_part)) in
-    let w = weighted r.weights r.part in
-    let e = vectors-weighted r.weights r.part r.balanced.as_many in
-    (w, subst (λ vs. IsPart vs (support_vectors items)) (sym e) r.is_part, supports_from_balanced square r.part r.weights r.balanced r.at_least_one, r.no_less)
+    let c = r.candidate in
+    let e = vectors-weighted c.weights c.part c.balanced.as_many in
+    (items_of c, subst (λ vs. IsPart vs (support_vectors items)) (sym e) c.is_part, supports_from_balanced square c.part c.weights c.balanced c.at_least_one, r.no_less)
   where
     plainly : (part : List SpacePoint) → AreSolved square part → IsSolvedWith (λ part ws. Unit {0}) square part
     plainly part (inl dependent) = inl dependent
