@@ -20,6 +20,11 @@ pub all_inserted : {A : Type 0} (P : A → Type 0) {x : A} {rest whole : List A}
 all_inserted P (first {x} {rest}) p h = All-cons P x rest p h
 all_inserted P (later {x} {y} {rest} {whole} at) p h = All-cons P y whole (All-head P y rest h) (all_inserted P at p (All-tail P y rest h))
 
+-- it is not empty
+pub some_inserted : {A : Type 0} {x : A} {rest whole : List A} → IsInserted x rest whole → 1 ≤ length whole
+some_inserted first = omega arith
+some_inserted (later at) = omega arith
+
 -- so it is of mapped lists
 pub inserted_map : {A B : Type 0} (f : A → B) {x : A} {rest whole : List A} → IsInserted x rest whole → IsInserted (f x) (map f rest) (map f whole)
 inserted_map f first = first

@@ -1,29 +1,40 @@
 -- Among the parts of a list one has supports that settle the list, and those have risen.
-use Rattle.std.proofs.Common.{◌≡◌, sym, ap, subst, ◌≤◌, ℤ, pos, ◌≤ℤ◌, List, ◌∷◌, length, arith}
+use Rattle.std.proofs.Common.{◌≡◌, sym, ap, subst, inl, inr, ◌≤◌, ℤ, pos, ◌≤ℤ◌, List, ◌∷◌, length, arith}
 use Rattle.std.specs.Prelude.{All}
 use Rattle.std.proofs.lemmas.Int.{ints}
 use Rattle.std.proofs.lemmas.List.Elements.{All-cons}
 use Rattle.integers.proofs.Fractions.{fraction_lt_le_trans}
 use Rattle.integers.proofs.Order.{positive_mul}
+use Rattle.bounds_model.specs.Space.{SpacePoint}
+use Rattle.kernel_laws.specs.Solutions.{weighted}
 use Rattle.bounds_model.specs.Potentials.{WeightedVector, mass, value, IsLow}
-use Rattle.corral.specs.Supports.{support_vectors}
+use Rattle.corral.specs.Parts.{IsPart}
+use Rattle.corral.specs.Supports.{support_vectors, AreSolved, Settles}
 use Rattle.corral.specs.Laws.{SomePartSettles, NotAllAreRefuted, ValueRises}
 use Rattle.corral.proofs.Duality.{none_low_is_best}
 use Rattle.corral.proofs.Insertions.IsInserted.{first}
 use Rattle.corral.proofs.Moments.{mass_positive}
 use Rattle.corral.proofs.SmallSteps.{scaled_items, vectors-scaled, weights-scaled, HasStep, has_step}
-use Rattle.corral.proofs.Supports.{all_vectors}
-use Rattle.corral.proofs.Places.{place}
-use Rattle.corral.proofs.Walk.{walk}
-use Rattle.corral.proofs.Greatest.{has_greatest}
+use Rattle.corral.proofs.Supports.{all_vectors, vectors-weighted}
+use Rattle.corral.proofs.Walk.{IsSolvedWith, items_of}
+use Rattle.corral.proofs.Candidates.{settling_candidate}
 
 -- some part settles
 pub some_part_settles : SomePartSettles
-some_part_settles square flag vectors some solved = ?
+some_part_settles square flag vectors some solved =
+    let r = settling_candidate (λ part ws. Unit {0}) square vectors some (λ part is_part some_part. plainly part (solved part is_part some_part)) in
+    let c = r.0 in
+    (items_of c, subst (λ vs. IsPart vs vectors) (sym (vectors-weighted c.weights c.part c.balanced.as_many)) c.is_part, r.1)
+  where
+    plainly : (part : List SpacePoint) → AreSolved square part → IsSolvedWith (λ part ws. Unit {0}) square part
+    plainly part (inl dependent) = inl dependent
+    plainly part (inr solution) = inr (solution.0, solution.1, tt)
 
 -- not all are refuted
 pub not_all_are_refuted : NotAllAreRefuted
-not_all_are_refuted square flag vectors some refuted = ?
+not_all_are_refuted square flag vectors some refuted =
+    let r = settling_candidate (λ part ws. ¬ Settles square vectors (weighted ws part)) square vectors some refuted in
+    r.0.holds r.1
 
 -- the value of the new supports is greater
 pub value_rises : ValueRises
