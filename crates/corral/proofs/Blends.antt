@@ -1,12 +1,11 @@
 -- Weighted vectors with a second number each, and the weightings between the two.
-use Rattle.std.proofs.Common.{◌≡◌, refl, sym, ◌∙◌, ap, ap₂, ℕ, suc, ◌≤◌, ℤ, pos, negsuc, ◌+ℤ◌, ◌-ℤ◌, ◌*ℤ◌, neg_ℤ, ◌≤ℤ◌, ◌<ℤ◌, List, [], ◌∷◌, length, map, arith}
+use Rattle.std.proofs.Common.{◌≡◌, refl, ◌∙◌, ap, ℕ, suc, ℤ, pos, ◌+ℤ◌, ◌*ℤ◌, neg_ℤ, List, [], ◌∷◌, length, map, arith}
 use Rattle.std.specs.Prelude.{All}
 use Rattle.std.proofs.lemmas.Int.{ints}
 use Rattle.std.proofs.lemmas.List.Elements.{All-nil, All-cons, All-head, All-tail}
-use Rattle.integers.specs.Total.{total}
-use Rattle.integers.proofs.Identities.{den-ring, read, polys, lits, below_lits}
+use Rattle.integers.proofs.Identities.{den-ring, read, polys, lits}
 use Rattle.integers.proofs.Order.{combine1}
-use Rattle.bounds_model.specs.Space.{SpacePoint, plus, times, squared_length, origin}
+use Rattle.bounds_model.specs.Space.{SpacePoint, plus, times, squared_length}
 use Rattle.bounds_model.specs.Potentials.{WeightedVector, mass, moment, second_moment}
 use Rattle.kernel_laws.specs.Solutions.{weighted}
 use Rattle.kernel_laws.proofs.Points.{same_point}

@@ -10,19 +10,18 @@ use Rattle.integers.proofs.Order.{positive_mul, le_of_same}
 use Rattle.integers.proofs.Fractions.{fraction_total, fraction_lt_le_trans}
 use Rattle.bounds_model.specs.Space.{SpacePoint}
 use Rattle.bounds_model.specs.Fractions.{IsAtMost}
-use Rattle.bounds_model.specs.Potentials.{WeightedVector, mass, potential, value, IsLow}
+use Rattle.bounds_model.specs.Potentials.{WeightedVector, potential, value, IsLow}
 use Rattle.kernel_laws.specs.Solutions.{weighted}
-use Rattle.exact_fractions.specs.Order.{IsBelow}
 use Rattle.corral.specs.Parts.{IsPart}
 use Rattle.corral.specs.Supports.{support_vectors, AreSupports, AreBalanced, Settles}
 use Rattle.corral.proofs.Parts.{part_whole, part_trans}
 use Rattle.corral.proofs.Insertions.{IsInserted, at_inserted, all_inserted, some_inserted, each_or_one}
-use Rattle.corral.proofs.Greatest.{IsTotalOrder, IsGreatest, has_greatest}
+use Rattle.corral.proofs.Greatest.{IsTotalOrder, has_greatest}
 use Rattle.corral.proofs.Supports.{vectors-weighted, all_vectors, supports_from_balanced}
 use Rattle.corral.proofs.Moments.{common_potential, below_common, mass_positive}
-use Rattle.corral.proofs.SmallSteps.{scaled_items, vectors-scaled, weights-scaled, HasStep, has_step}
-use Rattle.corral.proofs.Places.{Placed, place}
-use Rattle.corral.proofs.Walk.{IsSolvedWith, AreAllSolvedWith, Candidate, items_of, mass_of, candidate_of_more, HasSupports, no_less_trans, walk_with}
+use Rattle.corral.proofs.SmallSteps.{scaled_items, vectors-scaled, weights-scaled, has_step}
+use Rattle.corral.proofs.Places.{place}
+use Rattle.corral.proofs.Walk.{IsSolvedWith, AreAllSolvedWith, Candidate, items_of, mass_of, candidate_of_more, no_less_trans, walk_with}
 
 -- ---- what a part offers
 

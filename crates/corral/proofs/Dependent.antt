@@ -1,12 +1,11 @@
 -- Of dependent vectors one can be dropped at no loss of value.
-use Rattle.std.proofs.Common.{◌≡◌, refl, sym, ◌∙◌, ap, subst, ◌⊎◌, inl, inr, ℕ, suc, ◌≤◌, ℤ, pos, ◌+ℤ◌, ◌*ℤ◌, neg_ℤ, ◌≤ℤ◌, ◌<ℤ◌, List, [], ◌∷◌, length, arith}
+use Rattle.std.proofs.Common.{◌≡◌, sym, ◌∙◌, ap, subst, ◌⊎◌, inl, inr, ◌≤◌, ℤ, pos, ◌+ℤ◌, ◌*ℤ◌, neg_ℤ, ◌≤ℤ◌, ◌<ℤ◌, List, [], ◌∷◌, length, arith}
 use Rattle.std.specs.Prelude.{All}
 use Rattle.std.proofs.lemmas.Int.{ints, by_lt_z}
 use Rattle.std.proofs.lemmas.List.{length-map}
 use Rattle.std.proofs.lemmas.List.Elements.{All-nil, All-cons, All-head, All-tail}
 use Rattle.integers.proofs.Identities.{den-ring, read, polys, lits}
 use Rattle.integers.proofs.Order.{le_total_ℤ, le_by, nonneg_difference}
-use Rattle.integers.proofs.Sums.{total_nonneg_all}
 use Rattle.bounds_model.specs.Space.{origin}
 use Rattle.bounds_model.specs.Potentials.{WeightedVector, mass, moment, second_moment, IsDependence}
 use Rattle.corral.specs.Supports.{support_vectors}

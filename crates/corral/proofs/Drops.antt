@@ -1,27 +1,22 @@
 -- A step of the walk: where the vectors are dependent, or the weights that balance them are not all at least 1, some vectors can be dropped at no loss of value.
-use Rattle.std.proofs.Common.{◌≡◌, refl, sym, ◌∙◌, ap, ap₂, subst, ◌⊎◌, inl, inr, ℕ, ◌≤◌, ◌<◌, ℤ, pos, ◌+ℤ◌, ◌-ℤ◌, ◌*ℤ◌, neg_ℤ, ◌≤ℤ◌, ◌<ℤ◌, List, [], ◌∷◌, length, map, arith}
+use Rattle.std.proofs.Common.{◌≡◌, sym, ◌∙◌, ap, ap₂, subst, ℕ, ◌≤◌, ◌<◌, ℤ, pos, ◌+ℤ◌, ◌-ℤ◌, ◌*ℤ◌, neg_ℤ, ◌≤ℤ◌, ◌<ℤ◌, List, [], ◌∷◌, length, arith}
 use Rattle.std.specs.Prelude.{All}
-use Rattle.std.proofs.lemmas.Int.{ints, by_lt_z}
+use Rattle.std.proofs.lemmas.Int.{ints}
 use Rattle.std.proofs.lemmas.List.{length-map}
-use Rattle.std.proofs.lemmas.List.Elements.{All-nil, All-cons, All-head, All-tail, All-weaker}
-use Rattle.integers.specs.Total.{total}
 use Rattle.integers.proofs.Identities.{den-ring, read, polys, lits}
-use Rattle.integers.proofs.Order.{nonneg_from_positive, positive_from_one, positive_mul, positive_add, nonneg_mul, le_total_ℤ}
+use Rattle.integers.proofs.Order.{nonneg_from_positive, positive_from_one, positive_mul, nonneg_mul}
 use Rattle.bounds_model.specs.Space.{SpacePoint, origin, dot, plus, times, squared_length}
 use Rattle.bounds_model.specs.Fractions.{Fraction, IsAtMost}
-use Rattle.bounds_model.specs.Potentials.{WeightedVector, mass, moment, second_moment, potential, value, IsDependence}
-use Rattle.kernel_laws.specs.Solutions.{weighted}
+use Rattle.bounds_model.specs.Potentials.{WeightedVector, mass, moment, second_moment, potential, value}
 use Rattle.corral.specs.Parts.{IsPart}
-use Rattle.corral.specs.Supports.{support_vectors, AreBalanced}
+use Rattle.corral.specs.Supports.{support_vectors}
 use Rattle.corral.proofs.Values.{squared_length-blend, towards_is_no_less, along_is_no_less}
-use Rattle.corral.proofs.Moments.{mean_is, common_potential, mass_positive}
+use Rattle.corral.proofs.Moments.{mean_is}
 use Rattle.corral.proofs.Parts.{part_map}
-use Rattle.corral.proofs.Insertions.{IsInserted, at_inserted, inserted_map, each_or_one}
-use Rattle.corral.proofs.Blends.{Numbered, by_weight, by_number, blended, numbered, by_weight-numbered, by_number-numbered, all-numbered, vectors-blended, mass-blended, second_moment-blended, moment-blended, opposite_numbers, by_weight-opposite, mass-opposite, second_moment-opposite, moment-opposite}
+use Rattle.corral.proofs.Insertions.{IsInserted, at_inserted, inserted_map}
+use Rattle.corral.proofs.Blends.{Numbered, by_weight, by_number, blended, vectors-blended, mass-blended, second_moment-blended, moment-blended}
 use Rattle.corral.proofs.Kept.{kept, kept_part, kept_shorter, kept_weights, mass-kept, value-kept}
-use Rattle.corral.proofs.Ratios.{IsLeast, HasLeast, has_least, least_not_positive, least_negative, blend_not_negative, blend_zero}
-use Rattle.corral.proofs.Duality.{level_is_greatest}
-use Rattle.corral.proofs.Supports.{all_vectors, mass-weighted, vectors-weighted, moment-weighted, some_balanced, length-weighted}
+use Rattle.corral.proofs.Ratios.{HasLeast, has_least, least_not_positive, least_negative, blend_not_negative, blend_zero}
 
 -- fewer weighted vectors of no less value
 pub record HasFewer (square : ℤ) (items : List WeightedVector) : Type 0 where

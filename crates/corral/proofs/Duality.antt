@@ -1,10 +1,10 @@
 -- No weights have a greater value than supports under which none of their vectors is low.
-use Rattle.std.proofs.Common.{◌≡◌, ◌≤◌, ℤ, pos, ◌*ℤ◌, ◌-ℤ◌, ◌≤ℤ◌, ◌<ℤ◌, List, length, arith}
+use Rattle.std.proofs.Common.{◌≡◌, ℤ, pos, ◌≤ℤ◌, ◌<ℤ◌, List, arith}
 use Rattle.std.specs.Prelude.{All}
 use Rattle.std.proofs.lemmas.Int.{ints}
 use Rattle.bounds_model.specs.Space.{squared_length, dot}
 use Rattle.bounds_model.specs.Fractions.{IsAtMost}
-use Rattle.bounds_model.specs.Potentials.{WeightedVector, mass, moment, second_moment, potential, value, IsLow}
+use Rattle.bounds_model.specs.Potentials.{WeightedVector, mass, moment, second_moment, potential, value}
 use Rattle.corral.specs.Laws.{NoneLowIsBest}
 use Rattle.corral.proofs.Values.{spread_nonneg, level_is_best}
 use Rattle.corral.proofs.Moments.{mean_is, mean_at_least, common_potential, at_least_common, mass_positive}

@@ -1,5 +1,5 @@
 -- One element in a list, and the list without it.
-use Rattle.std.proofs.Common.{◌≡◌, refl, ap, ◌⊎◌, inl, inr, suc, ◌≤◌, ℤ, ◌+ℤ◌, List, [], ◌∷◌, length, map, arith}
+use Rattle.std.proofs.Common.{◌≡◌, refl, ◌⊎◌, inl, inr, ◌≤◌, ℤ, ◌+ℤ◌, List, [], ◌∷◌, length, map, arith}
 use Rattle.std.specs.Prelude.{All}
 use Rattle.std.proofs.lemmas.Int.{ints}
 use Rattle.std.proofs.lemmas.List.Elements.{All-nil, All-cons, All-head, All-tail}

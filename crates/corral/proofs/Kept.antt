@@ -1,9 +1,9 @@
 -- Weighted vectors without those of weight 0.
-use Rattle.std.proofs.Common.{◌≡◌, refl, sym, ◌∙◌, ap, ap₂, subst, ℕ, zero, suc, ◌≤◌, ◌<◌, ℤ, pos, negsuc, ◌+ℤ◌, ◌-ℤ◌, ◌*ℤ◌, ◌≤ℤ◌, List, [], ◌∷◌, length, arith}
+use Rattle.std.proofs.Common.{◌≡◌, refl, sym, ◌∙◌, ap, ap₂, subst, ℕ, zero, suc, ◌<◌, ℤ, pos, negsuc, ◌+ℤ◌, ◌-ℤ◌, ◌*ℤ◌, ◌≤ℤ◌, List, [], ◌∷◌, length, arith}
 use Rattle.std.specs.Prelude.{All}
 use Rattle.std.proofs.lemmas.Int.{ints}
 use Rattle.std.proofs.lemmas.List.Elements.{All-nil, All-cons, All-head, All-tail}
-use Rattle.bounds_model.specs.Space.{SpacePoint, plus, times, squared_length}
+use Rattle.bounds_model.specs.Space.{plus, times, squared_length}
 use Rattle.bounds_model.specs.Potentials.{WeightedVector, mass, moment, second_moment, value}
 use Rattle.kernel_laws.proofs.Points.{same_point}
 use Rattle.corral.specs.Parts.{IsPart}

@@ -1,8 +1,6 @@
 -- The measure of exchanges.
-use Rattle.std.proofs.Common.{◌≡◌, sym, subst, inl, inr, ℕ, ◌*◌, ◌/◌, ◌≤◌, ◌<◌, ℤ, pos, negsuc, ◌+ℤ◌, ◌-ℤ◌, ◌*ℤ◌, ◌≤ℤ◌, ◌<ℤ◌, List, nat_abs, arith, [], ◌∷◌}
-use Rattle.std.specs.Prelude.{All}
+use Rattle.std.proofs.Common.{sym, subst, inl, inr, ℕ, ◌*◌, ◌/◌, ◌<◌, ℤ, pos, negsuc, ◌-ℤ◌, ◌*ℤ◌, ◌≤ℤ◌, ◌<ℤ◌, List, nat_abs, arith, [], ◌∷◌}
 use Rattle.std.proofs.lemmas.Int.{ints}
-use Rattle.std.proofs.lemmas.List.Elements.{All-weaker}
 use Rattle.integers.proofs.Identities.{den-ring, read, polys, lits}
 use Rattle.integers.proofs.Order.{nonneg_add, nonneg_mul, nonneg_from_positive, positive_difference, nonneg_difference, positive_mul, square_nonneg, mul_le_both, le_by, lt_by}
 use Rattle.integers.proofs.Sums.{total_weighted_le}

@@ -1,15 +1,14 @@
 -- Sums over weighted vectors: potentials by the moment and the second moment.
-use Rattle.std.proofs.Common.{◌≡◌, refl, sym, ◌∙◌, ap, subst, ℕ, zero, suc, ◌≤◌, ◌<◌, ℤ, pos, ◌+ℤ◌, ◌-ℤ◌, ◌*ℤ◌, ◌≤ℤ◌, ◌<ℤ◌, List, [], ◌∷◌, length, arith}
+use Rattle.std.proofs.Common.{◌≡◌, sym, ◌∙◌, ap, subst, ◌≤◌, ℤ, pos, ◌+ℤ◌, ◌-ℤ◌, ◌*ℤ◌, ◌≤ℤ◌, ◌<ℤ◌, List, [], ◌∷◌, length, arith}
 use Rattle.std.specs.Prelude.{All}
-use Rattle.std.proofs.lemmas.Int.{ints, by_lt_z}
-use Rattle.std.proofs.lemmas.List.Elements.{All-nil, All-cons, All-head, All-tail, All-weaker}
+use Rattle.std.proofs.lemmas.Int.{by_lt_z}
+use Rattle.std.proofs.lemmas.List.Elements.{All-weaker}
 use Rattle.integers.specs.Total.{total}
 use Rattle.integers.proofs.Identities.{den-ring, read, polys, lits}
 use Rattle.integers.proofs.Order.{nonneg_mul, nonneg_difference, positive_from_one, le_by, combine1}
 use Rattle.integers.proofs.Sums.{total-same, total-scale_right, total_le, total_positive}
 use Rattle.bounds_model.specs.Space.{SpacePoint, dot, squared_length}
 use Rattle.bounds_model.specs.Potentials.{WeightedVector, mass, moment, second_moment, potential, AreEqualPotentials, IsLow}
-use Rattle.corral.specs.Supports.{AreSupports}
 
 -- ---- weighted sums of potentials
 

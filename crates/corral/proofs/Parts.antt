@@ -1,7 +1,7 @@
 -- Parts of a list.
-use Rattle.std.proofs.Common.{◌≡◌, refl, ◌⊎◌, inl, inr, suc, ◌≤◌, List, [], ◌∷◌, length, map, arith}
+use Rattle.std.proofs.Common.{◌≡◌, refl, ◌⊎◌, inl, inr, ◌≤◌, List, [], ◌∷◌, length, map, arith}
 use Rattle.std.specs.Prelude.{All}
-use Rattle.std.proofs.lemmas.List.Elements.{All-nil, All-cons, All-head, All-tail}
+use Rattle.std.proofs.lemmas.List.Elements.{All-cons, All-head, All-tail}
 use Rattle.corral.specs.Parts.{IsPart}
 use Rattle.corral.specs.Parts.IsPart.{none, omits, keeps}
 

@@ -1,11 +1,11 @@
 -- A vector of a list among items whose vectors are a part of the list.
-use Rattle.std.proofs.Common.{◌≡◌, refl, sym, ap, subst, ◌⊎◌, inl, inr, ℤ, List, [], ◌∷◌}
+use Rattle.std.proofs.Common.{◌≡◌, refl, sym, subst, ◌⊎◌, inl, inr, ℤ, List, [], ◌∷◌}
 use Rattle.std.specs.Prelude.{All}
 use Rattle.std.proofs.lemmas.List.Elements.{All-head, All-tail}
 use Rattle.bounds_model.specs.Space.{SpacePoint}
 use Rattle.bounds_model.specs.Potentials.{WeightedVector}
 use Rattle.corral.specs.Parts.{IsPart}
-use Rattle.corral.specs.Parts.IsPart.{none, omits, keeps}
+use Rattle.corral.specs.Parts.IsPart.{omits, keeps}
 use Rattle.corral.specs.Supports.{support_vectors}
 use Rattle.corral.proofs.Parts.{part_cases}
 use Rattle.corral.proofs.Insertions.{IsInserted}

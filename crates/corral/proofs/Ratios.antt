@@ -1,5 +1,5 @@
 -- The least ratio of number to weight, and the blend that it makes 0.
-use Rattle.std.proofs.Common.{◌≡◌, ◌⊎◌, inl, inr, ℕ, suc, ◌≤◌, ℤ, pos, negsuc, ◌+ℤ◌, ◌-ℤ◌, ◌*ℤ◌, neg_ℤ, ◌≤ℤ◌, ◌<ℤ◌, List, [], ◌∷◌, length, arith}
+use Rattle.std.proofs.Common.{◌≡◌, ◌⊎◌, inl, inr, ◌≤◌, ℤ, pos, ◌+ℤ◌, ◌*ℤ◌, neg_ℤ, ◌≤ℤ◌, ◌<ℤ◌, List, [], ◌∷◌, length, arith}
 use Rattle.std.specs.Prelude.{All}
 use Rattle.std.proofs.lemmas.Int.{ints}
 use Rattle.std.proofs.lemmas.List.Elements.{All-nil, All-cons, All-head, All-tail}
@@ -57,7 +57,6 @@ has_least (t ∷ (s ∷ ts)) some weights = go (has_least (s ∷ ts) (omega arit
         }
 
 -- ---- where one of the numbers is at most 0, so is the least
-
 
 -- at most 0
 pub least_not_positive : (t s : Numbered) → pos 1 ≤ℤ t.weight → pos 1 ≤ℤ s.weight → (t.number *ℤ s.weight) ≤ℤ (s.number *ℤ t.weight) → s.number ≤ℤ pos 0 → t.number ≤ℤ pos 0

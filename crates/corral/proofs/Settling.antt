@@ -1,5 +1,5 @@
 -- Among the parts of a list one has supports that settle the list, and those have risen.
-use Rattle.std.proofs.Common.{◌≡◌, sym, ap, subst, inl, inr, ◌≤◌, ℤ, pos, ◌≤ℤ◌, List, ◌∷◌, length, arith}
+use Rattle.std.proofs.Common.{sym, subst, inl, inr, pos, ◌≤ℤ◌, List, ◌∷◌, arith}
 use Rattle.std.specs.Prelude.{All}
 use Rattle.std.proofs.lemmas.Int.{ints}
 use Rattle.std.proofs.lemmas.List.Elements.{All-cons}
@@ -7,14 +7,14 @@ use Rattle.integers.proofs.Fractions.{fraction_lt_le_trans}
 use Rattle.integers.proofs.Order.{positive_mul}
 use Rattle.bounds_model.specs.Space.{SpacePoint}
 use Rattle.kernel_laws.specs.Solutions.{weighted}
-use Rattle.bounds_model.specs.Potentials.{WeightedVector, mass, value, IsLow}
+use Rattle.bounds_model.specs.Potentials.{WeightedVector, value, IsLow}
 use Rattle.corral.specs.Parts.{IsPart}
-use Rattle.corral.specs.Supports.{support_vectors, AreSolved, Settles}
+use Rattle.corral.specs.Supports.{AreSolved, Settles}
 use Rattle.corral.specs.Laws.{SomePartSettles, NotAllAreRefuted, ValueRises}
 use Rattle.corral.proofs.Duality.{none_low_is_best}
 use Rattle.corral.proofs.Insertions.IsInserted.{first}
 use Rattle.corral.proofs.Moments.{mass_positive}
-use Rattle.corral.proofs.SmallSteps.{scaled_items, vectors-scaled, weights-scaled, HasStep, has_step}
+use Rattle.corral.proofs.SmallSteps.{scaled_items, vectors-scaled, weights-scaled, has_step}
 use Rattle.corral.proofs.Supports.{all_vectors, vectors-weighted}
 use Rattle.corral.proofs.Walk.{IsSolvedWith, items_of}
 use Rattle.corral.proofs.Candidates.{settling_candidate}

@@ -2,7 +2,7 @@
 --
 -- Of one weighting M is the sum of the weights, Q the second moment and W the squared length of the moment; of another N, R and U are
 -- the same, and A is the product of the moments. g is 1 for balls and 0 for distances, so that g M Q - W is the value times M².
-use Rattle.std.proofs.Common.{◌≡◌, subst, ℤ, zero, suc, pos, negsuc, ◌+ℤ◌, ◌-ℤ◌, ◌*ℤ◌, neg_ℤ, ◌≤ℤ◌, ◌<ℤ◌, arith, [], ◌∷◌}
+use Rattle.std.proofs.Common.{◌≡◌, subst, ℤ, suc, pos, negsuc, ◌+ℤ◌, ◌-ℤ◌, ◌*ℤ◌, neg_ℤ, ◌≤ℤ◌, ◌<ℤ◌, arith, [], ◌∷◌}
 use Rattle.std.proofs.lemmas.Int.{ints}
 use Rattle.integers.proofs.Identities.{den-ring, read, polys, lits, below_lits}
 use Rattle.integers.proofs.Order.{nonneg_mul, nonneg_add, positive_add, square_nonneg, nonneg_from_positive, nonneg_difference, positive_difference, at_least_one, mul_le_both, le_by, lt_by, le_of_mul_le, combine1, combine2}
@@ -14,7 +14,6 @@ use Rattle.bounds_model.specs.Space.{SpacePoint, plus, times, dot, squared_lengt
 pub squared_length-blend : (k l : ℤ) (a b : SpacePoint) → squared_length (plus (times k a) (times l b)) ≡ k *ℤ k *ℤ squared_length a +ℤ pos 2 *ℤ (k *ℤ l *ℤ dot a b) +ℤ l *ℤ l *ℤ squared_length b
 squared_length-blend k l a b =
     read (k ∷ l ∷ a.x ∷ a.y ∷ a.z ∷ b.x ∷ b.y ∷ b.z ∷ []) (λ xs p q r s t u v w. simp (p, q, r, s, t, u, v, w, polys, lits xs) (den-ring xs _ _ tt))
-
 
 -- that of k a - l b is at least 0
 pub spread_nonneg : (k l : ℤ) (a b : SpacePoint) → pos 0 ≤ℤ (k *ℤ k *ℤ squared_length a -ℤ pos 2 *ℤ (k *ℤ l *ℤ dot a b) +ℤ l *ℤ l *ℤ squared_length b)

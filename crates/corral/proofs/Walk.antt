@@ -1,5 +1,5 @@
 -- A walk that drops vectors until supports are left.
-use Rattle.std.proofs.Common.{◌≡◌, refl, sym, ◌∙◌, ap, subst, ◌⊎◌, inl, inr, ℕ, zero, suc, ◌≤◌, ◌<◌, ℤ, pos, ◌≤ℤ◌, ◌<ℤ◌, List, [], ◌∷◌, length, arith}
+use Rattle.std.proofs.Common.{◌≡◌, sym, ◌∙◌, subst, ◌⊎◌, inl, inr, ℕ, zero, suc, ◌≤◌, ℤ, pos, ◌≤ℤ◌, ◌<ℤ◌, List, length, arith}
 use Rattle.std.specs.Prelude.{All}
 use Rattle.std.proofs.lemmas.Int.{ints, by_lt_z}
 use Rattle.std.proofs.lemmas.List.{length-map}
@@ -16,7 +16,7 @@ use Rattle.corral.specs.Laws.{WalkEndsAtSupports}
 use Rattle.corral.proofs.Parts.{part_whole, part_trans}
 use Rattle.corral.proofs.Insertions.{IsInserted, each_or_one}
 use Rattle.corral.proofs.Moments.{common_potential, mass_positive}
-use Rattle.corral.proofs.Blends.{Numbered, by_weight, by_number, numbered, length-numbered, by_weight-numbered, by_number-numbered, all-numbered, all-by_weight}
+use Rattle.corral.proofs.Blends.{Numbered, by_number, numbered, length-numbered, by_weight-numbered, by_number-numbered, all-numbered, all-by_weight}
 use Rattle.corral.proofs.Supports.{mass-weighted, length-weighted, vectors-weighted, all_vectors, some_balanced, supports_from_balanced}
 use Rattle.corral.proofs.Duality.{level_is_greatest}
 use Rattle.corral.proofs.Drops.{HasFewer, drop_towards}
