@@ -13,7 +13,7 @@ pub mod Dependent
 pub mod Walk
 pub mod Places
 pub mod SmallSteps
-pub mod Candidates
+pub mod SupportedParts
 pub mod Settling
 pub mod Measure
 pub mod TooMany

@@ -1,13 +1,20 @@
 -- The measure of exchanges.
-use Rattle.std.proofs.Common.{sym, subst, inl, inr, ℕ, ◌*◌, ◌/◌, ◌<◌, ℤ, pos, negsuc, ◌-ℤ◌, ◌*ℤ◌, ◌≤ℤ◌, ◌<ℤ◌, List, nat_abs, arith, [], ◌∷◌}
+use Rattle.std.proofs.Common.{sym, subst, inl, inr, ℕ, ◌*◌, ◌/◌, ◌<◌, ℤ, pos, negsuc, ◌+ℤ◌, ◌-ℤ◌, ◌*ℤ◌, ◌≤ℤ◌, ◌<ℤ◌, List, nat_abs, arith, [], ◌∷◌}
+use Rattle.std.specs.Prelude.{All}
 use Rattle.std.proofs.lemmas.Int.{ints}
 use Rattle.integers.proofs.Identities.{den-ring, read, polys, lits}
 use Rattle.integers.proofs.Order.{nonneg_add, nonneg_mul, nonneg_from_positive, positive_difference, nonneg_difference, positive_mul, square_nonneg, mul_le_both, le_by, lt_by}
 use Rattle.integers.proofs.Sums.{total_weighted_le}
+use Rattle.std.proofs.lemmas.List.Elements.{All-weaker}
 use Rattle.integers.proofs.Gaps.{floor_rises}
+use Rattle.integers.specs.Size.{Size}
+use Rattle.integers.proofs.Sizes.{size_mul}
 use Rattle.bounds_model.specs.Space.{SpacePoint, squared_length}
 use Rattle.bounds_model.specs.Potentials.{WeightedVector, mass, moment, second_moment, value}
-use Rattle.corral.specs.Supports.{IsSquare}
+use Rattle.kernel_laws.specs.Limits.{IsVectorWithin, IsDifference, reach}
+use Rattle.corral.specs.Supports.{IsSquare, support_vectors, AreSupports}
+use Rattle.corral.proofs.Moments.{mass_positive}
+use Rattle.corral.proofs.Supports.{all_vectors}
 use Rattle.corral.specs.Rise.{AreBounded}
 use Rattle.corral.specs.Laws.{MeasureFalls}
 
@@ -64,3 +71,27 @@ measure_falls square flag longest limit old found bounded_old bounded_found belo
     (mul_le_both (nonneg_from_positive bounded_found.some) (nonneg_from_positive bounded_found.some) bounded_found.light bounded_found.light)
     (mul_le_both (nonneg_from_positive bounded_old.some) (nonneg_from_positive bounded_old.some) bounded_old.light bounded_old.light)
     (closer (pos longest) v.n v.d w.n w.d below)
+
+-- ---- supports are bounded
+
+-- how long a vector is whose coordinates are at most n
+pub squared_length_within : (n : ℕ) (v : SpacePoint) → IsVectorWithin n v → squared_length v ≤ℤ pos (3 * (n * n))
+squared_length_within n v h = sum (square_within h.x) (square_within h.y) (square_within h.z)
+  where
+    square_within : {n : ℕ} {z : ℤ} → Size n z → (z *ℤ z) ≤ℤ pos (n * n)
+    square_within {n} {z} h = below z (size_mul h h)
+      where
+        below : (z : ℤ) → Size (n * n) (z *ℤ z) → (z *ℤ z) ≤ℤ pos (n * n)
+        below z k = let s = k.abs in omega (arith, ints)
+
+    sum : {a b c : ℤ} {m : ℕ} → a ≤ℤ pos m → b ≤ℤ pos m → c ≤ℤ pos m → (a +ℤ b +ℤ c) ≤ℤ pos (3 * m)
+    sum h k l = omega (arith, ints)
+
+-- by the limit of their sum of weights and by the reach of their vectors
+pub supports_bounded : (square : ℤ) (dim limit : ℕ) (items : List WeightedVector) → AreSupports square items → mass items ≤ℤ pos limit → All (IsDifference dim) (support_vectors items) → AreBounded (3 * (reach dim * reach dim)) limit items
+supports_bounded square dim limit items supports light differences = record {
+  weights = supports.weights;
+  some = mass_positive items supports.some supports.weights;
+  light = light;
+  short = all_vectors (λ v. squared_length v ≤ℤ pos (3 * (reach dim * reach dim))) items (All-weaker (IsDifference dim) (λ v. squared_length v ≤ℤ pos (3 * (reach dim * reach dim))) (λ v h. squared_length_within (reach dim) v h.within) (support_vectors items) differences);
+}

@@ -1,14 +1,17 @@
 -- Sums over weighted vectors: potentials by the moment and the second moment.
 use Rattle.std.proofs.Common.{◌≡◌, sym, ◌∙◌, ap, subst, ◌≤◌, ℤ, pos, ◌+ℤ◌, ◌-ℤ◌, ◌*ℤ◌, ◌≤ℤ◌, ◌<ℤ◌, List, [], ◌∷◌, length, arith}
 use Rattle.std.specs.Prelude.{All}
-use Rattle.std.proofs.lemmas.Int.{by_lt_z}
+use Rattle.std.proofs.lemmas.Int.{ints, by_lt_z}
 use Rattle.std.proofs.lemmas.List.Elements.{All-weaker}
 use Rattle.integers.specs.Total.{total}
 use Rattle.integers.proofs.Identities.{den-ring, read, polys, lits}
-use Rattle.integers.proofs.Order.{nonneg_mul, nonneg_difference, positive_from_one, le_by, combine1}
+use Rattle.integers.proofs.Order.{positive_mul, nonneg_mul, nonneg_difference, positive_from_one, le_by, combine1}
+use Rattle.integers.proofs.Fractions.{fraction_le_trans, fraction_lt_le_trans}
 use Rattle.integers.proofs.Sums.{total-same, total-scale_right, total_le, total_positive}
 use Rattle.bounds_model.specs.Space.{SpacePoint, dot, squared_length}
-use Rattle.bounds_model.specs.Potentials.{WeightedVector, mass, moment, second_moment, potential, AreEqualPotentials, IsLow}
+use Rattle.bounds_model.specs.Fractions.{IsAtMost}
+use Rattle.exact_fractions.specs.Order.{IsBelow}
+use Rattle.bounds_model.specs.Potentials.{WeightedVector, mass, moment, second_moment, potential, value, AreEqualPotentials, IsLow}
 
 -- ---- weighted sums of potentials
 
@@ -86,3 +89,20 @@ below_common square (item ∷ items) p some level v low =
 -- the sum of weights of at least 1
 pub mass_positive : (items : List WeightedVector) → 1 ≤ length items → All (λ item. pos 1 ≤ℤ item.weight) items → pos 0 <ℤ mass items
 mass_positive items some weights = total_positive (λ item. item.weight) items (omega arith) (All-weaker (λ item. pos 1 ≤ℤ item.weight) (λ item. pos 0 <ℤ item.weight) (λ item h. positive_from_one h) items weights)
+
+-- ---- chains of values
+
+-- no less than what is no less
+pub no_less_trans : (square : ℤ) (a b c : List WeightedVector) → pos 0 <ℤ mass a → pos 0 <ℤ mass b → pos 0 <ℤ mass c → IsAtMost (value square a) (value square b) → IsAtMost (value square b) (value square c) → IsAtMost (value square a) (value square c)
+no_less_trans square a b c ha hb hc h k = fraction_le_trans (value square a).n (value square a).d (value square b).n (value square b).d (value square c).n (value square c).d (positive_mul ha ha) (positive_mul hb hb) (positive_mul hc hc) h k
+
+-- no less than what is greater
+pub greater_trans : (square : ℤ) (a b c : List WeightedVector) → pos 0 <ℤ mass a → pos 0 <ℤ mass b → pos 0 <ℤ mass c → IsBelow (value square a) (value square b) → IsAtMost (value square b) (value square c) → IsBelow (value square a) (value square c)
+greater_trans square a b c ha hb hc h k = fraction_lt_le_trans (value square a).n (value square a).d (value square b).n (value square b).d (value square c).n (value square c).d (positive_mul ha ha) (positive_mul hb hb) (positive_mul hc hc) h k
+
+-- a greater value is not at most the other
+pub not_both : (square : ℤ) (a b : List WeightedVector) → IsBelow (value square a) (value square b) → IsAtMost (value square b) (value square a) → ⊥
+not_both square a b h k = clash ((value square a).n *ℤ (value square b).d) ((value square b).n *ℤ (value square a).d) h k
+  where
+    clash : (x y : ℤ) → x <ℤ y → y ≤ℤ x → ⊥
+    clash x y h k = omega (arith, ints)

@@ -3,28 +3,26 @@ use Rattle.std.proofs.Common.{sym, subst, inl, inr, pos, ◌≤ℤ◌, List, ◌
 use Rattle.std.specs.Prelude.{All}
 use Rattle.std.proofs.lemmas.Int.{ints}
 use Rattle.std.proofs.lemmas.List.Elements.{All-cons}
-use Rattle.integers.proofs.Fractions.{fraction_lt_le_trans}
-use Rattle.integers.proofs.Order.{positive_mul}
 use Rattle.bounds_model.specs.Space.{SpacePoint}
 use Rattle.kernel_laws.specs.Solutions.{weighted}
-use Rattle.bounds_model.specs.Potentials.{WeightedVector, value, IsLow}
+use Rattle.bounds_model.specs.Potentials.{WeightedVector, IsLow}
 use Rattle.corral.specs.Parts.{IsPart}
 use Rattle.corral.specs.Supports.{AreSolved, Settles}
 use Rattle.corral.specs.Laws.{SomePartSettles, NotAllAreRefuted, ValueRises}
 use Rattle.corral.proofs.Duality.{none_low_is_best}
 use Rattle.corral.proofs.Insertions.IsInserted.{first}
-use Rattle.corral.proofs.Moments.{mass_positive}
+use Rattle.corral.proofs.Moments.{mass_positive, greater_trans}
 use Rattle.corral.proofs.SmallSteps.{scaled_items, vectors-scaled, weights-scaled, has_step}
 use Rattle.corral.proofs.Supports.{all_vectors, vectors-weighted}
-use Rattle.corral.proofs.Walk.{IsSolvedWith, items_of}
-use Rattle.corral.proofs.Candidates.{settling_candidate}
+use Rattle.corral.proofs.Walk.{IsSolvedWith, items_on}
+use Rattle.corral.proofs.SupportedParts.{settling_part}
 
 -- some part settles
 pub some_part_settles : SomePartSettles
 some_part_settles square flag vectors some solved =
-    let r = settling_candidate (λ part ws. Unit {0}) square vectors some (λ part is_part some_part. plainly part (solved part is_part some_part)) in
+    let r = settling_part (λ part ws. Unit {0}) square vectors some (λ part is_part some_part. plainly part (solved part is_part some_part)) in
     let c = r.0 in
-    (items_of c, subst (λ vs. IsPart vs vectors) (sym (vectors-weighted c.weights c.part c.balanced.as_many)) c.is_part, r.1)
+    (items_on c, subst (λ vs. IsPart vs vectors) (sym (vectors-weighted c.weights c.part c.balanced.as_many)) c.is_part, r.1)
   where
     plainly : (part : List SpacePoint) → AreSolved square part → IsSolvedWith (λ part ws. Unit {0}) square part
     plainly part (inl dependent) = inl dependent
@@ -33,7 +31,7 @@ some_part_settles square flag vectors some solved =
 -- not all are refuted
 pub not_all_are_refuted : NotAllAreRefuted
 not_all_are_refuted square flag vectors some refuted =
-    let r = settling_candidate (λ part ws. ¬ Settles square vectors (weighted ws part)) square vectors some refuted in
+    let r = settling_part (λ part ws. ¬ Settles square vectors (weighted ws part)) square vectors some refuted in
     r.0.holds r.1
 
 -- the value of the new supports is greater
@@ -49,5 +47,4 @@ value_rises square flag old found new supports low settles =
     let heavy_old = mass_positive old supports.some supports.weights in
     let heavy_more = mass_positive more (omega arith) weights in
     let heavy_found = mass_positive found settles.supports.some settles.supports.weights in
-    fraction_lt_le_trans (value square old).n (value square old).d (value square more).n (value square more).d (value square found).n (value square found).d
-    (positive_mul heavy_old heavy_old) (positive_mul heavy_more heavy_more) (positive_mul heavy_found heavy_found) (step.raises more first) best
+    greater_trans square old more found heavy_old heavy_more heavy_found (step.raises more first) best

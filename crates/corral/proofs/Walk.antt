@@ -4,8 +4,7 @@ use Rattle.std.specs.Prelude.{All}
 use Rattle.std.proofs.lemmas.Int.{ints, by_lt_z}
 use Rattle.std.proofs.lemmas.List.{length-map}
 use Rattle.std.proofs.lemmas.List.Elements.{All-map}
-use Rattle.integers.proofs.Order.{positive_mul, le_of_same}
-use Rattle.integers.proofs.Fractions.{fraction_le_trans}
+use Rattle.integers.proofs.Order.{le_of_same}
 use Rattle.bounds_model.specs.Space.{SpacePoint}
 use Rattle.bounds_model.specs.Fractions.{IsAtMost}
 use Rattle.bounds_model.specs.Potentials.{WeightedVector, mass, potential, value, AreAffinelyDependent}
@@ -15,7 +14,7 @@ use Rattle.corral.specs.Supports.{support_vectors, AreBalanced, AreSolved}
 use Rattle.corral.specs.Laws.{WalkEndsAtSupports}
 use Rattle.corral.proofs.Parts.{part_whole, part_trans}
 use Rattle.corral.proofs.Insertions.{IsInserted, each_or_one}
-use Rattle.corral.proofs.Moments.{common_potential, mass_positive}
+use Rattle.corral.proofs.Moments.{common_potential, mass_positive, no_less_trans}
 use Rattle.corral.proofs.Blends.{Numbered, by_number, numbered, length-numbered, by_weight-numbered, by_number-numbered, all-numbered, all-by_weight}
 use Rattle.corral.proofs.Supports.{mass-weighted, length-weighted, vectors-weighted, all_vectors, some_balanced, supports_from_balanced}
 use Rattle.corral.proofs.Duality.{level_is_greatest}
@@ -87,7 +86,7 @@ abbrev pub AreAllSolvedWith : (List SpacePoint → List ℤ → Type 0) → ℤ 
 AreAllSolvedWith Q square vectors = (part : List SpacePoint) → IsPart part vectors → 1 ≤ length part → IsSolvedWith Q square part
 
 -- a part with weights of at least 1 that balance it, of which that holds
-pub record Candidate (Q : List SpacePoint → List ℤ → Type 0) (square : ℤ) (vectors : List SpacePoint) : Type 0 where
+pub record SupportedPart (Q : List SpacePoint → List ℤ → Type 0) (square : ℤ) (vectors : List SpacePoint) : Type 0 where
   pub part : List SpacePoint
   pub weights : List ℤ
   pub is_part : IsPart part vectors
@@ -96,25 +95,21 @@ pub record Candidate (Q : List SpacePoint → List ℤ → Type 0) (square : ℤ
   pub holds : Q part weights
 
 -- the vectors of its part with its weights
-abbrev pub items_of : {Q : List SpacePoint → List ℤ → Type 0} {square : ℤ} {vectors : List SpacePoint} → Candidate Q square vectors → List WeightedVector
-items_of c = weighted c.weights c.part
+abbrev pub items_on : {Q : List SpacePoint → List ℤ → Type 0} {square : ℤ} {vectors : List SpacePoint} → SupportedPart Q square vectors → List WeightedVector
+items_on c = weighted c.weights c.part
 
 -- their sum of weights
-pub mass_of : {Q : List SpacePoint → List ℤ → Type 0} {square : ℤ} {vectors : List SpacePoint} (c : Candidate Q square vectors) → pos 0 <ℤ mass (items_of c)
+pub mass_of : {Q : List SpacePoint → List ℤ → Type 0} {square : ℤ} {vectors : List SpacePoint} (c : SupportedPart Q square vectors) → pos 0 <ℤ mass (items_on c)
 mass_of c = subst (λ m. pos 0 <ℤ m) (sym (mass-weighted c.weights c.part c.balanced.as_many)) c.balanced.positive
 
--- a candidate among the parts of a part is one among the parts of the whole
-abbrev pub candidate_of_more : {Q : List SpacePoint → List ℤ → Type 0} {square : ℤ} {vectors more : List SpacePoint} → IsPart vectors more → Candidate Q square vectors → Candidate Q square more
-candidate_of_more h c = record { part = c.part; weights = c.weights; is_part = part_trans c.is_part h; balanced = c.balanced; at_least_one = c.at_least_one; holds = c.holds }
+-- a part of a part is one of the whole
+abbrev pub supported_in_more : {Q : List SpacePoint → List ℤ → Type 0} {square : ℤ} {vectors more : List SpacePoint} → IsPart vectors more → SupportedPart Q square vectors → SupportedPart Q square more
+supported_in_more h c = record { part = c.part; weights = c.weights; is_part = part_trans c.is_part h; balanced = c.balanced; at_least_one = c.at_least_one; holds = c.holds }
 
--- a candidate among the parts of the items, of no less value than the items
+-- supports on a part of the items, of no less value than the items
 pub record HasSupports (Q : List SpacePoint → List ℤ → Type 0) (square : ℤ) (items : List WeightedVector) : Type 0 where
-  pub candidate : Candidate Q square (support_vectors items)
-  pub no_less : IsAtMost (value square items) (value square (items_of candidate))
-
--- a chain of values
-pub no_less_trans : (square : ℤ) (a b c : List WeightedVector) → pos 0 <ℤ mass a → pos 0 <ℤ mass b → pos 0 <ℤ mass c → IsAtMost (value square a) (value square b) → IsAtMost (value square b) (value square c) → IsAtMost (value square a) (value square c)
-no_less_trans square a b c ha hb hc h k = fraction_le_trans (value square a).n (value square a).d (value square b).n (value square b).d (value square c).n (value square c).d (positive_mul ha ha) (positive_mul hb hb) (positive_mul hc hc) h k
+  pub supported : SupportedPart Q square (support_vectors items)
+  pub no_less : IsAtMost (value square items) (value square (items_on supported))
 
 -- one step: the walk has ended, or goes on with fewer items
 step : (Q : List SpacePoint → List ℤ → Type 0) (square : ℤ) (items : List WeightedVector) → 1 ≤ length items → All (λ item. pos 1 ≤ℤ item.weight) items → IsSolvedWith Q square (support_vectors items) → HasSupports Q square items ⊎ HasFewer square items
@@ -124,7 +119,7 @@ step Q square items some weights (inr solution) = by (all_or_fewer square items 
     by : All (λ w. pos 1 ≤ℤ w) solution.0 ⊎ HasFewer square items → HasSupports Q square items ⊎ HasFewer square items
     by (inl all) =
         inl (record {
-          candidate = record {
+          supported = record {
             part = support_vectors items;
             weights = solution.0;
             is_part = part_whole (support_vectors items);
@@ -139,8 +134,8 @@ step Q square items some weights (inr solution) = by (all_or_fewer square items 
 -- what fewer items end at
 onward : (Q : List SpacePoint → List ℤ → Type 0) (square : ℤ) (items : List WeightedVector) → 1 ≤ length items → All (λ item. pos 1 ≤ℤ item.weight) items → (h : HasFewer square items) → HasSupports Q square h.fewer → HasSupports Q square items
 onward Q square items some weights h r = record {
-  candidate = candidate_of_more h.is_part r.candidate;
-  no_less = no_less_trans square items h.fewer (items_of r.candidate) (mass_positive items some weights) (mass_positive h.fewer h.some h.weights) (mass_of r.candidate) h.no_less r.no_less;
+  supported = supported_in_more h.is_part r.supported;
+  no_less = no_less_trans square items h.fewer (items_on r.supported) (mass_positive items some weights) (mass_positive h.fewer h.some h.weights) (mass_of r.supported) h.no_less r.no_less;
 }
 
 -- of at most n items
@@ -162,9 +157,9 @@ walk_with Q square items some weights solved = walk_within Q square (length item
 pub walk : WalkEndsAtSupports
 walk square flag items some weights solved =
     let r = walk_with (λ part ws. Unit {0}) square items some weights (λ part is_part some_part. plainly part (solved part is_part some_part)) in
-    let c = r.candidate in
+    let c = r.supported in
     let e = vectors-weighted c.weights c.part c.balanced.as_many in
-    (items_of c, subst (λ vs. IsPart vs (support_vectors items)) (sym e) c.is_part, supports_from_balanced square c.part c.weights c.balanced c.at_least_one, r.no_less)
+    (items_on c, subst (λ vs. IsPart vs (support_vectors items)) (sym e) c.is_part, supports_from_balanced square c.part c.weights c.balanced c.at_least_one, r.no_less)
   where
     plainly : (part : List SpacePoint) → AreSolved square part → IsSolvedWith (λ part ws. Unit {0}) square part
     plainly part (inl dependent) = inl dependent
