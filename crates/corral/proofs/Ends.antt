@@ -9,7 +9,7 @@ use Rattle.kernel_laws.specs.Vectors.{sum_of}
 use Rattle.corral.specs.declared.items.Id.{Id}
 use Rattle.corral.specs.declared.items.Items.{Items}
 use Rattle.corral.specs.declared.items.Items.TheVariants.{Points, Differences}
-use Rattle.corral.specs.declared.moments.Moments.{Moments}
+use Rattle.corral.specs.declared.sums.Moments.{Moments}
 use Rattle.corral.specs.Items.{IsItem, item}
 use Rattle.corral.specs.Moments.{potential_at}
 use Rattle.corral.specs.Lowest.{IsLowest, IsLeastAlong, IsMostAlong, along}
@@ -34,7 +34,7 @@ pub lowest_by_ends : {K P : Type 0} (square : ℤ) (place : P → SpacePoint) (p
 lowest_by_ends square place p q m origin first second flag least most = record {
   named = (least.listed, most.listed);
   least = λ other h. by_parts
-    (difference_along (place origin) (point_at (map place (points_of p)) first) (point_at (map place (points_of q)) second) (sum_of m.sum))
-    (difference_along (place origin) (point_at (map place (points_of p)) other.first) (point_at (map place (points_of q)) other.second) (sum_of m.sum))
-    (no_square square _ flag) (no_square square _ flag) (least.least other.first h.0) (most.most other.second h.1);
+      (difference_along (place origin) (point_at (map place (points_of p)) first) (point_at (map place (points_of q)) second) (sum_of m.sum))
+      (difference_along (place origin) (point_at (map place (points_of p)) other.first) (point_at (map place (points_of q)) other.second) (sum_of m.sum))
+      (no_square square _ flag) (no_square square _ flag) (least.least other.first h.0) (most.most other.second h.1);
 }

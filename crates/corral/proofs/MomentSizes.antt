@@ -6,7 +6,7 @@ use Rattle.kernel_laws.specs.Vectors.{sum_of}
 use Rattle.kernel_laws.specs.Limits.{IsVectorWithin, reach}
 use Rattle.kernel_laws.specs.Solutions.{weight_limit}
 use Rattle.kernel_laws.proofs.SideLimits.{more_within}
-use Rattle.corral.specs.declared.moments.Moments.{Moments}
+use Rattle.corral.specs.declared.sums.Moments.{Moments}
 use Rattle.corral.specs.Moments.{AreWithin}
 
 -- a vector within l, a sum within m and a mass of at most t, and a number of at most 1

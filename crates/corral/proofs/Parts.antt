@@ -1,7 +1,7 @@
 -- Parts of a list.
-use Rattle.std.proofs.Common.{◌≡◌, refl, ◌⊎◌, inl, inr, suc, ◌≤◌, List, [], ◌∷◌, length, map, arith}
+use Rattle.std.proofs.Common.{◌≡◌, refl, ◌∙◌, ap, ◌⊎◌, inl, inr, ◌≤◌, List, [], ◌∷◌, ◌++◌, length, map, arith}
 use Rattle.std.specs.Prelude.{All}
-use Rattle.std.proofs.lemmas.List.Elements.{All-nil, All-cons, All-head, All-tail}
+use Rattle.std.proofs.lemmas.List.Elements.{All-cons, All-head, All-tail}
 use Rattle.corral.specs.Parts.{IsPart}
 use Rattle.corral.specs.Parts.IsPart.{none, omits, keeps}
 
@@ -48,3 +48,18 @@ pub part_map : {A B : Type 0} (f : A → B) {part xs : List A} → IsPart part x
 part_map f none = none
 part_map f (omits h) = omits (part_map f h)
 part_map f (keeps h) = keeps (part_map f h)
+
+-- and a part of the whole mapped is a part mapped
+pub part_of_map : {A B : Type 0} (f : A → B) (xs : List A) {part : List B} → IsPart part (map f xs) → (inner : List A) × IsPart inner xs × (part ≡ map f inner)
+part_of_map f [] h = ([], none, part_of_empty h)
+part_of_map {A} {B} f (x ∷ xs) {part} h = go (part_cases h) (λ rest k. part_of_map f xs {part = rest} k)
+  where
+    go : IsPart part (map f xs) ⊎ ((rest : List B) × (part ≡ f x ∷ rest) × IsPart rest (map f xs)) → ((rest : List B) → IsPart rest (map f xs) → (inner : List A) × IsPart inner xs × (rest ≡ map f inner)) → (inner : List A) × IsPart inner (x ∷ xs) × (part ≡ map f inner)
+    go (inl k) ih = let r = ih part k in (r.0, omits r.1, r.2)
+    go (inr s) ih = let r = ih s.0 s.2 in (x ∷ r.0, keeps r.1, s.1 ∙ ap (λ rest. f x ∷ rest) r.2)
+
+-- parts in a row are a part of the wholes in a row
+pub part_append : {A : Type 0} {a b c d : List A} → IsPart a b → IsPart c d → IsPart (a ++ c) (b ++ d)
+part_append none k = k
+part_append (omits h) k = omits (part_append h k)
+part_append (keeps h) k = keeps (part_append h k)

@@ -5,7 +5,7 @@ use Rattle.bounds_model.specs.Potentials.{WeightedVector}
 use Rattle.corral.specs.declared.items.Id.{Id}
 use Rattle.corral.specs.declared.items.Items.{Items}
 use Rattle.corral.specs.declared.holding.Held.{Held}
-use Rattle.corral.specs.declared.moments.Moments.{Moments}
+use Rattle.corral.specs.declared.sums.Moments.{Moments}
 use Rattle.corral.specs.declared.exchanges.Corral.{Corral}
 use Rattle.corral.specs.Items.{IsItem, item}
 use Rattle.corral.specs.Held.{weighted_items}

@@ -3,7 +3,7 @@ use Rattle.std.specs.Prelude.{ℕ, ◌<◌, ℤ, ◌≤ℤ◌, List, All, length
 use Rattle.bounds_model.specs.Space.{SpacePoint, vector, dot, point_at}
 use Rattle.corral.specs.declared.items.Id.{Id}
 use Rattle.corral.specs.declared.items.Items.{Items}
-use Rattle.corral.specs.declared.moments.Moments.{Moments}
+use Rattle.corral.specs.declared.sums.Moments.{Moments}
 use Rattle.corral.specs.Items.{IsItem, item}
 use Rattle.corral.specs.Moments.{potential_at}
 

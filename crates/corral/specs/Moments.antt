@@ -6,7 +6,7 @@ use Rattle.bounds_model.specs.Potentials.{WeightedVector, mass, moment, potentia
 use Rattle.kernel_laws.specs.Vectors.{sum_of}
 use Rattle.kernel_laws.specs.Limits.{IsVectorWithin, reach}
 use Rattle.kernel_laws.specs.Solutions.{weight_limit}
-use Rattle.corral.specs.declared.moments.Moments.{Moments}
+use Rattle.corral.specs.declared.sums.Moments.{Moments}
 
 -- the sum of the weights, and the weighted sum of the vectors
 pub record AreMoments (items : List WeightedVector) (m : Moments) : Type 0 where

@@ -14,8 +14,8 @@ ghost use Rattle.corral.specs.Balances.{IsBalance, vectors, candidate_names, Are
 use crate::holding::{Held, Support};
 use crate::items::{Id, Items};
 use crate::lowest::{lowest_difference, lowest_point};
-use crate::moments::Moments;
 use crate::search::{Balance, Candidate, search};
+use crate::sums::Moments;
 use arrayvec::ArrayVec;
 use kernel_laws::{Kernel, Potential};
 use std::marker::PhantomData;

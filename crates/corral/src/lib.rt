@@ -2,7 +2,7 @@
 //!
 //! - `items`: the items that supports are chosen from, points or differences of points
 //! - `holding`: weighted items
-//! - `moments`: what potentials are computed from
+//! - `sums`: what potentials are computed from
 //! - `search`: the part of a few items whose supports settle them
 //! - `exchanges`: supports that are exchanged for greater ones
 //! - `lowest`: an item of least potential
@@ -15,9 +15,9 @@ mod holding;
 mod items;
 pub mod laws;
 mod lowest;
-mod moments;
 mod rounds;
 mod search;
+mod sums;
 #[cfg(test)]
 mod tests;
 

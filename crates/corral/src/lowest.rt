@@ -7,7 +7,7 @@ ghost use Rattle.corral.specs.Moments.{AreWithin};
 ghost use Rattle.corral.specs.Lowest.{IsLowest, IsLeastAlong, IsMostAlong};
 
 use crate::items::{Id, Items};
-use crate::moments::Moments;
+use crate::sums::Moments;
 use bounded_coords::Cloud;
 use kernel_laws::{Kernel, Potential};
 

@@ -14,7 +14,7 @@ ghost use Rattle.corral.specs.Balances.{vectors as vectors_in, candidate_names, 
 
 use crate::holding::Held;
 use crate::items::Id;
-use crate::moments::Moments;
+use crate::sums::Moments;
 use arrayvec::ArrayVec;
 use kernel_laws::{Kernel, Potential, Solved, Vector};
 

@@ -3,7 +3,7 @@ use mir.Syntax.{w128}
 use Rattle.bounded_coords.specs.Clouds.{points_of}
 use Rattle.kernel_laws.specs.Vectors.{vector_of, sum_of}
 use Rattle.corral.specs.Lowest.{along}
-use Rattle.corral.proofs.Places.{along_is}
+use Rattle.corral.proofs.PointNumbers.{along_is}
 use Rattle.corral.proofs.Running.{least_of_one, least_takes, least_keeps}
 use Rattle.corral.proofs.lowest.least_along.Goals as goal
 use Rattle.corral.proofs.lowest.least_along.Goals.{then-along-least, else-along-least}

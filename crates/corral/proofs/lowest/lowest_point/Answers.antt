@@ -2,7 +2,7 @@ use Rattle.std.proofs.Common.{refl, ◌∙◌, subst, ◌≤ℤ◌, rules, arith
 use mir.Syntax.{w128}
 use Rattle.bounded_coords.specs.Clouds.{points_of}
 use Rattle.kernel_laws.specs.Vectors.{vector_of}
-use Rattle.corral.proofs.Places.{point_potential, point_potential_is}
+use Rattle.corral.proofs.PointNumbers.{point_potential, point_potential_is}
 use Rattle.corral.proofs.Running.{least_of_one, least_takes, least_keeps}
 use Rattle.corral.proofs.lowest.lowest_point.Goals as goal
 use Rattle.corral.proofs.lowest.lowest_point.Goals.{then-potential-least, else-potential-least}

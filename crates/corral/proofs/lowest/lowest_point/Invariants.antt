@@ -1,5 +1,5 @@
 use Rattle.bounded_coords.specs.Clouds.{points_of}
-use Rattle.corral.proofs.Places.{point_potential}
+use Rattle.corral.proofs.PointNumbers.{point_potential}
 use Rattle.corral.proofs.Running.{IsLeastBelow}
 use Rattle.corral.proofs.lowest.lowest_point.Given as goal
 

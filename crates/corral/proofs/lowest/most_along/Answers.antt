@@ -3,7 +3,7 @@ use mir.Syntax.{w128}
 use Rattle.bounded_coords.specs.Clouds.{points_of}
 use Rattle.kernel_laws.specs.Vectors.{vector_of, sum_of}
 use Rattle.corral.specs.Lowest.{along}
-use Rattle.corral.proofs.Places.{along_is}
+use Rattle.corral.proofs.PointNumbers.{along_is}
 use Rattle.corral.proofs.Running.{most_of_one, most_takes, most_keeps}
 use Rattle.corral.proofs.lowest.most_along.Goals as goal
 use Rattle.corral.proofs.lowest.most_along.Goals.{then-along-most, else-along-most}

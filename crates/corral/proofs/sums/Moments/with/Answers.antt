@@ -2,7 +2,7 @@ use Rattle.std.proofs.Common.{List, [], ◌∷◌}
 use mir.Syntax.{w128}
 use Rattle.integers.proofs.MachineArithmetic.{Given, given, with_inputs, codes, computes, fits}
 use Rattle.kernel_laws.proofs.Points.{same_point}
-use Rattle.corral.proofs.moments.Moments.with.Goals as goal
+use Rattle.corral.proofs.sums.Moments.with.Goals as goal
 
 pub overflow_add-result : goal.overflow_add-result
 overflow_add-result c =

@@ -4,7 +4,7 @@ use Rattle.bounds_model.specs.Space.{SpacePoint}
 use Rattle.integers.proofs.MachineArithmetic.{Given, given, with_inputs, codes, computes, fits, number}
 use Rattle.kernel_laws.specs.Vectors.{vector_of}
 use Rattle.corral.proofs.MomentSizes.{MomentSizes, moment_sizes}
-use Rattle.corral.proofs.moments.Moments.potential.Goals as goal
+use Rattle.corral.proofs.sums.Moments.potential.Goals as goal
 
 -- the coordinates, the mass and the square, each with its bound
 abbrev inputs : {l m t : ℕ} {square mass : ℤ} {v s : SpacePoint} → MomentSizes l m t square v s mass → List Given
