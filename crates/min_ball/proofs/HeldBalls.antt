@@ -9,6 +9,7 @@ use Rattle.integers.specs.Total.{total}
 use Rattle.integers.proofs.Sums.{total-map}
 use Rattle.bounds_model.specs.Space.{SpacePoint, point_at, vector, plus, times, dot, squared_length, weighted_sum, origin}
 use Rattle.bounds_model.specs.Fractions.{Fraction, SameValue}
+use Rattle.bounds_model.specs.Places.{IsFraction}
 use Rattle.bounds_model.specs.BallAnswer.{Weighted, weight_sum, first_support, seen_support, pull, supported_size, IsOnBall, IsNotOutside}
 use Rattle.bounds_model.specs.Potentials.{WeightedVector, mass, moment, potential, IsLow}
 use Rattle.bounded_coords.specs.declared.cloud.Cloud.{Cloud}
@@ -129,9 +130,9 @@ pub held_by_supports : (K : Type 0) {P : Type 0} (dim : ℕ) (place : P → Spac
     → items ≡ cloud_items K cloud → AreHeld dim (cloud_items K cloud) held → AreSupports (pos 1) (weighted_items place (cloud_items K cloud) held)
     → (mass (weighted_items place (cloud_items K cloud) held)) ≤ℤ pos (ball_limit dim)
     → ((id : Id) → IsItem (cloud_items K cloud) id → ¬ IsLow (pos 1) (weighted_items place (cloud_items K cloud) held) (item place (cloud_items K cloud) id))
-    → SameValue size (supported_size (map place (first_points items)) (map weighted_point held))
+    → IsFraction size → SameValue size (supported_size (map place (first_points items)) (map weighted_point held))
     → IsHeld dim (map place (first_points items)) (map weighted_point held) size
-held_by_supports K {P} dim place cloud items held size is are_held supports limit none_low size_is =
+held_by_supports K {P} dim place cloud items held size is are_held supports limit none_low lowest size_is =
     subst (λ (items : Items K P). SameValue size (supported_size (map place (first_points items)) (map weighted_point held)) → IsHeld dim (map place (first_points items)) (map weighted_point held) size) (sym is)
     (λ size_is. let as_many = length-map held weighted_point in record {
       count = record { at_least = let h = are_held.count.at_least in omega arith; at_most = let h = are_held.count.at_most in omega arith };
@@ -141,6 +142,7 @@ held_by_supports K {P} dim place cloud items held size is are_held supports limi
       weight_limit = subst (λ m. m ≤ℤ pos (ball_limit dim)) (mass_is place (cloud_items K cloud) held) limit;
       on_ball = supports_on_ball K place cloud held supports;
       none_outside = none_outside K place cloud held supports none_low;
+      lowest = lowest;
       size_is = size_is;
     })
     size_is

@@ -10,8 +10,8 @@ use Rattle.integers.proofs.Identities.{den-ring, read, polys, lits}
 use Rattle.bounds_model.specs.Plane.{PlanePoint, PlaneRatio}
 use Rattle.bounds_model.specs.Space.{SpacePoint, SpaceRatio, point_at, vector, plus, times, weighted_sum, origin, flat, flat_ratio, SamePlace}
 use Rattle.bounds_model.specs.Fractions.{Fraction}
-use Rattle.bounds_model.specs.Places.{IsFraction, IsPlaneRatio, IsSpaceRatio, point_limit, number_limit}
-use Rattle.bounds_model.specs.BallAnswer.{Weighted, weight_sum, first_support, seen_support, pull, supported_centre, IsSupportPlace, CircleAnswer, SphereAnswer, PassesCircle, PassesSphere}
+use Rattle.bounds_model.specs.Places.{IsPlaneRatio, IsSpaceRatio, point_limit, number_limit}
+use Rattle.bounds_model.specs.BallAnswer.{Weighted, weight_sum, first_support, seen_support, pull, supported_centre, IsSupportPlace, PassesCircle, PassesSphere}
 use Rattle.corral.specs.declared.items.Items.{Items}
 use Rattle.corral.specs.declared.items.Items.TheVariants.{Points, Differences}
 use Rattle.corral.specs.Items.{first_points}
@@ -61,46 +61,50 @@ weight_of_held {supports = supports} sums held e =
 -- ---- what passes
 
 -- a circle
-pub circle_passes : (points : List PlanePoint) (a : CircleAnswer) → length points ≤ 10000 → IsHeld 2 (map flat points) a.supports a.size → IsFraction a.size → IsPlaneRatio a.centre
-    → SamePlace (flat_ratio a.centre) (supported_centre (map flat points) a.supports) → PassesCircle points a
-circle_passes points a few held size centre place = record {
-  places = record {
-    size = size;
-    centre = centre;
-    count = held.count;
-    supports = in_places (length points) (2 ^ 80) a.supports few (omega arith) numbers held.weights held.weight_limit;
-  };
-  numbers = numbers;
-  witness = record {
-    weights = held.weights;
-    weight_limit = held.weight_limit;
-    on_ball = held.on_ball;
-    none_outside = held.none_outside;
-    size = held.size_is;
-    centre = place;
-  };
-}
+pub circle_passes : (points : List PlanePoint) (size : Fraction) (centre : PlaneRatio) (supports listed : List Weighted) → listed ≡ supports → length points ≤ 10000
+    → IsHeld 2 (map flat points) supports size → IsPlaneRatio centre → SamePlace (flat_ratio centre) (supported_centre (map flat points) supports)
+    → PassesCircle points (record { size = size; centre = centre; supports = listed })
+circle_passes points size centre supports listed same few held lowest place =
+    subst (λ s. PassesCircle points (record { size = size; centre = centre; supports = s })) (sym same) (record {
+      places = record {
+        size = held.lowest;
+        centre = lowest;
+        count = held.count;
+        supports = in_places (length points) (2 ^ 80) supports few (omega arith) numbers held.weights held.weight_limit;
+      };
+      numbers = numbers;
+      witness = record {
+        weights = held.weights;
+        weight_limit = held.weight_limit;
+        on_ball = held.on_ball;
+        none_outside = held.none_outside;
+        size = held.size_is;
+        centre = place;
+      };
+    })
   where
-    numbers : All (λ s. s.point < length points) a.supports
-    numbers = subst (λ n. All (λ s. s.point < n) a.supports) (length-map points flat) held.numbers
+    numbers : All (λ s. s.point < length points) supports
+    numbers = subst (λ n. All (λ s. s.point < n) supports) (length-map points flat) held.numbers
 
 -- a sphere
-pub sphere_passes : (points : List SpacePoint) (a : SphereAnswer) → length points ≤ 10000 → IsHeld 3 points a.supports a.size → IsFraction a.size → IsSpaceRatio a.centre
-    → SamePlace a.centre (supported_centre points a.supports) → PassesSphere points a
-sphere_passes points a few held size centre place = record {
-  places = record {
-    size = size;
-    centre = centre;
-    count = held.count;
-    supports = in_places (length points) (2 ^ 92) a.supports few (omega arith) held.numbers held.weights held.weight_limit;
-  };
-  numbers = held.numbers;
-  witness = record {
-    weights = held.weights;
-    weight_limit = held.weight_limit;
-    on_ball = held.on_ball;
-    none_outside = held.none_outside;
-    size = held.size_is;
-    centre = place;
-  };
-}
+pub sphere_passes : (points : List SpacePoint) (size : Fraction) (centre : SpaceRatio) (supports listed : List Weighted) → listed ≡ supports → length points ≤ 10000
+    → IsHeld 3 points supports size → IsSpaceRatio centre → SamePlace centre (supported_centre points supports)
+    → PassesSphere points (record { size = size; centre = centre; supports = listed })
+sphere_passes points size centre supports listed same few held lowest place =
+    subst (λ s. PassesSphere points (record { size = size; centre = centre; supports = s })) (sym same) (record {
+      places = record {
+        size = held.lowest;
+        centre = lowest;
+        count = held.count;
+        supports = in_places (length points) (2 ^ 92) supports few (omega arith) held.numbers held.weights held.weight_limit;
+      };
+      numbers = held.numbers;
+      witness = record {
+        weights = held.weights;
+        weight_limit = held.weight_limit;
+        on_ball = held.on_ball;
+        none_outside = held.none_outside;
+        size = held.size_is;
+        centre = place;
+      };
+    })

@@ -24,15 +24,14 @@ impl<'a> Ball<'a, Plane> {
         ensures size { result.size ≡ size_of self.now }
         ensures supports { map weighted_of result.supports.items ≡ listed (support_of self.now) }
     {
-        let support = self.support();
-        let sums = Sums::over(&Plane, support);
-        let first = support.first(0);
+        let sums = Sums::over(&Plane, &self.support);
+        let first = self.support.first(0);
         let x = mean(sums.weight, first.x(), sums.pull.x);
         let y = mean(sums.weight, first.y(), sums.pull.y);
         BallAnswer2 {
-            size: self.size(),
+            size: self.size,
             center: Homog2::new(x, y, sums.weight as i128),
-            supports: weighted(support),
+            supports: weighted(&self.support),
         }
     }
 }
@@ -46,16 +45,15 @@ impl<'a> Ball<'a, Space> {
         ensures size { result.size ≡ size_of self.now }
         ensures supports { map weighted_of result.supports.items ≡ listed (support_of self.now) }
     {
-        let support = self.support();
-        let sums = Sums::over(&Space, support);
-        let first = support.first(0);
+        let sums = Sums::over(&Space, &self.support);
+        let first = self.support.first(0);
         let x = mean(sums.weight, first.x(), sums.pull.x);
         let y = mean(sums.weight, first.y(), sums.pull.y);
         let z = mean(sums.weight, first.z(), sums.pull.z);
         BallAnswer3 {
-            size: self.size(),
+            size: self.size,
             center: Homog3::new(x, y, z, sums.weight as i128),
-            supports: weighted(support),
+            supports: weighted(&self.support),
         }
     }
 }

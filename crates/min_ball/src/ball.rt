@@ -1,7 +1,5 @@
 //! A ball with the supports that hold it in place.
 ghost use Rattle.std.specs.Prelude.{◌≡◌, map};
-ghost use Rattle.bounds_model.specs.Fractions.{SameValue};
-ghost use Rattle.bounds_model.specs.BallAnswer.{supported_size};
 ghost use Rattle.bounded_coords.specs.Clouds.{points_of};
 ghost use Rattle.min_ball.specs.Balls.{listed, places, IsHeld, IsHeld-prop};
 
@@ -14,8 +12,8 @@ use kernel_laws::{BallPotential, Kernel};
 /// The smallest ball around some points: a circle in the plane, a sphere in space. It borrows the points.
 #[derive(Drop)]
 pub struct Ball<'a, K: Kernel> {
-    support: Support<'a, K>,
-    size: Frac,
+    pub(crate) support: Support<'a, K>,
+    pub(crate) size: Frac,
     ghost held: { IsHeld K.DIM (places K.place support) (listed support) size } by { IsHeld-prop K.DIM (places K.place support) (listed support) size },
 }
 

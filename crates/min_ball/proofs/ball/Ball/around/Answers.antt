@@ -23,6 +23,6 @@ invariant_of-result g c =
     let held = supports_of support in
     record {
       held = held_by_supports g.row.K.Denot g.K.Kernel.DIM g.K.Kernel.place c.args.cloud (items_of support) held c.new-size.result
-          c.settle-support.ensures.items c.settle-support.ensures.held c.settle-support.ensures.supports c.settle-support.ensures.limit c.settle-support.ensures.none_low
+          c.settle-support.ensures.items c.settle-support.ensures.held c.settle-support.ensures.supports c.settle-support.ensures.limit c.settle-support.ensures.none_low c.new-size.ensures.lowest
           (size_of_sums (places g.K.Kernel.place support) (listed support) c.over-sums.result c.new-size.result c.over-sums.ensures.sums c.new-size.ensures.value);
     }

@@ -25,11 +25,12 @@ add-preserved g c =
     let points = first_points (items_of c.args.support.now) in
     let from = g.K.Kernel.place c.first-first.result.now in
     let count = c.len-i-end.ensures.count in
-    let as_many = length-map held weighted_point in
-    (c.with-sums.ensures.range,
-    sums_of_more from (g.K.Kernel.place c.first.result.now) (places g.K.Kernel.place c.args.support.now) (listed c.args.support.now) c.add.i c.weight.result nobody c.add.sums c.with-sums.result
-    (omega arith) (weight_at held c.add.i c.weight.result nobody c.weight.ensures) (point_of_support g.K.Kernel.place points held c.add.i c.first.result.now nobody c.first.ensures) c.add.invariant.1
-    (subst (λ v. Adds c.weight.result v c.add.sums c.with-sums.result) c.diff-to.ensures.value c.with-sums.ensures.adds))
+    let as_many = length-map held weighted_point in (
+      c.with-sums.ensures.range,
+      sums_of_more from (g.K.Kernel.place c.first.result.now) (places g.K.Kernel.place c.args.support.now) (listed c.args.support.now) c.add.i c.weight.result nobody c.add.sums c.with-sums.result
+          (omega arith) (weight_at held c.add.i c.weight.result nobody c.weight.ensures) (point_of_support g.K.Kernel.place points held c.add.i c.first.result.now nobody c.first.ensures) c.add.invariant.1
+          (subst (λ v. Adds c.weight.result v c.add.sums c.with-sums.result) c.diff-to.ensures.value c.with-sums.ensures.adds),
+    )
 
 pub returns : goal.returns
 returns g c =
