@@ -21,3 +21,6 @@ pub mod MomentSizes
 pub mod Running
 pub mod PointNumbers
 pub mod Ends
+pub mod MomentSums
+pub mod Mapped
+pub mod Solutions

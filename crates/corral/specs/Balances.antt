@@ -38,7 +38,7 @@ AreCandidates place items candidates = All (λ c. vector_of c.vector ≡ item pl
 
 -- the supports on the chosen candidates, none of all candidates being low under them
 pub record IsFound (dim : ℕ) (square : ℤ) (all chosen : List Candidate) (b : Balance) : Type 0 where
-  pub part : IsPart chosen all
+  pub is_part : IsPart chosen all
   pub named : names b.held.items ≡ candidate_names chosen
   pub balance : IsBalance dim square (weighted (weights b.held.items) (vectors chosen)) b
   pub none_low : All (λ v. ¬ IsLow square (weighted (weights b.held.items) (vectors chosen)) v) (vectors all)
