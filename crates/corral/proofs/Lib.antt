@@ -24,3 +24,4 @@ pub mod Ends
 pub mod MomentSums
 pub mod Mapped
 pub mod Solutions
+pub mod Searching
