@@ -25,3 +25,4 @@ pub mod MomentSums
 pub mod Mapped
 pub mod Solutions
 pub mod Searching
+pub mod Balancing
