@@ -26,3 +26,6 @@ pub mod Mapped
 pub mod Solutions
 pub mod Searching
 pub mod Balancing
+pub mod Nearness
+pub mod Exchanging
+pub mod Filling

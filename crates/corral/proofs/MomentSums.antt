@@ -36,6 +36,7 @@ within_more n a m v s hv hs = record {
   where
     weight : Size a (pos a)
     weight = record { abs = omega arith }
+
     more : {z : ℤ} → Size (a * n + m * n) z → Size ((a + m) * n) z
     more h = record { abs = le_trans h.abs (omega arith) }
 

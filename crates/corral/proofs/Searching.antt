@@ -44,6 +44,7 @@ refuted_both_ways square all chosen pushed left (x ∷ xs) d some e f with witho
   where
     other : (part : List Candidate) → IsPart part xs → IsPart part (rest (x ∷ xs))
     other part h = subst (IsPart part) (sym (rest-cons x xs)) h
+
     go : IsPart more xs ⊎ ((tail : List Candidate) × (more ≡ x ∷ tail) × IsPart tail xs) → IsRefuted square (vectors all) (vectors (chosen ++ more))
     go (inl h) = subst (λ zs. IsRefuted square (vectors all) (vectors (zs ++ more))) f (without more (other more h) (subst (λ zs. 1 ≤ length (zs ++ more)) (sym f) many))
     go (inr (tail, same, h)) =

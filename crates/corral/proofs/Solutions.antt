@@ -157,9 +157,13 @@ module _ (square : ℤ) (dim : ℕ) (all part : List Candidate) (ws : List ℤ) 
   -- where one is, the part is refuted
   pub refuted_by_low : (level : ℤ) → IsLevel square (weighted ws (vectors part)) level → ¬ All (λ v. level ≤ℤ potential_at square m v) (vectors all) → IsRefuted square (vectors all) (vectors part)
   refuted_by_low level is below =
-      inr (ws, balanced, λ settles. below (All-weaker (λ v. ¬ IsLow square (weighted ws (vectors part)) v) (λ v. level ≤ℤ potential_at square m v)
-          (λ v not_low. subst (λ z. level ≤ℤ z) (sym (potential_is square (weighted ws (vectors part)) m v h.moments)) (at_least_common square (weighted ws (vectors part)) level is v not_low))
-          (vectors all) settles.none_low))
+      inr (
+        ws,
+        balanced,
+        λ settles. below (All-weaker (λ v. ¬ IsLow square (weighted ws (vectors part)) v) (λ v. level ≤ℤ potential_at square m v)
+            (λ v not_low. subst (λ z. level ≤ℤ z) (sym (potential_is square (weighted ws (vectors part)) m v h.moments)) (at_least_common square (weighted ws (vectors part)) level is v not_low))
+            (vectors all) settles.none_low),
+      )
 
   -- the supports that are found
   pub found : (level : ℤ) (b : Balance) → IsLevel square (weighted ws (vectors part)) level → All (λ v. level ≤ℤ potential_at square m v) (vectors all)

@@ -20,8 +20,8 @@ push-requires g t c =
 pub search-requires : goal.search-requires
 search-requires g t c =
     let is_part : IsPart (c.pop.new.self.items ++ rest c.args.rest.now) c.args.all.now =
-        subst (λ zs. IsPart (zs ++ rest c.args.rest.now) c.args.all.now) (sym (popped c.args.chosen.now.items c.push.new.self.items c.search-with.new.chosen.items c.pop.new.self.items _ c.push.ensures.items c.search-with.ensures.same c.pop.ensures.rest))
-        (part_without c.args.chosen.now.items c.args.all.now c.args.rest.now c.in-len1-up.len_at_least c.requires.chosen) in
+    subst (λ zs. IsPart (zs ++ rest c.args.rest.now) c.args.all.now) (sym (popped c.args.chosen.now.items c.push.new.self.items c.search-with.new.chosen.items c.pop.new.self.items _ c.push.ensures.items c.search-with.ensures.same c.pop.ensures.rest))
+    (part_without c.args.chosen.now.items c.args.all.now c.args.rest.now c.in-len1-up.len_at_least c.requires.chosen) in
     search rules
 
 pub returns-in-empty-clause-none : goal.returns-in-empty-clause-none

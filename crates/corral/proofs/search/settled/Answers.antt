@@ -57,7 +57,7 @@ pub potential-level-requires-clause-vector : goal.potential-level-requires-claus
 potential-level-requires-clause-vector g c =
     subst (IsVectorWithin (reach g.K.Kernel.DIM)) (sym (first_of_part c.args.part.now (take (length c.args.part.now) c.vectors-padded.result) zero (same_vectors c.args.part.now c.vectors-padded.result c.vectors-padded.ensures)))
     (All-get_or (IsVectorWithin (reach g.K.Kernel.DIM)) (vectors c.args.part.now) 0 (vector_of zero) (let same = length-map c.args.part.now (λ c. vector_of c.vector) in let some = (not_empty (length c.args.part.now) c.is_empty.result c.is_empty.ensures c.if-is_empty.false) in omega arith)
-        (within_reach g.K.Kernel.DIM (vectors c.args.part.now) (part_all (IsDifference g.K.Kernel.DIM) (vectors_part c.requires.part) c.requires.all.each)))
+    (within_reach g.K.Kernel.DIM (vectors c.args.part.now) (part_all (IsDifference g.K.Kernel.DIM) (vectors_part c.requires.part) c.requires.all.each)))
 
 pub are_above-requires-clause-within : goal.are_above-requires-clause-within
 are_above-requires-clause-within g c = solution_within g.T.Potential.SQUARE g.K.Kernel.DIM c.args.all.now c.args.part.now c.as_slice-weights.result.now c.moments-moments.result (solution g.T.Potential.SQUARE g.K.Kernel.DIM c.args.all.now c.args.part.now (take (length c.args.part.now) c.vectors-padded.result) c.as_slice-weights.result.now c.in-Weights.solution.items c.moments-moments.result c.requires.part (not_empty (length c.args.part.now) c.is_empty.result c.is_empty.ensures c.if-is_empty.false) c.requires.all (same_vectors c.args.part.now c.vectors-padded.result c.vectors-padded.ensures) c.in-Weights.ensures.answer c.as_slice-weights.ensures.value c.in-Weights.ensures.null.1 (c.are_positive.ensures.0 c.if-not-are_positive.false) c.moments-moments.ensures)

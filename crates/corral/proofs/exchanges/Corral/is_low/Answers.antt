@@ -16,4 +16,4 @@ returns g c =
     let fits : SFits w128 c.potential.result = search rules in
     let level : SFits w128 c.args.self.now.balance.level = search rules in
     is_low_by_level g.K.Kernel.DIM g.T.Potential.SQUARE (weighted_items g.K.Kernel.place c.args.self.now.items c.args.self.now.balance.held.items) c.args.self.now.balance (item g.K.Kernel.place c.args.self.now.items c.args.id) _ _ c.args.self.now.balanced
-    (to_z-of_z fits ∙ c.potential.ensures ∙ ap (potential_at g.T.Potential.SQUARE c.args.self.now.balance.moments) c.vector.ensures.value) (to_z-of_z level)
+    (to_z-of_z fits ∙ c.potential.ensures ∙ ap (potential_at g.T.Potential.SQUARE c.args.self.now.balance.moments) c.vector-vector.ensures.value) (to_z-of_z level)
