@@ -29,3 +29,4 @@ pub mod Balancing
 pub mod Nearness
 pub mod Exchanging
 pub mod Filling
+pub mod Nearer

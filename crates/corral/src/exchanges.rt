@@ -34,6 +34,7 @@ pub struct Corral<'a, K: Kernel, T: Potential> {
 
 impl<'a, K: Kernel, T: Potential> Corral<'a, K, T> {
     ghost use Rattle.corral.specs.Corrals.{all_items, held_in, supports_in};
+    ghost use Rattle.corral.specs.Supported.{items_of, supports_of};
 
     /// The one item with the weight 1.
     pub fn start(kernel: K, items: Items<'a, K>, id: Id) -> Self
@@ -157,7 +158,10 @@ impl<'a, K: Kernel, T: Potential> Corral<'a, K, T> {
     }
 
     /// The supports as they stand.
-    pub(crate) fn into_support(self) -> Support<'a, K> {
+    pub(crate) fn into_support(self) -> Support<'a, K>
+        ensures items { items_of result ≡ all_items self.entry }
+        ensures supports { supports_of result ≡ held_in self.entry }
+    {
         Support::new(self.items, self.balance.held)
     }
 }
