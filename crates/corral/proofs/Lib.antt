@@ -21,3 +21,12 @@ pub mod MomentSizes
 pub mod Running
 pub mod PointNumbers
 pub mod Ends
+pub mod MomentSums
+pub mod Mapped
+pub mod Solutions
+pub mod Searching
+pub mod Balancing
+pub mod Nearness
+pub mod Exchanging
+pub mod Filling
+pub mod Nearer

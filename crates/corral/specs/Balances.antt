@@ -1,9 +1,9 @@
 -- Supports with what potentials under them are computed from, and the search for them among a few candidates.
 use Rattle.std.specs.Prelude.{◌≡◌, ℕ, ◌≤◌, ℤ, pos, ◌≤ℤ◌, List, ◌++◌, All, length, map}
-use Rattle.bounds_model.specs.Space.{SpacePoint}
+use Rattle.bounds_model.specs.Space.{SpacePoint, vector}
 use Rattle.bounds_model.specs.Potentials.{WeightedVector, mass, AreAffinelyDependent, IsLow}
 use Rattle.kernel_laws.specs.Vectors.{vector_of}
-use Rattle.kernel_laws.specs.Limits.{IsDifference}
+use Rattle.kernel_laws.specs.Limits.{IsVectorWithin, IsDifference, reach}
 use Rattle.kernel_laws.specs.Solutions.{weighted, weight_limit}
 use Rattle.corral.specs.declared.items.Id.{Id}
 use Rattle.corral.specs.declared.items.Items.{Items}
@@ -36,9 +36,13 @@ candidate_names candidates = map (λ c. c.id) candidates
 abbrev pub AreCandidates : {K P : Type 0} → (P → SpacePoint) → Items K P → List Candidate → Type 0
 AreCandidates place items candidates = All (λ c. vector_of c.vector ≡ item place items c.id) candidates
 
+-- two items are no farther apart than the solver takes
+abbrev pub IsNear : {K P : Type 0} → ℕ → (P → SpacePoint) → Items K P → Id → Id → Type 0
+IsNear dim place items a b = IsVectorWithin (reach dim) (vector (item place items a) (item place items b))
+
 -- the supports on the chosen candidates, none of all candidates being low under them
 pub record IsFound (dim : ℕ) (square : ℤ) (all chosen : List Candidate) (b : Balance) : Type 0 where
-  pub part : IsPart chosen all
+  pub is_part : IsPart chosen all
   pub named : names b.held.items ≡ candidate_names chosen
   pub balance : IsBalance dim square (weighted (weights b.held.items) (vectors chosen)) b
   pub none_low : All (λ v. ¬ IsLow square (weighted (weights b.held.items) (vectors chosen)) v) (vectors all)

@@ -1,15 +1,14 @@
 //! Supports that are exchanged for greater ones.
 ghost use Rattle.std.specs.Prelude.{◌≡◌, ◌↔◌, ◌≤ℤ◌, pos, [], ◌∷◌, ◌+◌, All, length, map, IsTrue};
-ghost use Rattle.bounds_model.specs.Space.{vector};
 ghost use Rattle.bounds_model.specs.Potentials.{potential, IsLow, value};
 ghost use Rattle.exact_fractions.specs.Order.{IsBelow};
 ghost use Rattle.kernel_laws.specs.Vectors.{vector_of};
-ghost use Rattle.kernel_laws.specs.Limits.{IsVectorWithin, IsDifference, reach};
+ghost use Rattle.kernel_laws.specs.Limits.{IsDifference};
 ghost use Rattle.kernel_laws.specs.Solutions.{AreItems};
 ghost use Rattle.corral.specs.Parts.{IsPart};
 ghost use Rattle.corral.specs.Items.{IsItem, item, square_of};
 ghost use Rattle.corral.specs.Held.{AreHeld, AreHeld-prop, names, weighted_items};
-ghost use Rattle.corral.specs.Balances.{IsBalance, vectors, candidate_names, AreCandidates};
+ghost use Rattle.corral.specs.Balances.{IsBalance, vectors, candidate_names, AreCandidates, IsNear};
 
 use crate::holding::{Held, Support};
 use crate::items::{Id, Items};
@@ -35,6 +34,7 @@ pub struct Corral<'a, K: Kernel, T: Potential> {
 
 impl<'a, K: Kernel, T: Potential> Corral<'a, K, T> {
     ghost use Rattle.corral.specs.Corrals.{all_items, held_in, supports_in};
+    ghost use Rattle.corral.specs.Supported.{items_of, supports_of};
 
     /// The one item with the weight 1.
     pub fn start(kernel: K, items: Items<'a, K>, id: Id) -> Self
@@ -115,17 +115,25 @@ impl<'a, K: Kernel, T: Potential> Corral<'a, K, T> {
         'fill: for support in self.balance.held.as_slice() {
             all.push(self.candidate(support.id));
         }
-        'pair: for a in all.as_slice() {
-            self.near_all(a.id, all.as_slice());
-        }
+        self.near_pairs(all.as_slice());
         all
+    }
+
+    /// Tells of some candidates that no two of them are farther apart than `solve` takes; it has nothing to do.
+    fn near_pairs(&self, candidates: &[Candidate])
+        requires { All (λ c. IsItem (all_items self.now) c.id) candidates.now }
+        ensures { T.SQUARE ≡ pos 1 → All (λ a. All (λ b. IsNear K.DIM K.place (all_items self.now) a.id b.id) candidates.now) candidates.now }
+    {
+        'pair: for a in candidates {
+            self.near_all(a.id, candidates);
+        }
     }
 
     /// Tells of an item and some candidates that none of them is farther from it than `solve` takes; it has nothing to do.
     fn near_all(&self, id: Id, candidates: &[Candidate])
         requires item { IsItem (all_items self.now) id }
         requires items { All (λ c. IsItem (all_items self.now) c.id) candidates.now }
-        ensures { T.SQUARE ≡ pos 1 → All (λ c. IsVectorWithin (reach K.DIM) (vector (item K.place (all_items self.now) id) (item K.place (all_items self.now) c.id))) candidates.now }
+        ensures { T.SQUARE ≡ pos 1 → All (λ c. IsNear K.DIM K.place (all_items self.now) id c.id) candidates.now }
     {
         if let Items::Points(cloud) = self.items {
             'tell: for candidate in candidates {
@@ -150,7 +158,10 @@ impl<'a, K: Kernel, T: Potential> Corral<'a, K, T> {
     }
 
     /// The supports as they stand.
-    pub(crate) fn into_support(self) -> Support<'a, K> {
+    pub(crate) fn into_support(self) -> Support<'a, K>
+        ensures items { items_of result ≡ all_items self.entry }
+        ensures supports { supports_of result ≡ held_in self.entry }
+    {
         Support::new(self.items, self.balance.held)
     }
 }

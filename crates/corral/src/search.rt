@@ -95,7 +95,7 @@ fn settled<K: Kernel, T: Potential>(
         return None;
     };
     let weights = solution.as_slice();
-    if weights.iter().any(|w| *w < 1) {
+    if !are_positive(weights) {
         return None;
     }
     let moments = moments(weights, vectors);
@@ -108,6 +108,13 @@ fn settled<K: Kernel, T: Potential>(
         moments,
         level,
     })
+}
+
+/// Whether all weights are at least 1.
+fn are_positive(weights: &[i128]) -> bool
+    ensures { IsTrue result ↔ All (λ w. pos 1 ≤ℤ w) weights.now }
+{
+    weights.iter().all(|w| *w >= 1)
 }
 
 /// The vectors of a part, and zeros after them.
