@@ -1,5 +1,5 @@
 -- How a task ends that gives no output.
-use Rattle.std.proofs.Common.{◌≡◌, ◌∙◌, ◌⊎◌, inl, inr, refl, sym, ap, subst, is_ok, ℕ, ◌<◌, Bool, true, false, List, [], ◌∷◌, Option, Some, None, Result, Ok, Err, IfSome, Contains, nat_le, length, arith}
+use Rattle.std.proofs.Common.{◌≡◌, ◌∙◌, ◌⊎◌, inl, inr, refl, sym, ap, subst, is_ok, ℕ, Bool, true, false, List, Option, Some, None, Result, Ok, Err, IfSome, Contains, nat_le, length, arith}
 use Rattle.std.specs.Prelude.{if◌then◌else◌}
 use Rattle.bounds_model.specs.Asks.{Ask, Sets}
 use Rattle.bounds_model.specs.Answers.{Answer}
@@ -12,7 +12,7 @@ use Rattle.witness_format.specs.Kinds.{known_kinds}
 use Rattle.bounds_model.specs.ErrorLines.{Cause, InputFile, points_file, answer_file, words_not_understood, open_fault, read_fault, too_long, bad_line, out_of_range, too_many_points, no_points, wrong_sets, bad_answer, big_number, out_of_memory}
 use Rattle.bnd_io.specs.Files.{Folder, FilesState, bytes_of}
 use Rattle.bounds_tool.specs.declared.status.Status.{Status}
-use Rattle.bounds_tool.specs.declared.status.Status.TheVariants.{Done, No, Usage, Input, Read, Write, Memory}
+use Rattle.bounds_tool.specs.declared.status.Status.TheVariants.{Usage, Input, Read, Memory}
 use Rattle.bounds_tool.specs.Words.{Task, solve_task, check_task, demo_task, task_of, files_of}
 use Rattle.bounds_tool.specs.Judging.{Work, solving, checking, demonstrating, ◌>>=◌, limit_of, bytes_within, read_points, read_answer, points_in, answer_in, work_of, judge_task, judge}
 use Rattle.bounds_tool.specs.Outputs as outputs

@@ -1,5 +1,5 @@
 -- What a run may write.
-use Rattle.std.specs.Prelude.{◌≡◌, ◌⊎◌, ℕ, Bool, true, false, List, ◌++◌, codes, decimal}
+use Rattle.std.specs.Prelude.{◌≡◌, ◌⊎◌, ℕ, true, false, List, ◌++◌, codes, decimal}
 use Rattle.bounds_model.specs.Fractions.{Fraction}
 use Rattle.bounds_model.specs.Asks.{Ask, Sets}
 use Rattle.bounds_model.specs.Answers.{Answer, Passes, IsBest, IsOptimum}

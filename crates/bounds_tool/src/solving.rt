@@ -7,8 +7,8 @@ ghost use Rattle.witness_format.specs.Answers.{answer_of};
 ghost use Rattle.witness_check.specs.Kinds.{IsBuilt};
 ghost use Rattle.bounds_tool.specs.Solving.{point_count};
 
-use min_ball::{circle, sphere};
 use bounded_coords::{Ask, Sets, Steps};
+use min_ball::{circle, sphere};
 use optimality::answer::passing_answers_are_best;
 use p_centres::centres;
 use std::alloc::Global;
