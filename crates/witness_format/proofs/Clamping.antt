@@ -7,7 +7,7 @@ use Rattle.std.proofs.lemmas.Int.{ints}
 use Rattle.std.proofs.lemmas.Bool.Decides.{nat_tests}
 use Rattle.bounds_model.specs.Places.{number_limit}
 use Rattle.bounds_model.specs.AnswerText.Numerals.{whole_number}
-use Rattle.bounds_model.specs.AnswerText.Fields.{fraction, plane_ratio, is_in_place}
+use Rattle.bounds_model.specs.AnswerText.Fields.{fraction, plane_ratio, space_ratio, is_in_place}
 use Rattle.text_laws.proofs.AnswerTexts.NumberLaws.{both_true}
 use Rattle.witness_format.specs.Clamps.{clamped_size, clamped}
 use Rattle.witness_format.specs.Judging.{judged_by, judged_field, field_at}
@@ -70,6 +70,18 @@ plane_ratio-clamped x y w =
     let third = both_true (within w) true second.1 in
     λ i. record { x = clamped-same x first.0 i; y = clamped-same y second.0 i; w = clamped-same w third.0 i })
 
+-- those of a point of space
+pub space_ratio-clamped : (x y z w : ℤ) → judged_field space_ratio (record { x = clamped x; y = clamped y; z = clamped z; w = clamped w }) ≡ judged_field space_ratio (record { x = x; y = y; z = z; w = w })
+space_ratio-clamped x y z w =
+    by_limit _ _ (is_in_place space_ratio) (record { x = clamped x; y = clamped y; z = clamped z; w = clamped w }) (record { x = x; y = y; z = z; w = w })
+    (λ i. within-clamped x i && (within-clamped y i && (within-clamped z i && (within-clamped w i && true))))
+    (λ small.
+    let first = both_true (within x) (within y && (within z && (within w && true))) small in
+    let second = both_true (within y) (within z && (within w && true)) first.1 in
+    let third = both_true (within z) (within w && true) second.1 in
+    let fourth = both_true (within w) true third.1 in
+    λ i. record { x = clamped-same x first.0 i; y = clamped-same y second.0 i; z = clamped-same z third.0 i; w = clamped-same w fourth.0 i })
+
 -- ---- fields by their clamped numbers
 
 -- a fraction whose numbers are known
@@ -81,6 +93,11 @@ fraction_numbers word rest n d p q = rw (p, q) refl
 plane_ratio_numbers : (a b c : List ℕ) (rest : List (List ℕ)) (x y w : ℤ) → whole_number a ≡ Some x → whole_number b ≡ Some y → whole_number c ≡ Some w
     → field_at plane_ratio (a ∷ b ∷ c ∷ rest) ≡ Some (judged_field plane_ratio (record { x = x; y = y; w = w }), rest)
 plane_ratio_numbers a b c rest x y w p q r = rw (p, q, r) refl
+
+-- a point of space whose numbers are known
+space_ratio_numbers : (a b c d : List ℕ) (rest : List (List ℕ)) (x y z w : ℤ) → whole_number a ≡ Some x → whole_number b ≡ Some y → whole_number c ≡ Some z → whole_number d ≡ Some w
+    → field_at space_ratio (a ∷ b ∷ c ∷ d ∷ rest) ≡ Some (judged_field space_ratio (record { x = x; y = y; z = z; w = w }), rest)
+space_ratio_numbers a b c d rest x y z w p q r s = rw (p, q, r, s) refl
 
 -- a fraction
 pub fraction_at : (word : List ℕ) (words rest : List (List ℕ)) (n d : ℤ) → words ≡ word ∷ rest → Some n ≡ option_map clamped (whole_number (before_first (λ b. b == 47) word))
@@ -100,3 +117,15 @@ plane_ratio_at a b c words rest x y w is x-read y-read w-read =
     let w-found = number_found (whole_number c) w w-read in
     ap (field_at plane_ratio) is ∙ (plane_ratio_numbers a b c rest x-found.0 y-found.0 w-found.0 x-found.2 y-found.2 w-found.2
     ∙ (ap (λ j. Some (j, rest)) (sym (plane_ratio-clamped x-found.0 y-found.0 w-found.0)) ∙ (λ i. Some (judged_field plane_ratio (record { x = sym x-found.1 i; y = sym y-found.1 i; w = sym w-found.1 i }), rest))))
+
+-- a point of space
+pub space_ratio_at : (a b c d : List ℕ) (words rest : List (List ℕ)) (x y z w : ℤ) → words ≡ a ∷ b ∷ c ∷ d ∷ rest → Some x ≡ option_map clamped (whole_number a) → Some y ≡ option_map clamped (whole_number b)
+    → Some z ≡ option_map clamped (whole_number c) → Some w ≡ option_map clamped (whole_number d) → field_at space_ratio words ≡ Some (judged_field space_ratio (record { x = x; y = y; z = z; w = w }), rest)
+space_ratio_at a b c d words rest x y z w is x-read y-read z-read w-read =
+    let x-found = number_found (whole_number a) x x-read in
+    let y-found = number_found (whole_number b) y y-read in
+    let z-found = number_found (whole_number c) z z-read in
+    let w-found = number_found (whole_number d) w w-read in
+    ap (field_at space_ratio) is ∙ (space_ratio_numbers a b c d rest x-found.0 y-found.0 z-found.0 w-found.0 x-found.2 y-found.2 z-found.2 w-found.2
+    ∙ (ap (λ j. Some (j, rest)) (sym (space_ratio-clamped x-found.0 y-found.0 z-found.0 w-found.0))
+    ∙ (λ i. Some (judged_field space_ratio (record { x = sym x-found.1 i; y = sym y-found.1 i; z = sym z-found.1 i; w = sym w-found.1 i }), rest))))

@@ -1,12 +1,14 @@
 -- How a field is judged whose numbers are within the limit.
-use Rattle.std.proofs.Common.{◌≡◌, ◌∙◌, refl, sym, ap, ℕ, ◌≤◌, ◌^◌, ℤ, pos, negsuc, ◌≤ℤ◌, nat_abs, Bool, true, false, Ok, Err, arith}
+use Rattle.std.proofs.Common.{◌≡◌, ◌∙◌, refl, sym, ap, ℕ, ◌≤◌, ◌^◌, ℤ, pos, negsuc, ◌≤ℤ◌, nat_abs, Bool, true, false, Ok, Err, arith, FitsSigned, to_z, of_z}
 use Rattle.std.specs.Prelude.{nat_le}
 use Rattle.std.proofs.lemmas.Bool.{le-leb}
-use Rattle.std.proofs.lemmas.Int.{ints}
+use Rattle.std.specs.Int.{w128}
+use Rattle.std.proofs.lemmas.Int.{to_z-of_z, ints}
 use Rattle.bounds_model.specs.Fractions.{Fraction}
 use Rattle.bounds_model.specs.Plane.{PlaneRatio}
-use Rattle.bounds_model.specs.Places.{number_limit, IsFraction, IsPlaneRatio}
-use Rattle.bounds_model.specs.AnswerText.Fields.{Field, fraction, plane_ratio, Value, is_small, is_in_place}
+use Rattle.bounds_model.specs.Space.{SpaceRatio}
+use Rattle.bounds_model.specs.Places.{number_limit, IsFraction, IsPlaneRatio, IsSpaceRatio}
+use Rattle.bounds_model.specs.AnswerText.Fields.{Field, fraction, plane_ratio, space_ratio, Value, is_small, is_in_place}
 use Rattle.text_laws.proofs.AnswerTexts.PlaceLaws.{FieldPlace, is_limited, field_place, field_passes, two_true}
 use Rattle.witness_format.specs.declared.judging.Flaw.TheVariants.{OutOfPlace}
 use Rattle.witness_format.specs.Judging.{Judged, judged_by, judged_field}
@@ -32,6 +34,10 @@ judged-kept field v limited place =
 -- a field whose numbers are within the limit, and that does not keep its range
 pub judged-out : (field : Field) (v : Value field) → is_small field v ≡ true → (FieldPlace field v → ⊥) → judged_field field v ≡ Err OutOfPlace
 judged-out field v small none = by_first_test (is_small field v) (is_in_place field v) v small (λ place. none (field_place field v small place))
+
+-- numbers whose machine words are the same
+pub same_number : (a b : ℤ) → FitsSigned w128 a → FitsSigned w128 b → of_z w128 a ≡ of_z w128 b → a ≡ b
+same_number a b p q e = sym (to_z-of_z w128 a p) ∙ (ap (to_z w128) e ∙ to_z-of_z w128 b q)
 
 -- ---- fractions
 
@@ -65,3 +71,12 @@ pub plane_ratio-out : (x y w : ℤ) → nat_abs x ≤ 2 ^ 126 → nat_abs y ≤ 
     → ◌≡◌ {A = Judged PlaneRatio} (Err OutOfPlace) (judged_field plane_ratio (record { x = x; y = y; w = w }))
 plane_ratio-out x y w x-small y-small w-small none =
     sym (judged-out plane_ratio (record { x = x; y = y; w = w }) (two_true _ _ (small_number x x-small) (two_true _ _ (small_number y y-small) (two_true _ _ (small_number w w-small) refl))) none)
+
+-- ---- points of space
+
+-- numbers that no point in lowest terms has
+pub space_ratio-out : (x y z w : ℤ) → nat_abs x ≤ 2 ^ 126 → nat_abs y ≤ 2 ^ 126 → nat_abs z ≤ 2 ^ 126 → nat_abs w ≤ 2 ^ 126 → (IsSpaceRatio (record { x = x; y = y; z = z; w = w }) → ⊥)
+    → ◌≡◌ {A = Judged SpaceRatio} (Err OutOfPlace) (judged_field space_ratio (record { x = x; y = y; z = z; w = w }))
+space_ratio-out x y z w x-small y-small z-small w-small none =
+    sym (judged-out space_ratio (record { x = x; y = y; z = z; w = w })
+    (two_true _ _ (small_number x x-small) (two_true _ _ (small_number y y-small) (two_true _ _ (small_number z z-small) (two_true _ _ (small_number w w-small) refl)))) none)

@@ -3,6 +3,6 @@ pub mod Clamping
 pub mod Places
 pub mod FieldJudgements
 pub mod LineCuts
-pub mod LineSteps
+pub mod FirstLines
 pub mod LineReadings
-pub mod CentresTexts
+pub mod KindTexts

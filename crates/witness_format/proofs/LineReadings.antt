@@ -1,13 +1,20 @@
 -- What is read word by word is what the formats of the model read.
-use Rattle.std.proofs.Common.{◌≡◌, ◌∙◌, refl, ap, ℕ, zero, suc, ◌+◌, ◌-◌, Bool, true, false, not, ◌&&◌, List, [], ◌∷◌, map, Option, Some, None, Result, Ok, Err, arith}
+use Rattle.std.proofs.Common.{◌≡◌, ◌∙◌, refl, sym, ap, subst, ℕ, suc, ◌+◌, ◌-◌, ◌<◌, Bool, true, false, not, ◌&&◌, List, [], ◌∷◌, ◌++◌, append_assoc, map, Option, Some, None, Result, Ok, Err, arith}
 use Rattle.std.specs.Prelude.{if◌then◌else◌}
+use Rattle.std.specs.Option.{option_map}
+use Rattle.std.proofs.lemmas.List.{map-append}
 use Rattle.bounds_model.specs.AnswerText.Lines.{words_of}
 use Rattle.bounds_model.specs.AnswerText.Numerals as steps
 use Rattle.bounds_model.specs.AnswerText.Fields.{Field, Value, value_of, is_small, is_in_place}
 use Rattle.bounds_model.specs.AnswerText.LineFormats.{LineFormat, untitled, Values, after_words, values_of, are_small, are_in_place}
-use Rattle.bounds_model.specs.AnswerText.Formats.{Refusal, bad_answer, big_number, Unread, ◌>>=◌, judged, next_line, line_at, lines_at, Count, count_format, counted, part_at}
+use Rattle.bounds_model.specs.AnswerText.Formats.{Refusal, bad_answer, big_number, Unread, ◌>>=◌, judged, line_at, lines_at}
+use Rattle.text_laws.proofs.AnswerTexts.FormLaws.{read_is}
+use Rattle.witness_format.specs.declared.fault.ReadFault.{ReadFault}
+use Rattle.witness_format.specs.declared.fault.ReadFault.TheVariants.{BadAnswer, BigNumber, OutOfMemory}
+use Rattle.witness_format.specs.declared.judging.Flaw.TheVariants.{PastLimit, OutOfPlace}
 use Rattle.witness_format.specs.Judging.{Judged, judged_by, both, seen, judged_field, fields_at, said}
-use Rattle.witness_format.specs.Lines.{decided, numbered_words, line_by, lines_by, counted_by}
+use Rattle.witness_format.specs.Lines.{decided, numbered_words, first_words, next_words}
+use Rattle.witness_format.specs.Outcomes.{Finds, Refuses, Reads}
 
 -- ---- fields
 
@@ -47,79 +54,97 @@ fields_judged (field ∷ fields) words = by_first (λ rest. fields_judged fields
     by_first others None = refl
     by_first others (Some (v, rest)) = ap (λ (js : Option (Judged (Values fields))). steps.◌>>=◌ {B = Judged (Values (field ∷ fields))} js (λ others. Some (both (judged_field field v) others))) (others rest) ∙ first_and_rest field fields v (values_of fields rest)
 
--- ---- lines
-
--- values that were read, seen by a view
-abbrev pub viewed : {A B : Type 0} → (A → B) → Result (A × Unread) Refusal → Result (B × Unread) Refusal
-viewed view read = read >>= λ x. Ok (view x.0, x.1)
+-- ---- one line
 
 -- the order of causes
-by_causes : {A B : Type 0} (small place : Bool) (view : A → B) (number : ℕ) (next : Unread) (v : A)
-    → (decided number (Some (seen view (judged_by small place v))) >>= λ x. Ok (x, next))
-    ≡ viewed view ((if not small then Err (big_number number) else if not place then Err (bad_answer number) else Ok v) >>= λ x. Ok (x, next))
-by_causes true true view number next v = refl
-by_causes true false view number next v = refl
-by_causes false place view number next v = refl
+by_causes : {A : Type 0} (small place : Bool) (number : ℕ) (v : A)
+    → decided number (Some (judged_by small place v)) ≡ (if not small then Err (big_number number) else if not place then Err (bad_answer number) else Ok v)
+by_causes true true number v = refl
+by_causes true false number v = refl
+by_causes false place number v = refl
 
 -- the fields of a line
-by_values : {A : Type 0} (fields : List Field) (view : Values fields → A) (number : ℕ) (next : Unread) (values : Option (Values fields))
-    → (decided number (steps.◌>>=◌ {B = Judged A} (steps.◌>>=◌ {B = Judged (Values fields)} values (λ vs. Some (judged_values fields vs))) (λ vs. Some (seen view vs))) >>= λ x. Ok (x, next))
-    ≡ viewed view (judged fields number values >>= λ x. Ok (x, next))
-by_values fields view number next None = refl
-by_values fields view number next (Some vs) = by_causes (are_small fields vs) (are_in_place fields vs) view number next vs
-
--- what stands behind the words of the format
-by_rest : {A : Type 0} (format : LineFormat) (view : Values format.fields → A) (number : ℕ) (next : Unread) (rest : Option (List (List ℕ)))
-    → (decided number (steps.◌>>=◌ {B = Judged A} rest (λ words. steps.◌>>=◌ {B = Judged A} (fields_at format.fields words) (λ vs. Some (seen view vs)))) >>= λ x. Ok (x, next))
-    ≡ viewed view (judged format.fields number (steps.◌>>=◌ {B = Values format.fields} rest (λ words. values_of format.fields words)) >>= λ x. Ok (x, next))
-by_rest format view number next None = refl
-by_rest format view number next (Some words) =
-    ap (λ (js : Option (Judged (Values format.fields))). decided number (steps.◌>>=◌ {B = Judged _} js (λ vs. Some (seen view vs))) >>= λ x. Ok (x, next)) (fields_judged format.fields words)
-    ∙ by_values format.fields view number next (values_of format.fields words)
+by_values : (fields : List Field) (number : ℕ) (values : Option (Values fields)) → decided number (steps.◌>>=◌ {B = Judged (Values fields)} values (λ vs. Some (judged_values fields vs))) ≡ judged fields number values
+by_values fields number None = refl
+by_values fields number (Some vs) = by_causes (are_small fields vs) (are_in_place fields vs) number vs
 
 -- the words of a line
-by_words : {A : Type 0} (format : LineFormat) (view : Values format.fields → A) (number : ℕ) (next : Unread) (words : Option (List (List ℕ)))
-    → (◌>>=◌ {B = List (List ℕ) × Unread} (numbered_words number words) (λ ws. Ok (ws, next)) >>= λ line. decided number (said format view line.0) >>= λ x. Ok (x, line.1))
-    ≡ viewed view (judged format.fields number (steps.◌>>=◌ {B = Values format.fields} words (λ ws. steps.◌>>=◌ {B = Values format.fields} (after_words format.words ws) (λ rest. values_of format.fields rest))) >>= λ x. Ok (x, next))
-by_words format view number next None = refl
-by_words format view number next (Some words) = by_rest format view number next (after_words format.words words)
+by_words : (format : LineFormat) (number : ℕ) (rest : Option (List (List ℕ)))
+    → decided number (steps.◌>>=◌ {B = Judged (Values format.fields)} rest (λ words. fields_at format.fields words)) ≡ judged format.fields number (steps.◌>>=◌ {B = Values format.fields} rest (λ words. values_of format.fields words))
+by_words format number None = refl
+by_words format number (Some words) = ap (decided number) (fields_judged format.fields words) ∙ by_values format.fields number (values_of format.fields words)
 
--- a line of a format
-pub line_by-said : {A : Type 0} (format : LineFormat) (view : Values format.fields → A) (number : ℕ) (lines : List (List ℕ))
-    → line_by (said format view) (record { number = number; lines = lines }) ≡ viewed view (next_line format number lines)
-line_by-said format view number [] = refl
-line_by-said format view number (line ∷ lines) = by_words format view number (record { number = number + 1; lines = lines }) (words_of line)
+-- a line by its words
+by_line : (format : LineFormat) (number : ℕ) (next : Unread) (read : Option (List (List ℕ))) (words : List (List ℕ)) (after : Unread)
+    → ◌≡◌ {A = Result (List (List ℕ) × Unread) Refusal} (numbered_words number read >>= λ ws. Ok (ws, next)) (Ok (words, after))
+    → ◌>>=◌ {B = Values format.fields × Unread} (judged format.fields number (steps.◌>>=◌ {B = Values format.fields} read (λ ws. steps.◌>>=◌ {B = Values format.fields} (after_words format.words ws) (λ rest. values_of format.fields rest)))) (λ v. Ok (v, next))
+    ≡ (decided number (said format words) >>= λ v. Ok (v, after))
+by_line format number next None words after e = absurd cc
+by_line format number next (Some ws) words after e =
+    let both_same : ◌≡◌ {A = List (List ℕ) × Unread} (ws, next) (words, after) = read_is (ws, next) (words, after) e in
+    let same : ws ≡ words = ap (λ (x : List (List ℕ) × Unread). x.0) both_same in
+    let rest : next ≡ after = ap (λ (x : List (List ℕ) × Unread). x.1) both_same in
+    ap (λ (r : Result (Values format.fields) Refusal). ◌>>=◌ {B = Values format.fields × Unread} r (λ v. Ok (v, next))) (sym (by_words format number (after_words format.words ws)))
+    ∙ (λ i. ◌>>=◌ {B = Values format.fields × Unread} (decided number (said format (same i))) (λ v. Ok (v, rest i)))
 
--- ---- lists of lines
-
--- the first line and the others
-first_and_others : {A B : Type 0} (view : A → B) (x : A) (others : Result (List A × Unread) Refusal) → (viewed (map view) others >>= λ r. Ok (view x ∷ r.0, r.1)) ≡ viewed (map view) (others >>= λ r. Ok (x ∷ r.0, r.1))
-first_and_others view x (Ok others) = refl
-first_and_others view x (Err refusal) = refl
-
--- so many lines of a format
-pub lines_by-said : {A : Type 0} (fields : List Field) (view : Values fields → A) (count : ℕ) (text : Unread) → lines_by (said (untitled fields) view) count text ≡ viewed (map view) (lines_at count (untitled fields) text)
-lines_by-said fields view zero text = refl
-lines_by-said fields view (suc count) text =
-    ap (λ r. r >>= λ first. lines_by (said (untitled fields) view) count first.1 >>= λ others. Ok (first.0 ∷ others.0, others.1)) (line_by-said (untitled fields) view text.number text.lines)
-    ∙ by_first (λ after. lines_by-said fields view count after) (line_at (untitled fields) text)
+-- a line of a format, by its words
+pub line_by_words : (format : LineFormat) (text : Unread) (words : List (List ℕ)) (after : Unread) → next_words text ≡ Ok (words, after) → line_at format text ≡ (decided text.number (said format words) >>= λ v. Ok (v, after))
+line_by_words format text words after e = by_lines text.number text.lines e
   where
-    by_first : ((after : Unread) → lines_by (said (untitled fields) view) count after ≡ viewed (map view) (lines_at count (untitled fields) after)) → (r : Result (Values fields × Unread) Refusal)
-        → (viewed view r >>= λ first. lines_by (said (untitled fields) view) count first.1 >>= λ others. Ok (first.0 ∷ others.0, others.1))
-        ≡ viewed (map view) (r >>= λ first. lines_at count (untitled fields) first.1 >>= λ others. Ok (first.0 ∷ others.0, others.1))
-    by_first others (Err refusal) = refl
-    by_first others (Ok (v, after)) =
-        ap (λ r. r >>= λ more. Ok (view v ∷ more.0, more.1)) (others after) ∙ first_and_others view v (lines_at count (untitled fields) after)
+    by_lines : (number : ℕ) (lines : List (List ℕ)) → first_words number lines ≡ Ok (words, after) → line_at format (record { number = number; lines = lines }) ≡ (decided number (said format words) >>= λ v. Ok (v, after))
+    by_lines number [] f = absurd cc
+    by_lines number (line ∷ lines) f = by_line format number (record { number = number + 1; lines = lines }) (words_of line) words after f
 
--- a count and its lines
-pub counted_by-said : {A : Type 0} (count : Count) (fields : List Field) (view : Values fields → A) (counts : List ℕ) (text : Unread)
-    → counted_by count (said (untitled fields) view) text ≡ viewed (map view) (part_at (counted count 0 fields) counts text)
-counted_by-said count fields view counts text =
-    ap (λ r. r >>= λ n. lines_by (said (untitled fields) view) n.0 n.1) (line_by-said (count_format count) (λ v. v.0) text.number text.lines) ∙ by_count (line_at (count_format count) text)
-  where
-    by_count : (r : Result ((ℕ × Unit {0}) × Unread) Refusal)
-        → (viewed (λ v. v.0) r >>= λ n. lines_by (said (untitled fields) view) n.0 n.1) ≡ viewed (map view) (r >>= λ n. lines_at (n.0.0 - 0) (untitled fields) n.1)
-    by_count (Err refusal) = refl
-    by_count (Ok (n, after)) =
-        let whole : n.0 ≡ n.0 - 0 = omega arith in
-        lines_by-said fields view n.0 after ∙ ap (λ m. viewed (map view) (lines_at m (untitled fields) after)) whole
+-- ---- what the code reads
+
+-- a refusal of one reading is that of another
+pub refuses_too : {A B : Type 0} (fault : ReadFault) (a : Result A Refusal) (b : Result B Refusal) → ((refusal : Refusal) → a ≡ Err refusal → b ≡ Err refusal) → Refuses fault a → Refuses fault b
+refuses_too (BadAnswer line) a b same refused = same (bad_answer line) refused
+refuses_too (BigNumber line) a b same refused = same (big_number line) refused
+refuses_too OutOfMemory a b same refused = absurd refused
+
+-- steps behind what is read
+pub reads_then : {X Y : Type 0} (view : X → Y) (result : Result X ReadFault) (read : Result X Refusal) → Reads (λ x. x) result read → Reads view result (read >>= λ x. Ok (view x))
+reads_then view (Ok x) read reads = ap (λ r. r >>= λ y. Ok (view y)) reads
+reads_then view (Err fault) read reads = refuses_too fault read (read >>= λ x. Ok (view x)) (λ refusal e. ap (λ r. r >>= λ y. Ok (view y)) e) reads
+
+-- what is found, seen by a view
+finds_is : {X Y : Type 0} (view : X → Y) (result : Option X) (there : Option Y) → Finds view result there → there ≡ option_map view result
+finds_is view None there finds = finds
+finds_is view (Some x) there finds = finds
+
+-- what the words say, seen by a view
+decided_seen : {X Y : Type 0} (view : X → Y) (number : ℕ) (says : Option (Judged X)) (after : Unread) → ◌>>=◌ {B = Y × Unread} (decided number (option_map (seen view) says)) (λ v. Ok (v, after)) ≡ (decided number says >>= λ x. Ok (view x, after))
+decided_seen view number None after = refl
+decided_seen view number (Some (Ok x)) after = refl
+decided_seen view number (Some (Err PastLimit)) after = refl
+decided_seen view number (Some (Err OutOfPlace)) after = refl
+
+-- a line whose words say this
+pub line_read : {X : Type 0} (format : LineFormat) (values : X → Values format.fields) (text : Unread) (words : List (List ℕ)) (after : Unread) (says : Option (Judged X)) (result : Result X ReadFault)
+    → next_words text ≡ Ok (words, after) → Finds (seen values) says (said format words) → Reads (λ x. x) result (decided text.number says) → Reads (λ x. (values x, after)) result (line_at format text)
+line_read format values text words after says result next finds reads =
+    let line : line_at format text ≡ (decided text.number says >>= λ x. Ok (values x, after)) =
+    line_by_words format text words after next ∙ ap (λ (s : Option (Judged (Values format.fields))). ◌>>=◌ {B = Values format.fields × Unread} (decided text.number s) (λ v. Ok (v, after))) (finds_is (seen values) says (said format words) finds) ∙ decided_seen values text.number says after in
+    subst (λ r. Reads (λ x. (values x, after)) result r) (sym line) (reads_then (λ x. (values x, after)) result (decided text.number says) reads)
+
+-- ---- several lines, read in a loop
+
+-- what was read before, and what is still read
+abbrev pub with_front : {A : Type 0} → List A → Result (List A × Unread) Refusal → Result (List A × Unread) Refusal
+with_front front read = read >>= λ x. Ok (front ++ x.0, x.1)
+
+-- the first of the lines that are still read goes to those before
+regrouped : {A : Type 0} (front : List A) (x : A) (read : Result (List A × Unread) Refusal) → with_front front (read >>= λ others. Ok (x ∷ others.0, others.1)) ≡ with_front (front ++ x ∷ []) read
+regrouped front x (Ok others) = ap (λ xs. Ok (xs, others.1)) (sym (append_assoc front (x ∷ []) others.0))
+regrouped front x (Err refusal) = refl
+
+-- one line more is read
+pub one_more : {X : Type 0} (fields : List Field) (values : X → Values fields) (front : List X) (count i : ℕ) (text : Unread) (x : X) (after : Unread) (total : Result (List (Values fields) × Unread) Refusal) → i < count
+    → line_at (untitled fields) text ≡ Ok (values x, after) → with_front (map values front) (lines_at (count - i) (untitled fields) text) ≡ total
+    → with_front (map values (front ++ x ∷ [])) (lines_at (count - (i + 1)) (untitled fields) after) ≡ total
+one_more fields values front count i text x after total lt line so_far =
+    let left : count - i ≡ suc (count - (i + 1)) = omega arith in
+    let one : with_front (map values front) (lines_at (count - i) (untitled fields) text) ≡ with_front (map values front ++ values x ∷ []) (lines_at (count - (i + 1)) (untitled fields) after) =
+    rw (left, line) (regrouped (map values front) (values x) (lines_at (count - (i + 1)) (untitled fields) after)) in
+    ap (λ vs. with_front vs (lines_at (count - (i + 1)) (untitled fields) after)) (map-append values front (x ∷ [])) ∙ sym one ∙ so_far

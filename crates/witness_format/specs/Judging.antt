@@ -48,9 +48,6 @@ fields_at (field ∷ fields) words = do
   others ← fields_at fields first.1
   Some (both first.0 others)
 
--- a line of this format whose fields are seen so
-abbrev pub said : {A : Type 0} → (format : LineFormat) → (Values format.fields → A) → List (List ℕ) → Option (Judged A)
-said format view words = do
-  rest ← after_words format.words words
-  values ← fields_at format.fields rest
-  Some (seen view values)
+-- what the words of a line of this format say
+abbrev pub said : (format : LineFormat) → List (List ℕ) → Option (Judged (Values format.fields))
+said format words = after_words format.words words >>= λ rest. fields_at format.fields rest

@@ -1,7 +1,60 @@
--- The kinds of answers that are read.
-use Rattle.std.specs.Prelude.{List, [], ◌∷◌}
-use Rattle.bounds_model.specs.AnswerText.Kinds.{Kind, centres_kind}
+-- The kinds of answers that are read, and how an answer of a kind is read behind its first line.
+use Rattle.std.specs.Prelude.{ℕ, List, [], ◌∷◌, find, is_some, Option, Some, None, Result, Ok, Err}
+use Rattle.bounds_model.specs.Fractions.{Fraction}
+use Rattle.bounds_model.specs.Answers.{Answer, circle, sphere, centres}
+use Rattle.bounds_model.specs.AnswerText.Formats.{Refusal, bad_answer, ◌>>=◌, Unread, line_at, body_at}
+use Rattle.bounds_model.specs.AnswerText.Kinds.{Kind, first_format, size_format, last_format, circle_kind, sphere_kind, centres_kind}
+use Rattle.bounds_model.specs.AnswerText.Reading.{ended, kind_of}
+use Rattle.witness_format.specs.declared.kinds.AnswerKind.{AnswerKind}
+use Rattle.witness_format.specs.declared.kinds.AnswerKind.TheVariants.{Circle, Sphere, Centres}
+use Rattle.witness_format.specs.Judging.{said}
 
--- centres alone
+-- the format of a kind
+abbrev pub format_of : AnswerKind → Kind
+format_of Circle = circle_kind
+format_of Sphere = sphere_kind
+format_of Centres = centres_kind
+
+-- circles, spheres and centres
 abbrev pub known_kinds : List Kind
-known_kinds = centres_kind ∷ []
+known_kinds = circle_kind ∷ sphere_kind ∷ centres_kind ∷ []
+
+-- the answer is of one of these kinds
+abbrev pub IsKnown : Answer → Type 0
+IsKnown (circle a) = Unit {0}
+IsKnown (sphere a) = Unit {0}
+IsKnown (centres a) = Unit {0}
+IsKnown answer = ⊥
+
+-- ---- the first line
+
+-- the first of these kinds that the words of the first line name
+abbrev pub named_by : List (List ℕ) → List Kind → Option Kind
+named_by words known = find (λ kind. is_some (said (first_format kind.name) words)) known
+
+-- the lines behind a first line that names this kind
+abbrev pub behind : Option Kind → Unread → Result (Kind × Unread) Refusal
+behind None unread = Err (bad_answer unread.number)
+behind (Some kind) unread = line_at (first_format kind.name) unread >>= λ first. Ok (kind, first.1)
+
+-- the one of these kinds that the first line names, and the lines behind it; a line that names none is refused
+abbrev pub first_kind : List Kind → Unread → Result (Kind × Unread) Refusal
+first_kind known unread = behind (kind_of known unread) unread
+
+-- ---- the other lines
+
+-- what the lines behind the size say as an answer of this kind, and the lines behind them
+abbrev pub body_of : Kind → Fraction → Unread → Result (Answer × Unread) Refusal
+body_of kind size unread = body_at kind.body [] unread >>= λ body. Ok (kind.answer size body.0, body.1)
+
+-- the last line, and nothing behind it
+abbrev pub closed : Answer → Unread → Result Answer Refusal
+closed answer unread = line_at last_format unread >>= λ last. ended answer last.1.number last.1.lines
+
+-- what all lines say as an answer of the kind that the first one names
+abbrev pub answer_by : List Kind → Unread → Result Answer Refusal
+answer_by known unread = do
+  kind ← first_kind known unread
+  size ← line_at size_format kind.1
+  answer ← body_of kind.0 size.0.0 size.1
+  closed answer.0 answer.1

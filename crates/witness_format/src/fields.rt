@@ -1,14 +1,14 @@
 //! The fields of a line: for each, its form, the limit of its numbers and the range of its place.
 ghost use Rattle.std.specs.Prelude.{◌≡◌, ◌≤◌, pos, IfSome, IfOk};
 ghost use Rattle.bounds_model.specs.AnswerText.Fields as model;
-ghost use Rattle.witness_format.specs.Judging.{judged_field, field_at};
+ghost use Rattle.witness_format.specs.Judging.{judged_field, field_at, seen};
 ghost use Rattle.witness_format.specs.Lines.{words_left};
 ghost use Rattle.witness_format.specs.Outcomes.{Finds};
 
 use crate::judging::{Flaw, Judged};
 use crate::numerals::{LIMIT, natural_number, whole_number};
 use crate::words::{Words, cut};
-use exact_fractions::{Frac, Homog2};
+use exact_fractions::{Frac, Homog2, Homog3};
 
 /// The greatest number of a point.
 const POINT_LIMIT: u32 = 9999;
@@ -41,6 +41,25 @@ pub(crate) fn point_number(words: Words<'_>) -> Option<(Judged<u32>, Words<'_>)>
     ensures { Finds (λ x. (x.0, words_left x.1)) result (field_at model.point_number (words_left words.entry)) }
 {
     bounded(words, 0, POINT_LIMIT)
+}
+
+/// A number without a sign.
+pub(crate) fn natural(words: Words<'_>) -> Option<(Judged<u128>, Words<'_>)>
+    ensures { Finds (λ x. (seen pos x.0, words_left x.1)) result (field_at model.natural (words_left words.entry)) }
+{
+    let (word, others) = words.next()?;
+    let n = natural_number(word)?;
+    Some((judged_natural(n), others))
+}
+
+fn judged_natural(n: u128) -> Judged<u128>
+    ensures { seen pos result ≡ judged_field model.natural (pos n) }
+{
+    if n <= LIMIT {
+        Ok(n)
+    } else {
+        Err(Flaw::PastLimit)
+    }
 }
 
 /// A fraction in lowest terms that is not below 0.
@@ -95,6 +114,41 @@ fn judged_plane_ratio(x: i128, y: i128, w: i128) -> Judged<Homog2>
     }
     let value = Homog2::new(x, y, w);
     if value.x() != x || value.y() != y || value.w() != w {
+        return Err(Flaw::OutOfPlace);
+    }
+    Ok(value)
+}
+
+/// A point of space over a denominator, in lowest terms.
+pub(crate) fn space_ratio(words: Words<'_>) -> Option<(Judged<Homog3>, Words<'_>)>
+    ensures { Finds (λ x. (x.0, words_left x.1)) result (field_at model.space_ratio (words_left words.entry)) }
+{
+    let (first, words) = words.next()?;
+    let (second, words) = words.next()?;
+    let (third, words) = words.next()?;
+    let (fourth, words) = words.next()?;
+    let x = whole_number(first)?;
+    let y = whole_number(second)?;
+    let z = whole_number(third)?;
+    let w = whole_number(fourth)?;
+    Some((judged_space_ratio(x, y, z, w), words))
+}
+
+fn judged_space_ratio(x: i128, y: i128, z: i128, w: i128) -> Judged<Homog3>
+    ensures { result ≡ judged_field model.space_ratio (record { x = x; y = y; z = z; w = w }) }
+{
+    if x.unsigned_abs() > LIMIT
+        || y.unsigned_abs() > LIMIT
+        || z.unsigned_abs() > LIMIT
+        || w.unsigned_abs() > LIMIT
+    {
+        return Err(Flaw::PastLimit);
+    }
+    if w < 1 {
+        return Err(Flaw::OutOfPlace);
+    }
+    let value = Homog3::new(x, y, z, w);
+    if value.x() != x || value.y() != y || value.z() != z || value.w() != w {
         return Err(Flaw::OutOfPlace);
     }
     Ok(value)

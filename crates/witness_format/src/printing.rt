@@ -3,15 +3,15 @@ ghost use Rattle.std.specs.Prelude.{◌≡◌, ℕ, List, ◌++◌, length, deci
 ghost use Rattle.std.specs.Fmt.{signed_decimal};
 ghost use Rattle.std.specs.List.{flat_map};
 ghost use Rattle.bounds_model.specs.Answers.{HasPlaces};
-ghost use Rattle.bounds_model.specs.AnswerText.SpelledParts.{fraction_text, pair_text, plane_ratio_text, first_line, size_line, count_line, last_line};
+ghost use Rattle.bounds_model.specs.AnswerText.SpelledParts.{fraction_text, pair_text, plane_ratio_text, first_line, size_line, count_line, plane_ratio_line, last_line};
 ghost use Rattle.bounds_model.specs.AnswerText.SpelledCentres.{centres_spelling};
-ghost use Rattle.bounds_model.specs.AnswerText.Spelling.{Spells, spelling};
-ghost use Rattle.witness_format.specs.Answers.{centres_of, answer_of};
+ghost use Rattle.bounds_model.specs.AnswerText.Spelling.{Spells, space_ratio_text, space_ratio_line, circle_spelling, sphere_spelling, spelling};
+ghost use Rattle.witness_format.specs.Answers.{circle_of, sphere_of, centres_of, answer_of};
 
 use crate::text_line::TextLine;
-use crate::{Answer, CentresAnswer};
+use crate::{Answer, BallAnswer2, BallAnswer3, CentresAnswer};
 use bounded_coords::OutOfMemory;
-use exact_fractions::{Frac, Homog2};
+use exact_fractions::{Frac, Homog2, Homog3};
 use itoa::Buffer;
 use std::alloc::{AllocError, Global};
 use std::marker::Model;
@@ -53,8 +53,34 @@ fn answer_text(alloc: Global, answer: &Answer) -> Result<Vec<u8>, AllocError>
     ensures { IfOk result (λ text. text.items ≡ spelling (answer_of answer.now)) }
 {
     match answer {
+        Answer::Circle(a) => circle_text(alloc, a),
+        Answer::Sphere(a) => sphere_text(alloc, a),
         Answer::Centres(a) => centres_text(alloc, a),
     }
+}
+
+fn circle_text(alloc: Global, a: &BallAnswer2) -> Result<Vec<u8>, AllocError>
+    ensures { IfOk result (λ text. text.items ≡ circle_spelling (circle_of a.now)) }
+{
+    let mut text = Vec::new(alloc);
+    push_first(&mut text, b"circle")?;
+    push_size(&mut text, &a.size)?;
+    push_plane_ratio_line(&mut text, b"center", &a.center)?;
+    push_counted(&mut text, b"supports", a.supports.as_slice())?;
+    push_last(&mut text)?;
+    Ok(text)
+}
+
+fn sphere_text(alloc: Global, a: &BallAnswer3) -> Result<Vec<u8>, AllocError>
+    ensures { IfOk result (λ text. text.items ≡ sphere_spelling (sphere_of a.now)) }
+{
+    let mut text = Vec::new(alloc);
+    push_first(&mut text, b"sphere")?;
+    push_size(&mut text, &a.size)?;
+    push_space_ratio_line(&mut text, b"center", &a.center)?;
+    push_counted(&mut text, b"supports", a.supports.as_slice())?;
+    push_last(&mut text)?;
+    Ok(text)
 }
 
 fn centres_text(alloc: Global, a: &CentresAnswer) -> Result<Vec<u8>, AllocError>
@@ -88,6 +114,28 @@ fn push_size(text: &mut Vec<u8>, size: &Frac) -> Result<(), AllocError>
 {
     push(text, b"size ")?;
     push_fraction(text, size)?;
+    push(text, b"\n")
+}
+
+/// A word, and x and y over w.
+#[tactic(auto, unfolding(bounds_model::specs::AnswerText::SpelledParts::plane_ratio_line))]
+fn push_plane_ratio_line(text: &mut Vec<u8>, word: &[u8], c: &Homog2) -> Result<(), AllocError>
+    ensures { OnOk result (text.new.items ≡ text.old.items ++ plane_ratio_line word.now c.now) }
+{
+    push(text, word)?;
+    push(text, b" ")?;
+    push_plane_ratio(text, c)?;
+    push(text, b"\n")
+}
+
+/// A word, and x, y and z over w.
+#[tactic(auto, unfolding(bounds_model::specs::AnswerText::Spelling::space_ratio_line))]
+fn push_space_ratio_line(text: &mut Vec<u8>, word: &[u8], c: &Homog3) -> Result<(), AllocError>
+    ensures { OnOk result (text.new.items ≡ text.old.items ++ space_ratio_line word.now c.now) }
+{
+    push(text, word)?;
+    push(text, b" ")?;
+    push_space_ratio(text, c)?;
     push(text, b"\n")
 }
 
@@ -169,4 +217,13 @@ pub(crate) fn push_plane_ratio(text: &mut Vec<u8>, c: &Homog2) -> Result<(), All
     push_pair(text, c.x(), c.y())?;
     push(text, b" ")?;
     push_whole(text, c.w())
+}
+
+/// x, y and z over w.
+fn push_space_ratio(text: &mut Vec<u8>, c: &Homog3) -> Result<(), AllocError>
+    ensures { OnOk result (text.new.items ≡ text.old.items ++ space_ratio_text c.now) }
+{
+    push_pair(text, c.x(), c.y())?;
+    push(text, b" ")?;
+    push_pair(text, c.z(), c.w())
 }

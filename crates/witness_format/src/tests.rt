@@ -40,28 +40,78 @@ fn is_refused(rt: &impl Abort, alloc: Global, text: &[u8], fault: ReadFault) {
 #[test]
 fn texts_of_answers(rt: HostRuntime) {
     let alloc = rt.alloc();
-    stands(&rt, alloc, TWO_SQUARES, 1, 1);
-    stands(
-        &rt,
-        alloc,
-        b"answer 1 centres\nsize 3/2\nsquares 1\n3 3 2\nleaves 1\n0 1\nend\n",
-        3,
-        2,
-    );
-    stands(
-        &rt,
-        alloc,
-        b"answer 1 centres\nsize 0/1\nsquares 1\n-7 0 1\nleaves 0\nend\n",
-        0,
-        1,
-    );
-    stands(
-        &rt,
-        alloc,
-        b"answer 1 centres\nsize 85070591730234615865843651857942052864/85070591730234615865843651857942052863\nsquares 1\n-85070591730234615865843651857942052864 0 85070591730234615865843651857942052863\nleaves 0\nend\n",
-        85070591730234615865843651857942052864,
-        85070591730234615865843651857942052863,
-    );
+    for (text, numerator, denominator) in [
+        // circles
+        (
+            b"answer 1 circle\nsize 25/4\ncenter 4 3 2\nsupports 2\n1 1\n2 1\nend\n".as_slice(),
+            25,
+            4,
+        ),
+        (
+            b"answer 1 circle\nsize 0/1\ncenter -200000 200000 1\nsupports 1\n9999 1\nend\n",
+            0,
+            1,
+        ),
+        (
+            b"answer 1 circle\nsize 5/1\ncenter 0 0 1\nsupports 3\n0 0\n0 0\n0 85070591730234615865843651857942052864\nend\n",
+            5,
+            1,
+        ),
+        // spheres
+        (
+            b"answer 1 sphere\nsize 3/4\ncenter 1 1 1 2\nsupports 4\n0 1\n3 2\n5 1\n6 18446744073709551617\nend\n",
+            3,
+            4,
+        ),
+        (
+            b"answer 1 sphere\nsize 1/1\ncenter 0 -1 7 8\nsupports 1\n0 1\nend\n",
+            1,
+            1,
+        ),
+        // centres
+        (TWO_SQUARES, 1, 1),
+        (
+            b"answer 1 centres\nsize 3/2\nsquares 1\n3 3 2\nleaves 1\n0 1\nend\n",
+            3,
+            2,
+        ),
+        (
+            b"answer 1 centres\nsize 0/1\nsquares 1\n-7 0 1\nleaves 0\nend\n",
+            0,
+            1,
+        ),
+        (
+            b"answer 1 centres\nsize 85070591730234615865843651857942052864/85070591730234615865843651857942052863\nsquares 1\n-85070591730234615865843651857942052864 0 85070591730234615865843651857942052863\nleaves 0\nend\n",
+            85070591730234615865843651857942052864,
+            85070591730234615865843651857942052863,
+        ),
+    ] {
+        stands(&rt, alloc, text, numerator, denominator);
+    }
+}
+
+#[test]
+fn numbers_of_a_sphere(rt: HostRuntime) -> Result<(), Fail> {
+    let text =
+        b"answer 1 sphere\nsize 3/4\ncenter 1 -2 3 4\nsupports 2\n7 18446744073709551617\n0 2\nend\n";
+    match read(rt.alloc(), text) {
+        Ok(Answer::Sphere(a)) => {
+            let center = a.center;
+            assert!(rt; (center.x(), center.y(), center.z(), center.w()) == (1, -2, 3, 4));
+            assert_eq!(rt; a.supports.len(), 2);
+            for (support, wanted) in a
+                .supports
+                .as_slice()
+                .iter()
+                .zip([(7, 18446744073709551617), (0, 2)])
+            {
+                assert_eq!(rt; (support.point, support.weight), wanted);
+            }
+            Ok(())
+        }
+        Ok(_) => panic!(rt; "of another kind"),
+        Err(fault) => panic!(rt; "refused: {fault:?}"),
+    }
 }
 
 #[test]
@@ -83,6 +133,7 @@ fn numbers_of_two_squares(rt: HostRuntime) -> Result<(), Fail> {
             }
             Ok(())
         }
+        Ok(_) => panic!(rt; "of another kind"),
         Err(fault) => panic!(rt; "refused: {fault:?}"),
     }
 }
@@ -95,6 +146,12 @@ fn refused_texts(rt: HostRuntime) {
         (b"".as_slice(), 1),
         (b"answer 1 centres", 1),
         (b"answer 1 blob\n", 1),
+        (b"answer 1 spheres\n", 1),
+        (b"answer 1 rectangle\n", 1),
+        (b"answer 1 circle sphere\n", 1),
+        (b"answer 1 \n", 1),
+        (b"answer 1\n", 1),
+        (b"answer circle\n", 1),
         (b"answer 2 centres\n", 1),
         (b"answer  1 centres\n", 1),
         (b"answer 1 centres \n", 1),
@@ -123,6 +180,73 @@ fn refused_texts(rt: HostRuntime) {
         (
             b"answer 1 centres\nsize 85070591730234615865843651857942052865/1",
             2,
+        ),
+        // the center
+        (b"answer 1 circle\nsize 1/1\n", 3),
+        (b"answer 1 circle\nsize 1/1\ncentre 1 1 1\n", 3),
+        (b"answer 1 circle\nsize 1/1\ncenter 1 1 0\n", 3),
+        (b"answer 1 circle\nsize 1/1\ncenter 1 1 -1\n", 3),
+        (b"answer 1 circle\nsize 1/1\ncenter 2 4 6\n", 3),
+        (b"answer 1 circle\nsize 1/1\ncenter 1 1 1 1\n", 3),
+        (b"answer 1 sphere\nsize 1/1\ncenter 1 1 1\n", 3),
+        (b"answer 1 sphere\nsize 1/1\ncenter 1 1 1 0\n", 3),
+        (b"answer 1 sphere\nsize 1/1\ncenter 2 4 8 6\n", 3),
+        (b"answer 1 sphere\nsize 1/1\ncenter 0 0 0 2\n", 3),
+        (b"answer 1 sphere\nsize 1/1\ncenter 1 1 -0 1\n", 3),
+        // the supports
+        (b"answer 1 circle\nsize 1/1\ncenter 1 1 1\nsupports 0\n", 4),
+        (b"answer 1 circle\nsize 1/1\ncenter 1 1 1\nsupports 4\n", 4),
+        (
+            b"answer 1 sphere\nsize 1/1\ncenter 1 1 1 1\nsupports 0\n",
+            4,
+        ),
+        (
+            b"answer 1 sphere\nsize 1/1\ncenter 1 1 1 1\nsupports 5\n",
+            4,
+        ),
+        (
+            b"answer 1 circle\nsize 1/1\ncenter 1 1 1\nsupports 1\n0 -1\n",
+            5,
+        ),
+        (
+            b"answer 1 circle\nsize 1/1\ncenter 1 1 1\nsupports 1\n0 +1\n",
+            5,
+        ),
+        (
+            b"answer 1 circle\nsize 1/1\ncenter 1 1 1\nsupports 1\n0 01\n",
+            5,
+        ),
+        (
+            b"answer 1 circle\nsize 1/1\ncenter 1 1 1\nsupports 1\n0\n",
+            5,
+        ),
+        (
+            b"answer 1 circle\nsize 1/1\ncenter 1 1 1\nsupports 1\n10000 1\n",
+            5,
+        ),
+        (
+            b"answer 1 circle\nsize 1/1\ncenter 1 1 1\nsupports 1\n-1 85070591730234615865843651857942052865\n",
+            5,
+        ),
+        (
+            b"answer 1 circle\nsize 1/1\ncenter 1 1 1\nsupports 2\n0 1\nend\n",
+            6,
+        ),
+        (
+            b"answer 1 circle\nsize 1/1\ncenter 1 1 1\nsupports 1\n0 1\n0 1\nend\n",
+            6,
+        ),
+        (
+            b"answer 1 sphere\nsize 1/1\ncenter 1 1 1 1\nsupports 1\n0 1\n",
+            6,
+        ),
+        (
+            b"answer 1 sphere\nsize 1/1\ncenter 1 1 1 1\nsupports 1\n0 1\nend",
+            6,
+        ),
+        (
+            b"answer 1 sphere\nsize 1/1\ncenter 1 1 1 1\nsupports 1\n0 1\nend\nend\n",
+            7,
         ),
         // the squares
         (b"answer 1 centres\nsize 1/1\nsquares 0\n", 3),
@@ -178,6 +302,26 @@ fn refused_texts(rt: HostRuntime) {
         (
             b"answer 1 centres\nsize -1/85070591730234615865843651857942052865\n",
             2,
+        ),
+        (
+            b"answer 1 circle\nsize 1/1\ncenter 2 4 85070591730234615865843651857942052865\n",
+            3,
+        ),
+        (
+            b"answer 1 sphere\nsize 1/1\ncenter 2 4 -85070591730234615865843651857942052865 0\n",
+            3,
+        ),
+        (
+            b"answer 1 sphere\nsize 1/1\ncenter 1 1 1 1\nsupports 85070591730234615865843651857942052865\n",
+            4,
+        ),
+        (
+            b"answer 1 circle\nsize 1/1\ncenter 1 1 1\nsupports 1\n10000 85070591730234615865843651857942052865\n",
+            5,
+        ),
+        (
+            b"answer 1 sphere\nsize 1/1\ncenter 1 1 1 1\nsupports 1\n0 340282366920938463463374607431768211457\n",
+            5,
         ),
         (
             b"answer 1 centres\nsize 1/1\nsquares 340282366920938463463374607431768211457\n",

@@ -1,15 +1,11 @@
-//! Values that fill a line of an answer text.
-ghost use Rattle.std.specs.Prelude.{◌≡◌, ℕ, List, [], ◌∷◌, ◌++◌, Option, OnOk};
+//! Values that fill a line of an answer text, as they are printed.
+ghost use Rattle.std.specs.Prelude.{◌≡◌, ℕ, List, ◌++◌, OnOk};
 ghost use Rattle.bounds_model.specs.AnswerText.SpelledCentres.{square_line, leaf_line};
-ghost use Rattle.witness_format.specs.Answers.{leaf_of};
-ghost use Rattle.witness_format.specs.Judging.{Judged};
-ghost use Rattle.witness_format.specs.Lines.{words_left, square_says, leaf_says};
-ghost use Rattle.witness_format.specs.Outcomes.{Finds};
+ghost use Rattle.bounds_model.specs.AnswerText.Spelling.{weighted_line};
+ghost use Rattle.witness_format.specs.Answers.{weighted_of, leaf_of};
 
-use crate::judging::{Judged, both};
 use crate::printing::{push, push_natural, push_plane_ratio};
-use crate::words::Words;
-use crate::{Leaf, fields};
+use crate::{Leaf, Weighted};
 use exact_fractions::Homog2;
 use std::alloc::AllocError;
 
@@ -21,13 +17,6 @@ pub(crate) trait TextLine: Copy {
     /// Writes the line behind a text.
     fn print(&self, text: &mut Vec<u8>) -> Result<(), AllocError>
         ensures { OnOk result (text.new.items ≡ text.old.items ++ spelled self.now) };
-
-    /// What the words of such a line say.
-    ghost says: { List (List ℕ) → Option (Judged Self) };
-
-    /// Reads the words of a line. None where they have another form.
-    fn read(words: Words<'_>) -> Option<Judged<Self>>
-        ensures { Finds (λ x. x) result (says (words_left words.entry)) };
 }
 
 /// The centre of a square.
@@ -38,16 +27,6 @@ impl TextLine for Homog2 {
     fn print(&self, text: &mut Vec<u8>) -> Result<(), AllocError> {
         push_plane_ratio(text, self)?;
         push(text, b"\n")
-    }
-
-    ghost says = { square_says };
-
-    fn read(words: Words<'_>) -> Option<Judged<Homog2>> {
-        let Some((centre, words)) = fields::plane_ratio(words) else {
-            return None;
-        };
-        words.end()?;
-        Some(centre)
     }
 }
 
@@ -61,16 +40,16 @@ impl TextLine for Leaf {
         push_natural(text, u128::from(self.second))?;
         push(text, b"\n")
     }
+}
 
-    ghost says = { leaf_says };
+impl TextLine for Weighted {
+    ghost spelled = { λ s. weighted_line (weighted_of s) };
 
-    fn read(words: Words<'_>) -> Option<Judged<Leaf>> {
-        let (first, words) = fields::point_number(words)?;
-        let (second, words) = fields::point_number(words)?;
-        words.end()?;
-        Some(both(first, second).map(|points| Leaf {
-            first: points.0,
-            second: points.1,
-        }))
+    #[tactic(auto, unfolding(bounds_model::specs::AnswerText::Spelling::weighted_line))]
+    fn print(&self, text: &mut Vec<u8>) -> Result<(), AllocError> {
+        push_natural(text, u128::from(self.point))?;
+        push(text, b" ")?;
+        push_natural(text, self.weight)?;
+        push(text, b"\n")
     }
 }

@@ -78,6 +78,11 @@ circle_written a places = record {
   );
 }
 
+-- its kind
+pub kind-circle_written : (a : CircleAnswer) (places : CirclePlaces a) → (circle_written a places).kind ≡ circle_kind
+unfolding circle_written
+kind-circle_written a places = refl
+
 -- ---- sphere
 
 -- the spelling of a sphere is the text of its format
@@ -125,3 +130,8 @@ sphere_written a places = record {
     ),
   );
 }
+
+-- its kind
+pub kind-sphere_written : (a : SphereAnswer) (places : SpherePlaces a) → (sphere_written a places).kind ≡ sphere_kind
+unfolding sphere_written
+kind-sphere_written a places = refl

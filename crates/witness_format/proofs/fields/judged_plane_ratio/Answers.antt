@@ -1,16 +1,12 @@
-use Rattle.std.proofs.Common.{◌≡◌, ◌∙◌, refl, sym, ap, nat_abs, ℤ, FitsSigned, arith, rules, to_z, of_z}
+use Rattle.std.proofs.Common.{◌≡◌, ◌∙◌, refl, sym, ap, nat_abs, FitsSigned, arith, rules, of_z}
 use Rattle.std.specs.Int.{w128}
 use Rattle.std.proofs.lemmas.Int.{to_z-of_z}
 use Rattle.bounds_model.specs.Plane.{PlaneRatio}
 use Rattle.bounds_model.specs.AnswerText.Fields.{plane_ratio}
 use Rattle.witness_format.specs.Judging.{judged_field}
-use Rattle.witness_format.proofs.FieldJudgements.{judged-kept, plane_ratio-out}
+use Rattle.witness_format.proofs.FieldJudgements.{same_number, judged-kept, plane_ratio-out}
 use Rattle.witness_format.proofs.fields.judged_plane_ratio.Goals as goal
 use Rattle.witness_format.proofs.fields.judged_plane_ratio.Goals.{then-x-via-then-x, then-x-via-else-x+then-y, then-x-via-else-x+else-y+then-w}
-
--- numbers whose machine words are the same
-same_number : (a b : ℤ) → FitsSigned w128 a → FitsSigned w128 b → of_z w128 a ≡ of_z w128 b → a ≡ b
-same_number a b p q e = sym (to_z-of_z w128 a p) ∙ (ap (to_z w128) e ∙ to_z-of_z w128 b q)
 
 pub returns-then-x : goal.returns-then-x
 returns-then-x c =

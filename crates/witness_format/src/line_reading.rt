@@ -1,0 +1,120 @@
+//! The lines of an answer text, read one by one.
+ghost use Rattle.std.specs.Prelude.{◌<◌, ◌≤◌, ◌^◌, [], map, IfSome, IfOk};
+ghost use Rattle.bounds_model.specs.AnswerText.LineFormats.{titled, untitled};
+ghost use Rattle.bounds_model.specs.AnswerText.Formats.{Count, count_format, counted, line_at, lines_at, part_at};
+ghost use Rattle.witness_format.specs.Judging.{seen, said};
+ghost use Rattle.witness_format.specs.Kinds.{format_of, known_kinds, named_by, first_kind};
+ghost use Rattle.witness_format.specs.Lines.{words_left, lines_left};
+ghost use Rattle.witness_format.specs.Outcomes.{Finds, Reads};
+
+use crate::judging::{Judged, decide};
+use crate::kinds::{AnswerKind, kind_of};
+use crate::line_value::LineValue;
+use crate::lines::Unread;
+use crate::words::Words;
+use crate::{ReadFault, fields};
+use arrayvec::ArrayVec;
+
+// ---- one line
+
+/// The kind that the first line names.
+pub(crate) fn read_kind(text: &mut Unread<'_>) -> Result<AnswerKind, ReadFault>
+    ensures { Reads (λ kind. (format_of kind, lines_left text.new)) result (first_kind known_kinds (lines_left text.old)) }
+{
+    let number = text.number;
+    let words = text.next_line()?;
+    match kind_named(words) {
+        Some(kind) => Ok(kind),
+        None => Err(ReadFault::BadAnswer(number)),
+    }
+}
+
+/// The kind that these words of the first line name.
+fn kind_named(words: Words<'_>) -> Option<AnswerKind>
+    ensures { Finds format_of result (named_by (words_left words.entry) known_kinds) }
+{
+    let words = words.after(b"answer")?;
+    let words = words.after(b"1")?;
+    let (name, words) = words.next()?;
+    words.end()?;
+    kind_of(name)
+}
+
+/// A line of a word and a value.
+pub(crate) fn read_titled<T: LineValue>(text: &mut Unread<'_>, word: &[u8]) -> Result<T, ReadFault>
+    ensures { Reads (λ value. (T.values value, lines_left text.new)) result (line_at (titled word.now T.fields) (lines_left text.old)) }
+{
+    let number = text.number;
+    let words = text.next_line()?;
+    decide(number, titled_words(words, word))
+}
+
+fn titled_words<T: LineValue>(words: Words<'_>, word: &[u8]) -> Option<Judged<T>>
+    ensures { Finds (seen T.values) result (said (titled word.now T.fields) (words_left words.entry)) }
+{
+    T::read(words.after(word)?)
+}
+
+/// A line of a value alone.
+fn read_line<T: LineValue>(text: &mut Unread<'_>) -> Result<T, ReadFault>
+    ensures { Reads (λ value. (T.values value, lines_left text.new)) result (line_at (untitled T.fields) (lines_left text.old)) }
+{
+    let number = text.number;
+    let words = text.next_line()?;
+    decide(number, T::read(words))
+}
+
+/// A word and a number from `low` to `high`.
+fn read_count(text: &mut Unread<'_>, word: &[u8], low: u32, high: u32) -> Result<u32, ReadFault>
+    ensures count { Reads (λ n. ((n, tt), lines_left text.new)) result
+        (line_at (count_format (record { word = word.now; low = low; high = high })) (lines_left text.old)) }
+    ensures limited { IfOk result (λ n. n ≤ high) }
+{
+    let number = text.number;
+    let words = text.next_line()?;
+    decide(number, count_words(words, word, low, high))
+}
+
+fn count_words(words: Words<'_>, word: &[u8], low: u32, high: u32) -> Option<Judged<u32>>
+    ensures count { Finds (seen (λ n. (n, tt))) result
+        (said (count_format (record { word = word.now; low = low; high = high })) (words_left words.entry)) }
+    ensures limited { IfSome result (λ count. IfOk count (λ n. n ≤ high)) }
+{
+    let words = words.after(word)?;
+    let (count, words) = fields::bounded(words, low, high)?;
+    words.end()?;
+    Some(count)
+}
+
+// ---- several lines
+
+/// The line of a count, and as many lines, from `low` to `CAP`.
+pub(crate) fn read_counted<T: LineValue + Default, const CAP: usize>(
+    text: &mut Unread<'_>,
+    word: &[u8],
+    low: u32,
+) -> Result<ArrayVec<T, CAP>, ReadFault>
+    requires { CAP < 2 ^ 32 }
+    ensures { Reads (λ values. (map T.values values.items, lines_left text.new)) result
+        (part_at (counted (record { word = word.now; low = low; high = CAP }) 0 T.fields) [] (lines_left text.old)) }
+{
+    let count = read_count(text, word, low, CAP as u32)?;
+    read_lines(text, count)
+}
+
+/// So many lines.
+fn read_lines<T: LineValue + Default, const CAP: usize>(
+    text: &mut Unread<'_>,
+    count: u32,
+) -> Result<ArrayVec<T, CAP>, ReadFault>
+    requires { count ≤ CAP }
+    ensures { Reads (λ values. (map T.values values.items, lines_left text.new)) result
+        (lines_at count (untitled T.fields) (lines_left text.old)) }
+{
+    let mut values = ArrayVec::new();
+    for _ in 0..count {
+        let value = read_line(text)?;
+        values.push(value);
+    }
+    Ok(values)
+}
