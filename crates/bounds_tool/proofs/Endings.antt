@@ -1,8 +1,9 @@
 -- How a task ends that gives no output.
-use Rattle.std.proofs.Common.{◌≡◌, ◌∙◌, ◌⊎◌, inl, inr, refl, sym, ap, subst, is_ok, ℕ, Bool, true, false, List, Option, Some, None, Result, Ok, Err, IfSome, Contains, nat_le, length, arith}
+use Rattle.std.proofs.Common.{◌≡◌, ◌∙◌, ◌⊎◌, inl, inr, refl, sym, ap, subst, is_ok, ℕ, ◌<◌, Bool, true, false, List, [], ◌∷◌, Option, Some, None, Result, Ok, Err, IfSome, Contains, nat_le, length, arith}
 use Rattle.std.specs.Prelude.{if◌then◌else◌}
 use Rattle.bounds_model.specs.Asks.{Ask, Sets}
 use Rattle.bounds_model.specs.Answers.{Answer}
+use Rattle.bounds_model.specs.Demo.{demo_sets}
 use Rattle.bounds_model.specs.PointText as text
 use Rattle.bounds_model.specs.PointText.{sets_of_text}
 use Rattle.bounds_model.specs.AnswerText.Formats as format
@@ -11,13 +12,13 @@ use Rattle.witness_format.specs.Kinds.{known_kinds}
 use Rattle.bounds_model.specs.ErrorLines.{Cause, InputFile, points_file, answer_file, words_not_understood, open_fault, read_fault, too_long, bad_line, out_of_range, too_many_points, no_points, wrong_sets, bad_answer, big_number, out_of_memory}
 use Rattle.bnd_io.specs.Files.{Folder, FilesState, bytes_of}
 use Rattle.bounds_tool.specs.declared.status.Status.{Status}
-use Rattle.bounds_tool.specs.declared.status.Status.TheVariants.{Usage, Input, Read, Memory}
-use Rattle.bounds_tool.specs.Words.{Task, solve_task, check_task, task_of, files_of}
-use Rattle.bounds_tool.specs.Judging.{Work, solving, checking, ◌>>=◌, limit_of, bytes_within, read_points, read_answer, points_in, answer_in, work_of, judge_task, judge}
+use Rattle.bounds_tool.specs.declared.status.Status.TheVariants.{Done, No, Usage, Input, Read, Write, Memory}
+use Rattle.bounds_tool.specs.Words.{Task, solve_task, check_task, demo_task, task_of, files_of}
+use Rattle.bounds_tool.specs.Judging.{Work, solving, checking, demonstrating, ◌>>=◌, limit_of, bytes_within, read_points, read_answer, points_in, answer_in, work_of, judge_task, judge}
 use Rattle.bounds_tool.specs.Outputs as outputs
 use Rattle.bounds_tool.specs.Outputs.{IsMeantAs}
 use Rattle.bounds_tool.specs.declared.output.Output.{Output}
-use Rattle.bounds_tool.specs.declared.output.Output.TheVariants.{Solution, Verdict}
+use Rattle.bounds_tool.specs.declared.output.Output.TheVariants.{Solution, Verdict, Demonstration}
 use Rattle.bounds_tool.specs.Run.{MayEnd, OutputBy, IsRefusal, OpenFault, ReadFault, TaskFault, RefusesPoints, RefusesAnswer, PointsCause, AnswerCause, PointsAccepted, ComesOf, TaskCause, cause_status}
 
 -- ---- by its causes
@@ -86,12 +87,14 @@ ending : (last : Option ℕ) (task : Task) (old new : FilesState) (cause : Cause
 ending last (solve_task ask file) old new cause h = in_points last (solve_task ask file) ask file old new cause (0, omega arith, refl) (solve_refused ask file cause) h
 ending last (check_task ask points answer) old new cause (inl h) = in_points last (check_task ask points answer) ask points old new cause (0, omega arith, refl) (check_refused ask points answer cause) h
 ending last (check_task ask points answer) old new cause (inr h) = in_answer last ask points answer old new cause h.0 h.1
+ending last (demo_task ask seed count) old new cause h = by_memory (ap cause_status h)
 
 -- the cause of a task is one of the words that call for it
 pub TaskCause-task : (last : Option ℕ) (words : List (List ℕ)) (task : Task) (old new : FilesState) (cause : Cause) → task_of words ≡ Some task → ComesOf last task old new cause → TaskCause last words old new cause
 TaskCause-task last words (solve_task ask file) old new words_not_understood is h = absurd h.0
 TaskCause-task last words (check_task ask points answer) old new words_not_understood is (inl h) = absurd h.0
 TaskCause-task last words (check_task ask points answer) old new words_not_understood is (inr h) = absurd h.1.0
+TaskCause-task last words (demo_task ask seed count) old new words_not_understood is h = absurd cc
 TaskCause-task last words task old new cause is h = (task, is, h)
 
 -- the words are no task, or the task ends so
@@ -147,6 +150,7 @@ TaskFault-cause last words old new cause h e = by_ending (run_ending last words 
 MayEnd-memory : (judged : Result Work Cause) → (judged ≡ Err words_not_understood → ⊥) → MayEnd judged Memory
 MayEnd-memory (Ok (solving ask sets)) understood = inr refl
 MayEnd-memory (Ok (checking ask sets answer)) understood = inr (inr refl)
+MayEnd-memory (Ok (demonstrating ask count sets)) understood = inr refl
 MayEnd-memory (Err words_not_understood) understood = absurd (understood refl)
 MayEnd-memory (Err cause) understood = inr refl
 
@@ -189,18 +193,16 @@ points_in_understood ask bytes = step_understood (bytes_within points_file bytes
 answer_in_understood : (bytes : List ℕ) → answer_in bytes ≡ Err words_not_understood → ⊥
 answer_in_understood bytes = step_understood (bytes_within answer_file bytes) (λ whole. read_answer (reading_of known_kinds whole)) (bytes_understood answer_file bytes) (λ whole. answer_understood (reading_of known_kinds whole))
 
+work_is : (work : Work) → Ok work ≡ Err words_not_understood → ⊥
+work_is work e = cc
+
 work_understood : (folder : Folder) (task : Task) → work_of folder task ≡ Err words_not_understood → ⊥
 work_understood folder (solve_task ask file) =
-    step_understood (points_in ask (bytes_of folder file)) (λ sets. Ok (solving ask sets)) (points_in_understood ask (bytes_of folder file)) (λ sets e. differ (solving ask sets) e)
-  where
-    differ : (work : Work) → Ok work ≡ Err words_not_understood → ⊥
-    differ work e = cc
+    step_understood (points_in ask (bytes_of folder file)) (λ sets. Ok (solving ask sets)) (points_in_understood ask (bytes_of folder file)) (λ sets. work_is (solving ask sets))
 work_understood folder (check_task ask points answer) =
     step_understood (points_in ask (bytes_of folder points)) (λ sets. answer_in (bytes_of folder answer) >>= λ a. Ok (checking ask sets a)) (points_in_understood ask (bytes_of folder points))
-    (λ sets. step_understood (answer_in (bytes_of folder answer)) (λ a. Ok (checking ask sets a)) (answer_in_understood (bytes_of folder answer)) (λ a e. differ (checking ask sets a) e))
-  where
-    differ : (work : Work) → Ok work ≡ Err words_not_understood → ⊥
-    differ work e = cc
+    (λ sets. step_understood (answer_in (bytes_of folder answer)) (λ a. Ok (checking ask sets a)) (answer_in_understood (bytes_of folder answer)) (λ a. work_is (checking ask sets a)))
+work_understood folder (demo_task ask seed count) = work_is (demonstrating ask count (demo_sets ask seed count))
 
 -- what holds in each folder holds where the files tell
 where_told : {P : Folder → Type 0} (told : Option Folder) → ((folder : Folder) → P folder) → IfSome told P
@@ -229,10 +231,16 @@ MayEnd-cause P last words old new cause status h e = by_ending (run_ending last 
 end_of_output : (output : Output) (work : Work) → IsMeantAs output work (outputs.bytes_of output) → MayEnd (Ok work) (outputs.status_of output)
 end_of_output (Solution text) (solving ask sets) h = inl refl
 end_of_output (Solution text) (checking ask sets answer) h = inl (h.passes, refl)
+end_of_output (Solution text) (demonstrating ask count sets) h = inl refl
 end_of_output (Verdict true) (solving ask sets) h = inl refl
 end_of_output (Verdict true) (checking ask sets answer) h = inl (h.passes, refl)
+end_of_output (Verdict true) (demonstrating ask count sets) h = inl refl
 end_of_output (Verdict false) (solving ask sets) h = absurd h
 end_of_output (Verdict false) (checking ask sets answer) h = inr (inl (h.fails, refl))
+end_of_output (Verdict false) (demonstrating ask count sets) h = absurd h
+end_of_output (Demonstration text) (solving ask sets) h = inl refl
+end_of_output (Demonstration text) (checking ask sets answer) h = inl (h.passes, refl)
+end_of_output (Demonstration text) (demonstrating ask count sets) h = inl refl
 
 pub MayEnd-output : (P Q : Type 0) (words : List (List ℕ)) (old : FilesState) (output : Output) (status : Status) → OutputBy (IsMeantAs output) words old (outputs.bytes_of output) → status ≡ outputs.status_of output
     → IfSome old.told (λ folder. P → Q → MayEnd (judge words folder) status)

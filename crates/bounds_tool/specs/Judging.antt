@@ -10,10 +10,11 @@ use Rattle.bounds_model.specs.PointText as text
 use Rattle.bounds_model.specs.PointText.{sets_of_text}
 use Rattle.bounds_model.specs.AnswerText.Formats as format
 use Rattle.bounds_model.specs.AnswerText.Reading.{reading_of}
+use Rattle.bounds_model.specs.Demo.{demo_sets}
 use Rattle.bounds_model.specs.ErrorLines.{Cause, InputFile, points_file, answer_file, words_not_understood, too_long, bad_line, out_of_range, too_many_points, no_points, wrong_sets, bad_answer, big_number}
 use Rattle.witness_format.specs.Kinds.{known_kinds}
 use Rattle.bnd_io.specs.Files.{Folder, bytes_of}
-use Rattle.bounds_tool.specs.Words.{Task, solve_task, check_task, task_of}
+use Rattle.bounds_tool.specs.Words.{Task, solve_task, check_task, demo_task, task_of}
 
 -- one step after another, up to the first cause
 infixl 10 ◌>>=◌
@@ -25,6 +26,7 @@ abbrev pub ◌>>=◌ : {A B : Type 0} → Result A Cause → (A → Result B Cau
 pub data Work : Type 0 where
   solving : Ask → Sets → Work  -- to answer what is asked of these points
   checking : Ask → Sets → Answer → Work  -- to judge this answer
+  demonstrating : Ask → ℕ → Sets → Work  -- to answer what is asked of these points, which were made, so many in each set
 
 -- the most bytes of a point file, and of an answer file
 abbrev pub limit_of : InputFile → ℕ
@@ -77,6 +79,7 @@ work_of folder (check_task ask points answer) = do
   sets ← points_in ask (bytes_of folder points)
   a ← answer_in (bytes_of folder answer)
   Ok (checking ask sets a)
+work_of folder (demo_task ask seed count) = Ok (demonstrating ask count (demo_sets ask seed count))
 
 -- the work that the words call for, which are judged before any file
 abbrev pub judge_task : Folder → Option Task → Result Work Cause

@@ -5,6 +5,7 @@
 //! - `words`: the words of a command line
 //! - `reading`: the files that a command names
 //! - `solving`: the answer to what is asked
+//! - `demo_points`, `demo_text`: points made from a seed, and what is told of them
 //! - `output`: what a run writes
 //! - `cause`, `telling`: why there is no whole output, and the line that says so
 #![tactic(auto)]
@@ -12,6 +13,7 @@
 mod cause;
 mod command;
 mod demo_points;
+mod demo_text;
 mod output;
 mod reading;
 mod solving;

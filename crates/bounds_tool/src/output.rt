@@ -12,10 +12,12 @@ pub(crate) enum Output {
     Solution(AnswerBytes),
     /// Whether an answer that was to be judged passes.
     Verdict(bool),
+    /// How many points were made, and the size of a best answer.
+    Demonstration(Vec<u8>),
 }
 
 impl Output {
-    /// The bytes: those of the text, or `yes` or `no` and a line feed.
+    /// The bytes: those of a text, or `yes` or `no` and a line feed.
     pub(crate) fn as_slice(&self) -> &[u8]
         ensures { result.now ≡ bytes_of self.now }
     {
@@ -23,6 +25,7 @@ impl Output {
             Output::Solution(text) => text.as_slice(),
             Output::Verdict(true) => b"yes\n",
             Output::Verdict(false) => b"no\n",
+            Output::Demonstration(text) => text.as_slice(),
         }
     }
 
@@ -31,7 +34,7 @@ impl Output {
         ensures { result ≡ status_of self.now }
     {
         match self {
-            Output::Solution(_) | Output::Verdict(true) => Status::Done,
+            Output::Solution(_) | Output::Verdict(true) | Output::Demonstration(_) => Status::Done,
             Output::Verdict(false) => Status::No,
         }
     }

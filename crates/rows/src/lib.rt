@@ -2,17 +2,23 @@
 //! tests, so that the crates below are proved without theirs.
 //!
 //! - `runs`: a run over files and sinks in memory
+//! - `balls`: smallest circles and spheres
 //! - `centres`: the smallest square
 //! - `checks`: answers that are judged
+//! - `demo`: demonstrations
 //! - `words`: words that are no task
 //! - `faults`: counted faults of files and sinks
 //! - `limits`: files at their limits
 #![tactic(auto)]
 
 #[cfg(test)]
+mod balls;
+#[cfg(test)]
 mod centres;
 #[cfg(test)]
 mod checks;
+#[cfg(test)]
+mod demo;
 #[cfg(test)]
 mod faults;
 #[cfg(test)]

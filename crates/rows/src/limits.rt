@@ -4,7 +4,7 @@ use crate::runs::run_on;
 use bounds_tool::Status;
 use std::test::Fail;
 
-const SOLVE: [&str; 4] = ["centres", "a", "--p", "1"];
+const SOLVE: [&str; 2] = ["circle", "a"];
 
 const CHECK: [&str; 5] = ["check", "a", "b", "--kind", "circle"];
 

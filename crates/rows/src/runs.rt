@@ -1,7 +1,7 @@
 //! A run over files and sinks in memory.
 ghost use Rattle.std.specs.Prelude.{◌≡◌, ◌<◌, ◌≤◌};
 
-use bnd_io::{MemFiles, MemSink};
+use bnd_io::{Files, MemFiles, MemSink, Sink};
 use bounded_coords::Steps;
 use bounds_tool::{Status, run};
 use std::alloc::Global;
@@ -9,12 +9,12 @@ use std::marker::Brand;
 use std::sync::ledger::{Blank, Ledger};
 use std::test::Fail;
 
-fn run_counted<L: Ledger>(
+fn run_counted<F: Files, O: Sink, L: Ledger>(
     alloc: Global,
     words: &[&str],
-    files: &mut MemFiles,
-    out: &mut MemSink,
-    err: &mut MemSink,
+    files: &mut F,
+    out: &mut O,
+    err: &mut O,
     blank: Blank,
 ) -> Status
     requires name { blank.name ≡ L.name }
@@ -26,14 +26,14 @@ fn run_counted<L: Ledger>(
 }
 
 /// Runs a command with a ledger of its own.
-pub(crate) fn run_in_memory(
+pub(crate) fn run_over<F: Files, O: Sink>(
     alloc: Global,
     words: &[&str],
-    files: &mut MemFiles,
-    out: &mut MemSink,
-    err: &mut MemSink,
+    files: &mut F,
+    out: &mut O,
+    err: &mut O,
 ) -> Status {
-    run_counted::<Brand>(alloc, words, files, out, err, Blank::new(1))
+    run_counted::<F, O, Brand>(alloc, words, files, out, err, Blank::new(1))
 }
 
 /// Runs a command on the file `a` and the file `b`, and gives the status, the output and the error line. Reads and writes go
@@ -52,6 +52,6 @@ pub(crate) fn run_on(
     files.add("b", b)?;
     let mut out = MemSink::new(alloc, piece)?;
     let mut err = MemSink::new(alloc, piece)?;
-    let status = run_in_memory(alloc, words, &mut files, &mut out, &mut err);
+    let status = run_over(alloc, words, &mut files, &mut out, &mut err);
     Ok((status, out, err))
 }

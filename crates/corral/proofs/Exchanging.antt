@@ -1,0 +1,141 @@
+-- The supports that a search found, as items of a corral.
+use Rattle.std.proofs.Common.{◌≡◌, refl, sym, ◌∙◌, ap, ap₂, subst, ◌⊎◌, ℕ, ◌+◌, ◌≤◌, ℤ, pos, List, [], ◌∷◌, length, map, arith}
+use Rattle.std.specs.Prelude.{All}
+use Rattle.std.proofs.lemmas.List.{length-map}
+use Rattle.std.proofs.lemmas.List.Elements.{All-cons, All-head, All-tail, All-map}
+use Rattle.bounds_model.specs.Numbers.{HasCount}
+use Rattle.bounds_model.specs.Space.{SpacePoint}
+use Rattle.bounds_model.specs.Potentials.{WeightedVector, IsLow, value}
+use Rattle.exact_fractions.specs.Order.{IsBelow}
+use Rattle.kernel_laws.specs.Vectors.{vector_of}
+use Rattle.kernel_laws.specs.Limits.{IsDifference}
+use Rattle.kernel_laws.specs.Solutions.{AreItems, weighted}
+use Rattle.corral.specs.declared.items.Id.{Id}
+use Rattle.corral.specs.declared.items.Items.{Items}
+use Rattle.corral.specs.declared.holding.Held.{Held}
+use Rattle.corral.specs.declared.search.Candidate.{Candidate}
+use Rattle.corral.specs.declared.search.Balance.{Balance}
+use Rattle.corral.specs.Parts.{IsPart}
+use Rattle.corral.specs.Supports.{IsSquare, support_vectors, AreSupports, Settles, IsRefuted}
+use Rattle.corral.specs.Items.{IsItem, item}
+use Rattle.corral.specs.Held.{names, weights, AreHeld, weighted_items}
+use Rattle.corral.specs.Balances.{IsBalance, vectors, candidate_names, AreCandidates, IsFound, AreRefuted}
+use Rattle.corral.proofs.Parts.{part_all, part_map, part_of_map, part_length}
+use Rattle.corral.proofs.Settling.{not_all_are_refuted, value_rises}
+use Rattle.corral.proofs.TooMany.{independent_are_few}
+use Rattle.corral.proofs.Mapped.{all_unmap}
+
+-- the vectors of candidates are the items of their names
+pub vectors_are : {K P : Type 0} (place : P → SpacePoint) (items : Items K P) (cs : List Candidate) → AreCandidates place items cs → vectors cs ≡ map (item place items) (candidate_names cs)
+vectors_are place items [] are = refl
+vectors_are place items (c ∷ cs) are =
+    ap₂ (λ v vs. v ∷ vs) (All-head (λ (c : Candidate). vector_of c.vector ≡ item place items c.id) c cs are)
+    (vectors_are place items cs (All-tail (λ (c : Candidate). vector_of c.vector ≡ item place items c.id) c cs are))
+
+-- those of weighted items are too
+pub held_vectors : {K P : Type 0} (place : P → SpacePoint) (items : Items K P) (held : List Held) → support_vectors (weighted_items place items held) ≡ map (item place items) (names held)
+held_vectors place items [] = refl
+held_vectors place items (s ∷ held) = ap (λ vs. item place items s.id ∷ vs) (held_vectors place items held)
+
+-- weights beside the vectors of the chosen candidates are the weighted items
+pub same_items : {K P : Type 0} (place : P → SpacePoint) (items : Items K P) (held : List Held) (part : List Candidate) → names held ≡ candidate_names part → AreCandidates place items part
+    → weighted (weights held) (vectors part) ≡ weighted_items place items held
+same_items place items [] [] named are = refl
+same_items place items [] (c ∷ part) named are = absurd (cc)
+same_items place items (s ∷ held) [] named are = absurd (cc)
+same_items {K} {P} place items (s ∷ held) (c ∷ part) named are =
+    let same_name : s.id ≡ c.id = cc in
+    let others : names held ≡ candidate_names part = cc in
+    ap₂ (λ v rest. record { weight = pos s.weight; vector = v } ∷ rest)
+    (All-head (λ (c : Candidate). vector_of c.vector ≡ item place items c.id) c part are ∙ ap (item place items) (sym same_name))
+    (same_items place items held part others (All-tail (λ (c : Candidate). vector_of c.vector ≡ item place items c.id) c part are))
+
+-- an exchange: the old supports, a low item, and what the search found among them
+pub record IsExchange {K P : Type 0} (dim : ℕ) (square : ℤ) (place : P → SpacePoint) (xs : Items K P) (old : List Held) (id : Id) (all part : List Candidate) (b : Balance) : Type 0 where
+  pub flag : IsSquare square
+  pub dims : (dim ≡ 2) ⊎ (dim ≡ 3)
+  pub named : IsItem xs id
+  pub held : AreHeld dim xs old
+  pub supports : AreSupports square (weighted_items place xs old)
+  pub low : IsLow square (weighted_items place xs old) (item place xs id)
+  pub all_named : candidate_names all ≡ id ∷ names old
+  pub candidates : AreCandidates place xs all
+  pub few : length (vectors all) ≤ dim + 2
+  pub found : IsFound dim square all part b
+
+module _ {K P : Type 0} (dim : ℕ) (square : ℤ) (place : P → SpacePoint) (xs : Items K P) (old : List Held) (id : Id) (all part : List Candidate) (b : Balance)
+    (h : IsExchange {K = K} {P = P} dim square place xs old id all part b) where
+  -- the new supports are a part of the old ones and the new item
+  pub new_part : IsPart (names b.held.items) (id ∷ names old)
+  new_part = subst (IsPart (names b.held.items)) h.all_named (subst (λ ns. IsPart ns (candidate_names all)) (sym h.found.named) (part_map (λ c. c.id) h.found.is_part))
+
+  same : weighted (weights b.held.items) (vectors part) ≡ weighted_items place xs b.held.items
+  same = same_items place xs b.held.items part h.found.named (part_all (λ c. vector_of c.vector ≡ item place xs c.id) h.found.is_part h.candidates)
+
+  all_vectors_are : vectors all ≡ map (item place xs) (id ∷ names old)
+  all_vectors_are = vectors_are place xs all h.candidates ∙ ap (map (item place xs)) h.all_named
+
+  -- they are in balance
+  pub new_balance : IsBalance dim square (weighted_items place xs b.held.items) b
+  new_balance = subst (λ items. IsBalance dim square items b) same h.found.balance
+
+  -- each is an item
+  pub new_held : AreHeld dim xs b.held.items
+  new_held =
+      let old_names : All (IsItem xs) (names old) = All-map (IsItem xs) (λ (s : Held). s.id) old h.held.listed in
+      let all_names : All (IsItem xs) (id ∷ names old) = All-cons (IsItem xs) id (names old) h.named old_names in
+      let many = length-map b.held.items (λ (s : Held). s.id) in
+      let as_many = ap length h.found.named ∙ length-map part (λ (c : Candidate). c.id) in
+      let vs = ap length (held_vectors place xs b.held.items) ∙ length-map (names b.held.items) (item place xs) in
+      let items = length-map (weighted_items place xs b.held.items) (λ (item : WeightedVector). item.vector) in
+      let some = new_balance.supports.some in
+      let shorter = part_length h.found.is_part in
+      let whole = length-map all (λ (c : Candidate). vector_of c.vector) in
+      let few = h.few in
+      let most = independent_are_few dim h.dims (support_vectors (weighted_items place xs b.held.items)) (omega arith) new_balance.differences new_balance.independent in
+      record {
+        count = record { at_least = omega arith; at_most = omega arith };
+        listed = all_unmap (IsItem xs) (λ s. s.id) b.held.items (part_all (IsItem xs) new_part all_names);
+      }
+
+  -- none of the old ones and the new item is low
+  pub new_none_low : All (λ other. ¬ IsLow square (weighted_items place xs b.held.items) (item place xs other)) (id ∷ names old)
+  new_none_low =
+      all_unmap (λ v. ¬ IsLow square (weighted_items place xs b.held.items) v) (item place xs) (id ∷ names old)
+      (subst (All (λ v. ¬ IsLow square (weighted_items place xs b.held.items) v)) all_vectors_are
+          (subst (λ items. All (λ v. ¬ IsLow square items v) (vectors all)) same h.found.none_low))
+
+  -- the value has risen
+  pub new_value : IsBelow (value square (weighted_items place xs old)) (value square (weighted_items place xs b.held.items))
+  new_value = value_rises square h.flag (weighted_items place xs old) (weighted_items place xs b.held.items) (item place xs id) h.supports h.low (record {
+    supports = new_balance.supports;
+    none_low =
+        subst (λ vs. All (λ v. ¬ IsLow square (weighted_items place xs b.held.items) v) (item place xs id ∷ vs)) (sym (held_vectors place xs old))
+        (subst (All (λ v. ¬ IsLow square (weighted_items place xs b.held.items) v)) all_vectors_are
+            (subst (λ items. All (λ v. ¬ IsLow square items v) (vectors all)) same h.found.none_low));
+  })
+
+-- the search does not end without supports
+pub search_finds : (square : ℤ) → IsSquare square → (all : List Candidate) → 1 ≤ length (vectors all) → ¬ AreRefuted square all [] all
+search_finds square flag all some refuted = not_all_are_refuted square flag (vectors all) some (λ part is_part long. lifted part (part_of_map (λ c. vector_of c.vector) all is_part) long)
+  where
+    lifted : (part : List SpacePoint) → (inner : List Candidate) × IsPart inner all × (part ≡ map (λ c. vector_of c.vector) inner) → 1 ≤ length part → IsRefuted square (vectors all) part
+    lifted part (inner, is_part, same) long = subst (IsRefuted square (vectors all)) (sym same) (refuted inner is_part (let e = length-map inner (λ (c : Candidate). vector_of c.vector) in let f = ap length same in omega arith))
+
+-- an exchange, as the code has it
+pub exchange_is : {K P : Type 0} (dim : ℕ) (square : ℤ) (place : P → SpacePoint) (xs : Items K P) (old : List Held) (id : Id) (given all part : List Candidate) (b old_balance : Balance)
+    → IsSquare square → (dim ≡ 2) ⊎ (dim ≡ 3) → IsItem xs id → AreHeld dim xs old → IsBalance dim square (weighted_items place xs old) old_balance → IsLow square (weighted_items place xs old) (item place xs id)
+    → all ≡ given → candidate_names given ≡ id ∷ names old → AreCandidates place xs given → AreItems square dim (vectors given) → IsFound dim square all part b
+    → IsExchange {K = K} {P = P} dim square place xs old id all part b
+exchange_is dim square place xs old id given all part b old_balance flag dims named held balance low same all_named candidates items found = record {
+  flag = flag;
+  dims = dims;
+  named = named;
+  held = held;
+  supports = balance.supports;
+  low = low;
+  all_named = ap candidate_names same ∙ all_named;
+  candidates = subst (AreCandidates place xs) (sym same) candidates;
+  few = subst (λ cs. length (vectors cs) ≤ dim + 2) (sym same) items.few;
+  found = found;
+}

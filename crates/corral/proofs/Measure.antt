@@ -1,0 +1,97 @@
+-- The measure of exchanges.
+use Rattle.std.proofs.Common.{sym, subst, inl, inr, ℕ, ◌*◌, ◌/◌, ◌<◌, ℤ, pos, negsuc, ◌+ℤ◌, ◌-ℤ◌, ◌*ℤ◌, ◌≤ℤ◌, ◌<ℤ◌, List, nat_abs, arith, [], ◌∷◌}
+use Rattle.std.specs.Prelude.{All}
+use Rattle.std.proofs.lemmas.Int.{ints}
+use Rattle.integers.proofs.Identities.{den-ring, read, polys, lits}
+use Rattle.integers.proofs.Order.{nonneg_add, nonneg_mul, nonneg_from_positive, positive_difference, nonneg_difference, positive_mul, square_nonneg, mul_le_both, le_by, lt_by}
+use Rattle.integers.proofs.Sums.{total_weighted_le}
+use Rattle.std.proofs.lemmas.List.Elements.{All-weaker}
+use Rattle.integers.proofs.Gaps.{floor_rises}
+use Rattle.integers.specs.Size.{Size}
+use Rattle.integers.proofs.Sizes.{size_mul}
+use Rattle.bounds_model.specs.Space.{SpacePoint, squared_length}
+use Rattle.bounds_model.specs.Potentials.{WeightedVector, mass, moment, second_moment, value}
+use Rattle.kernel_laws.specs.Limits.{IsVectorWithin, IsDifference, reach}
+use Rattle.corral.specs.Supports.{IsSquare, support_vectors, AreSupports}
+use Rattle.corral.proofs.Moments.{mass_positive}
+use Rattle.corral.proofs.Supports.{all_vectors}
+use Rattle.corral.specs.Rise.{AreBounded}
+use Rattle.corral.specs.Laws.{MeasureFalls}
+
+-- ---- the value is at most the longest squared length
+
+squared_length_nonneg : (v : SpacePoint) → pos 0 ≤ℤ squared_length v
+squared_length_nonneg v = nonneg_add (nonneg_add (square_nonneg v.x) (square_nonneg v.y)) (square_nonneg v.z)
+
+-- by the sum of the weights M, the second moment Q and the squared length W of the moment
+gap_of_ball : (M Q W L : ℤ) → pos 0 ≤ℤ M → pos 0 ≤ℤ W → (pos 1 *ℤ Q) ≤ℤ (M *ℤ L) → pos 0 ≤ℤ (L *ℤ (M *ℤ M) -ℤ (pos 1 *ℤ (M *ℤ Q) -ℤ W))
+gap_of_ball M Q W L hM hW h =
+    le_by (nonneg_add (nonneg_mul hM (nonneg_difference h)) hW) (read (M ∷ Q ∷ W ∷ L ∷ []) (λ xs a b c d. simp (a, b, c, d, polys, lits xs) (den-ring xs _ _ tt)))
+
+gap_of_distance : (M Q W L : ℤ) → pos 0 ≤ℤ L → pos 0 ≤ℤ W → pos 0 ≤ℤ (L *ℤ (M *ℤ M) -ℤ (pos 0 *ℤ (M *ℤ Q) -ℤ W))
+gap_of_distance M Q W L hL hW =
+    le_by (nonneg_add (nonneg_mul hL (square_nonneg M)) hW) (read (M ∷ Q ∷ W ∷ L ∷ []) (λ xs a b c d. simp (a, b, c, d, polys, lits xs) (den-ring xs _ _ tt)))
+
+gap_nonneg : (square : ℤ) → IsSquare square → (longest limit : ℕ) (items : List WeightedVector) → AreBounded longest limit items → pos 0 ≤ℤ (pos longest *ℤ (value square items).d -ℤ (value square items).n)
+gap_nonneg square (inl e) longest limit items h =
+    subst (λ g. pos 0 ≤ℤ (pos longest *ℤ (value g items).d -ℤ (value g items).n)) (sym e)
+    (gap_of_distance (mass items) (second_moment items) (squared_length (moment items)) (pos longest) (omega (arith, ints)) (squared_length_nonneg (moment items)))
+gap_nonneg square (inr e) longest limit items h =
+    subst (λ g. pos 0 ≤ℤ (pos longest *ℤ (value g items).d -ℤ (value g items).n)) (sym e)
+    (gap_of_ball (mass items) (second_moment items) (squared_length (moment items)) (pos longest) (nonneg_from_positive h.some) (squared_length_nonneg (moment items))
+    (total_weighted_le (λ (item : WeightedVector). item.weight) (λ item. squared_length item.vector) (pos 1) (pos longest) items (λ k d l. weaken (h.weights k d l)) (λ k d l. once (h.short k d l))))
+  where
+    weaken : {a : ℤ} → pos 1 ≤ℤ a → pos 0 ≤ℤ a
+    weaken h = omega (arith, ints)
+
+    once : {a b : ℤ} → a ≤ℤ b → (pos 1 *ℤ a) ≤ℤ b
+    once h = omega (arith, ints)
+
+-- ---- a fraction with a small denominator that falls
+
+falls : (a b c d : ℤ) (q : ℕ) → pos 0 ≤ℤ a → pos 0 <ℤ b → pos 0 ≤ℤ c → pos 0 <ℤ d → b ≤ℤ pos q → d ≤ℤ pos q → (a *ℤ d) <ℤ (c *ℤ b) → nat_abs a * (q * q) / nat_abs b < nat_abs c * (q * q) / nat_abs d
+falls (pos a) (pos b) (pos c) (pos d) q ha hb hc hd lb ld h = floor_rises a b c d q (omega (arith, ints)) (omega (arith, ints)) (omega (arith, ints)) (omega (arith, ints)) (omega (arith, ints))
+falls (negsuc a) b c d q ha hb hc hd lb ld h = absurd ha.le
+falls (pos a) (negsuc b) c d q ha hb hc hd lb ld h = absurd hb.lt
+falls (pos a) (pos b) (negsuc c) d q ha hb hc hd lb ld h = absurd hc.le
+falls (pos a) (pos b) (pos c) (negsuc d) q ha hb hc hd lb ld h = absurd hd.lt
+
+-- what rises comes closer to L
+closer : (L n d m e : ℤ) → (n *ℤ e) <ℤ (m *ℤ d) → ((L *ℤ e -ℤ m) *ℤ d) <ℤ ((L *ℤ d -ℤ n) *ℤ e)
+closer L n d m e h = lt_by (positive_difference h) (read (L ∷ n ∷ d ∷ m ∷ e ∷ []) (λ xs a b c f g. simp (a, b, c, f, g, polys) (den-ring xs _ _ tt)))
+
+-- where the value rises, the measure falls
+pub measure_falls : MeasureFalls
+measure_falls square flag longest limit old found bounded_old bounded_found below =
+    let v = value square old in
+    let w = value square found in
+    falls (pos longest *ℤ w.d -ℤ w.n) w.d (pos longest *ℤ v.d -ℤ v.n) v.d (limit * limit)
+    (gap_nonneg square flag longest limit found bounded_found) (positive_mul bounded_found.some bounded_found.some)
+    (gap_nonneg square flag longest limit old bounded_old) (positive_mul bounded_old.some bounded_old.some)
+    (mul_le_both (nonneg_from_positive bounded_found.some) (nonneg_from_positive bounded_found.some) bounded_found.light bounded_found.light)
+    (mul_le_both (nonneg_from_positive bounded_old.some) (nonneg_from_positive bounded_old.some) bounded_old.light bounded_old.light)
+    (closer (pos longest) v.n v.d w.n w.d below)
+
+-- ---- supports are bounded
+
+-- how long a vector is whose coordinates are at most n
+pub squared_length_within : (n : ℕ) (v : SpacePoint) → IsVectorWithin n v → squared_length v ≤ℤ pos (3 * (n * n))
+squared_length_within n v h = sum (square_within h.x) (square_within h.y) (square_within h.z)
+  where
+    square_within : {n : ℕ} {z : ℤ} → Size n z → (z *ℤ z) ≤ℤ pos (n * n)
+    square_within {n} {z} h = below z (size_mul h h)
+      where
+        below : (z : ℤ) → Size (n * n) (z *ℤ z) → (z *ℤ z) ≤ℤ pos (n * n)
+        below z k = let s = k.abs in omega (arith, ints)
+
+    sum : {a b c : ℤ} {m : ℕ} → a ≤ℤ pos m → b ≤ℤ pos m → c ≤ℤ pos m → (a +ℤ b +ℤ c) ≤ℤ pos (3 * m)
+    sum h k l = omega (arith, ints)
+
+-- by the limit of their sum of weights and by the reach of their vectors
+pub supports_bounded : (square : ℤ) (dim limit : ℕ) (items : List WeightedVector) → AreSupports square items → mass items ≤ℤ pos limit → All (IsDifference dim) (support_vectors items) → AreBounded (3 * (reach dim * reach dim)) limit items
+supports_bounded square dim limit items supports light differences = record {
+  weights = supports.weights;
+  some = mass_positive items supports.some supports.weights;
+  light = light;
+  short = all_vectors (λ v. squared_length v ≤ℤ pos (3 * (reach dim * reach dim))) items (All-weaker (IsDifference dim) (λ v. squared_length v ≤ℤ pos (3 * (reach dim * reach dim))) (λ v h. squared_length_within (reach dim) v h.within) (support_vectors items) differences);
+}

@@ -1,0 +1,5 @@
+use Rattle.corral.proofs.Settling.{some_part_settles}
+use Rattle.corral.proofs.laws.some_part_settles.Goals as goal
+
+pub returns : goal.returns
+returns c = some_part_settles

@@ -1,0 +1,5 @@
+use Rattle.corral.proofs.Settling.{value_rises}
+use Rattle.corral.proofs.laws.value_rises.Goals as goal
+
+pub returns : goal.returns
+returns c = value_rises

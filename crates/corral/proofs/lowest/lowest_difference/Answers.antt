@@ -1,0 +1,9 @@
+use Rattle.std.proofs.Common.{arith}
+use Rattle.bounded_coords.specs.Clouds.{points_of}
+use Rattle.kernel_laws.specs.Vectors.{sum_of}
+use Rattle.corral.proofs.Ends.{lowest_by_ends}
+use Rattle.corral.proofs.lowest.lowest_difference.Goals as goal
+
+pub returns : goal.returns
+returns g c =
+    lowest_by_ends g.T.Potential.SQUARE g.K.Kernel.place c.args.p c.args.q c.args.moments c.at-origin.result.now c.least_along.result c.most_along.result c.requires.square c.least_along.ensures c.most_along.ensures

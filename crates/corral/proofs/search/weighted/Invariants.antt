@@ -1,0 +1,8 @@
+use Rattle.std.proofs.Common.{◌≡◌, length, take, map}
+use Rattle.corral.specs.Held.{names, weights}
+use Rattle.corral.specs.Balances.{candidate_names}
+use Rattle.corral.proofs.search.weighted.Given as goal
+
+abbrev pub invariant-loop-i : goal.invariant-loop-i
+invariant-loop-i l =
+    (names l.held.items ≡ candidate_names (take l.i l.part)) × (weights l.held.items ≡ take l.i l.weights) × (length l.held.items ≡ l.i)

@@ -1,0 +1,53 @@
+-- Supports with what potentials under them are computed from, and the search for them among a few candidates.
+use Rattle.std.specs.Prelude.{◌≡◌, ℕ, ◌≤◌, ℤ, pos, ◌≤ℤ◌, List, ◌++◌, All, length, map}
+use Rattle.bounds_model.specs.Space.{SpacePoint, vector}
+use Rattle.bounds_model.specs.Potentials.{WeightedVector, mass, AreAffinelyDependent, IsLow}
+use Rattle.kernel_laws.specs.Vectors.{vector_of}
+use Rattle.kernel_laws.specs.Limits.{IsVectorWithin, IsDifference, reach}
+use Rattle.kernel_laws.specs.Solutions.{weighted, weight_limit}
+use Rattle.corral.specs.declared.items.Id.{Id}
+use Rattle.corral.specs.declared.items.Items.{Items}
+use Rattle.corral.specs.declared.search.Candidate.{Candidate}
+use Rattle.corral.specs.declared.search.Balance.{Balance}
+use Rattle.corral.specs.Parts.{IsPart}
+use Rattle.corral.specs.Supports.{support_vectors, AreSupports, IsRefuted}
+use Rattle.corral.specs.Items.{item}
+use Rattle.corral.specs.Held.{names, weights}
+use Rattle.corral.specs.Moments.{AreMoments, IsLevel}
+
+-- affinely independent supports, whose weights have a sum within the limit of the solver, with their sums and their potential
+pub record IsBalance (dim : ℕ) (square : ℤ) (items : List WeightedVector) (b : Balance) : Type 0 where
+  pub supports : AreSupports square items
+  pub independent : ¬ AreAffinelyDependent (support_vectors items)
+  pub differences : All (IsDifference dim) (support_vectors items)
+  pub limit : mass items ≤ℤ pos (weight_limit square dim)
+  pub moments : AreMoments items b.moments
+  pub level : IsLevel square items b.level
+
+-- the vectors of candidates
+abbrev pub vectors : List Candidate → List SpacePoint
+vectors candidates = map (λ c. vector_of c.vector) candidates
+
+-- their names
+abbrev pub candidate_names : List Candidate → List Id
+candidate_names candidates = map (λ c. c.id) candidates
+
+-- candidates have the vectors of their items
+abbrev pub AreCandidates : {K P : Type 0} → (P → SpacePoint) → Items K P → List Candidate → Type 0
+AreCandidates place items candidates = All (λ c. vector_of c.vector ≡ item place items c.id) candidates
+
+-- two items are no farther apart than the solver takes
+abbrev pub IsNear : {K P : Type 0} → ℕ → (P → SpacePoint) → Items K P → Id → Id → Type 0
+IsNear dim place items a b = IsVectorWithin (reach dim) (vector (item place items a) (item place items b))
+
+-- the supports on the chosen candidates, none of all candidates being low under them
+pub record IsFound (dim : ℕ) (square : ℤ) (all chosen : List Candidate) (b : Balance) : Type 0 where
+  pub is_part : IsPart chosen all
+  pub named : names b.held.items ≡ candidate_names chosen
+  pub balance : IsBalance dim square (weighted (weights b.held.items) (vectors chosen)) b
+  pub none_low : All (λ v. ¬ IsLow square (weighted (weights b.held.items) (vectors chosen)) v) (vectors all)
+
+-- each part that begins with the chosen ones and goes on with some of the rest is refuted
+abbrev pub AreRefuted : ℤ → List Candidate → List Candidate → List Candidate → Type 0
+AreRefuted square all chosen rest =
+    (more : List Candidate) → IsPart more rest → 1 ≤ length (chosen ++ more) → IsRefuted square (vectors all) (vectors (chosen ++ more))

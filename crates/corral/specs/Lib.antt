@@ -1,0 +1,11 @@
+pub mod Parts
+pub mod Supports
+pub mod Rise
+pub mod Laws
+pub mod Items
+pub mod Held
+pub mod Supported
+pub mod Moments
+pub mod Balances
+pub mod Corrals
+pub mod Lowest

@@ -1,0 +1,100 @@
+//! An item of least potential.
+ghost use Rattle.std.specs.Prelude.{◌≡◌, pos, ◌<◌, ◌≤ℤ◌, All, length};
+ghost use Rattle.bounds_model.specs.Space.{vector, dot as product};
+ghost use Rattle.kernel_laws.specs.Vectors.{sum_of};
+ghost use Rattle.bounded_coords.specs.Clouds.{points_of};
+ghost use Rattle.corral.specs.Moments.{AreWithin};
+ghost use Rattle.corral.specs.Lowest.{IsLowest, IsLeastAlong, IsMostAlong};
+
+use crate::items::{Id, Items};
+use crate::sums::Moments;
+use bounded_coords::Cloud;
+use kernel_laws::{Kernel, Potential};
+
+/// The point whose item has the least potential.
+pub(crate) fn lowest_point<K: Kernel, T: Potential>(
+    kernel: &K,
+    cloud: Cloud<'_, K::P>,
+    moments: Moments,
+) -> Id
+    requires { AreWithin T.SQUARE K.DIM moments }
+    ensures { IsLowest {K = K} T.SQUARE K.place (Items.Points cloud.entry) moments result }
+{
+    let origin = cloud.at(0);
+    let mut least = moments.potential::<K, T>(kernel, kernel.diff(origin, origin));
+    let mut place = 0;
+    for i in 1..cloud.len() {
+        let potential = moments.potential::<K, T>(kernel, kernel.diff(origin, cloud.at(i)));
+        if potential < least {
+            least = potential;
+            place = i;
+        }
+    }
+    Id {
+        first: place,
+        second: place,
+    }
+}
+
+/// The difference with the least potential for distances: from a point of q that is farthest along the weighted sum to a point
+/// of p that is least far.
+pub(crate) fn lowest_difference<K: Kernel, T: Potential>(
+    kernel: &K,
+    p: Cloud<'_, K::P>,
+    q: Cloud<'_, K::P>,
+    moments: Moments,
+) -> Id
+    requires within { AreWithin T.SQUARE K.DIM moments }
+    requires square { T.SQUARE ≡ pos 0 }
+    ensures { IsLowest {K = K} T.SQUARE K.place (Items.Differences p.entry q.entry) moments result }
+{
+    let origin = q.at(0);
+    Id {
+        first: least_along::<K, T>(kernel, origin, p, moments),
+        second: most_along::<K, T>(kernel, origin, q, moments),
+    }
+}
+
+/// The point of a cloud that is least far along the weighted sum, as seen from the origin.
+fn least_along<K: Kernel, T: Potential>(
+    kernel: &K,
+    origin: &K::P,
+    cloud: Cloud<'_, K::P>,
+    moments: Moments,
+) -> u32
+    requires { AreWithin T.SQUARE K.DIM moments }
+    ensures { IsLeastAlong K.place origin.now (points_of cloud.entry) (sum_of moments.sum) result }
+{
+    let mut least = moments.along::<K, T>(kernel.diff(origin, cloud.at(0)));
+    let mut place = 0;
+    for i in 1..cloud.len() {
+        let along = moments.along::<K, T>(kernel.diff(origin, cloud.at(i)));
+        if along < least {
+            least = along;
+            place = i;
+        }
+    }
+    place
+}
+
+/// The point of a cloud that is farthest along the weighted sum, as seen from the origin.
+fn most_along<K: Kernel, T: Potential>(
+    kernel: &K,
+    origin: &K::P,
+    cloud: Cloud<'_, K::P>,
+    moments: Moments,
+) -> u32
+    requires { AreWithin T.SQUARE K.DIM moments }
+    ensures { IsMostAlong K.place origin.now (points_of cloud.entry) (sum_of moments.sum) result }
+{
+    let mut most = moments.along::<K, T>(kernel.diff(origin, cloud.at(0)));
+    let mut place = 0;
+    for i in 1..cloud.len() {
+        let along = moments.along::<K, T>(kernel.diff(origin, cloud.at(i)));
+        if along > most {
+            most = along;
+            place = i;
+        }
+    }
+    place
+}

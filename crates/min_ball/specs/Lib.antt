@@ -1,0 +1,3 @@
+pub mod Balls
+pub mod Sums
+pub mod SmallestBalls

@@ -1,0 +1,48 @@
+//! A ball with the supports that hold it in place.
+ghost use Rattle.std.specs.Prelude.{◌≡◌, map};
+ghost use Rattle.bounded_coords.specs.Clouds.{points_of};
+ghost use Rattle.min_ball.specs.Balls.{listed, places, IsHeld, IsHeld-prop};
+
+use crate::sums::Sums;
+use bounded_coords::Cloud;
+use corral::{Items, Support, settle};
+use exact_fractions::Frac;
+use kernel_laws::{BallPotential, Kernel};
+
+/// The smallest ball around some points: a circle in the plane, a sphere in space. It borrows the points.
+#[derive(Drop)]
+pub struct Ball<'a, K: Kernel> {
+    pub(crate) support: Support<'a, K>,
+    pub(crate) size: Frac,
+    ghost held: { IsHeld K.DIM (places K.place support) (listed support) size } by { IsHeld-prop K.DIM (places K.place support) (listed support) size },
+}
+
+impl<'a, K: Kernel> Ball<'a, K> {
+    ghost use Rattle.min_ball.specs.SmallestBalls.{points_in, support_of, size_of};
+
+    /// The smallest ball around the points of a cloud.
+    pub(crate) fn around(kernel: K, cloud: Cloud<'a, K::P>) -> Self
+        ensures { points_in result ≡ points_of cloud.entry }
+    {
+        let support = settle::<K, BallPotential>(kernel, Items::Points(cloud));
+        let sums = Sums::over(&kernel, &support);
+        let size = Frac::new(sums.moment, 2 * sums.weight);
+        Ball { support, size }
+    }
+
+    /// The points that hold the ball in place, with their weights: the ball's centre is their weighted mean.
+    pub fn support(&self) -> &Support<'a, K>
+        ensures value { result.now ≡ support_of self.now }
+        ensures held { IsHeld K.DIM (map K.place (points_in self.now)) (listed result.now) (size_of self.now) }
+    {
+        &self.support
+    }
+
+    /// The squared radius.
+    pub fn size(&self) -> Frac
+        ensures value { result ≡ size_of self.now }
+        ensures held { IsHeld K.DIM (map K.place (points_in self.now)) (listed (support_of self.now)) result }
+    {
+        self.size
+    }
+}

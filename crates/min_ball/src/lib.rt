@@ -1,0 +1,17 @@
+//! The smallest circle around points of the plane, and the smallest sphere around points of space.
+//!
+//! - `enclosing`: the two calls
+//! - `ball`: a ball with the supports that hold it in place
+//! - `answers`: the ball as an answer
+//! - `sums`: what the size and the centre are computed from
+#![tactic(auto)]
+
+mod answers;
+mod ball;
+mod enclosing;
+mod sums;
+#[cfg(test)]
+mod tests;
+
+pub use ball::Ball;
+pub use enclosing::{circle, sphere};
