@@ -1,9 +1,8 @@
 //! Sets with many ties, whose supports are judged by the definition alone.
-ghost use Rattle.std.specs.Prelude.{◌≤◌, length};
 
 use crate::{Items, Support, settle};
 use arrayvec::ArrayVec;
-use bounded_coords::{Point2, Point3, Points2, Points3};
+use bounded_coords::{Cloud2, Cloud3, Point2, Point3, Points2, Points3};
 use kernel_laws::{BallPotential, NormPotential, Plane, Space};
 use std::alloc::Global;
 
@@ -144,7 +143,7 @@ fn product(a: Place, b: Place) -> i64 {
         .wrapping_add(a.2.wrapping_mul(b.2))
 }
 
-/// The sum of the weights times (0, 0, 1), say, and the weighted sum.
+/// The sum of the weights, and the weighted sum.
 fn sums(supports: &[Weighted]) -> (i64, Place) {
     let mut mass = 0i64;
     let mut sum = (0i64, 0i64, 0i64);
@@ -205,20 +204,24 @@ fn small(weight: u128) -> i64 {
     if weight < 1 << 40 { weight as i64 } else { 0 }
 }
 
-/// The place of a point.
+/// The place of a point of the plane.
+fn flat_place(p: &Point2) -> Place {
+    (p.x() as i64, p.y() as i64, 0)
+}
+
+/// The place of a point of space.
 fn place(p: &Point3) -> Place {
     (p.x() as i64, p.y() as i64, p.z() as i64)
 }
 
 /// The supports of points of the plane, as seen from the first point.
-fn plane_supports(points: &[Place], s: &Support<'_, Plane>) -> ArrayVec<Weighted, 4>
-    requires { 1 ≤ length points.now }
-{
+fn plane_supports(cloud: Cloud2<'_>, s: &Support<'_, Plane>) -> ArrayVec<Weighted, 4> {
+    let origin = cloud.at(0);
     let mut supports = ArrayVec::new();
     for i in 0..s.len() {
         let p = s.first(i);
         let _ = supports.try_push(Weighted {
-            vector: way(points[0], (p.x() as i64, p.y() as i64, 0)),
+            vector: way(flat_place(origin), flat_place(p)),
             weight: small(s.weight(i)),
         });
     }
@@ -226,13 +229,12 @@ fn plane_supports(points: &[Place], s: &Support<'_, Plane>) -> ArrayVec<Weighted
 }
 
 /// The supports of points of space, as seen from the first point.
-fn space_supports(points: &[Place], s: &Support<'_, Space>) -> ArrayVec<Weighted, 4>
-    requires { 1 ≤ length points.now }
-{
+fn space_supports(cloud: Cloud3<'_>, s: &Support<'_, Space>) -> ArrayVec<Weighted, 4> {
+    let origin = cloud.at(0);
     let mut supports = ArrayVec::new();
     for i in 0..s.len() {
         let _ = supports.try_push(Weighted {
-            vector: way(points[0], place(s.first(i))),
+            vector: way(place(origin), place(s.first(i))),
             weight: small(s.weight(i)),
         });
     }
@@ -279,7 +281,7 @@ fn circles(rt: HostRuntime) {
         let points = in_plane(rt.alloc(), places);
         let cloud = points.cloud().expect(&rt, "there are points");
         let s = settle::<Plane, BallPotential>(Plane, Items::Points(cloud));
-        let supports = plane_supports(places, &s);
+        let supports = plane_supports(cloud, &s);
         assert_eq!(rt; s.len(), *count, "the number of supports of {places:?}");
         assert!(rt;
             settle_points(places, supports.as_slice()),
@@ -294,7 +296,7 @@ fn spheres(rt: HostRuntime) {
         let points = in_space(rt.alloc(), places);
         let cloud = points.cloud().expect(&rt, "there are points");
         let s = settle::<Space, BallPotential>(Space, Items::Points(cloud));
-        let supports = space_supports(places, &s);
+        let supports = space_supports(cloud, &s);
         assert!(rt;
             settle_points(places, supports.as_slice()),
             "the supports of {places:?}"

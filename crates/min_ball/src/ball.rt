@@ -28,7 +28,7 @@ impl<'a, K: Kernel> Ball<'a, K> {
     /// The ball that settled supports hold.
     pub(crate) fn new(kernel: K, support: Support<'a, K>) -> Self
         requires { IsSettled K.DIM K.place (items_of support) (supports_of support) }
-        ensures { result.support ≡ support }
+        ensures { result.support ≡ support.entry }
     {
         Ball { kernel, support }
     }
