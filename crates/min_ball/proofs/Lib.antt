@@ -1,1 +1,7 @@
+pub mod Coordinates
 pub mod SumSizes
+pub mod SupportSums
+pub mod SeenFromFirst
+pub mod HeldBalls
+pub mod Passing
+pub mod Centres

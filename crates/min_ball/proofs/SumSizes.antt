@@ -1,21 +1,79 @@
--- The sizes of what the sums of a ball are computed from, as numerals: one set for the plane, one for space.
-use Rattle.std.proofs.Common.{◌≡◌, subst, ℕ, ◌*◌, ◌^◌, ◌⊎◌, inl, inr, ℤ}
+-- How large sums over weighted points are.
+use Rattle.std.proofs.Common.{◌≡◌, refl, sym, subst, ap, ℕ, ◌+◌, ◌*◌, ◌^◌, ◌≤◌, ◌⊎◌, inl, inr, ℤ, pos, ◌+ℤ◌, ◌*ℤ◌, arith, le_trans, mul-le-mul, le_refl}
 use Rattle.integers.specs.Size.{Size}
-use Rattle.bounds_model.specs.Space.{SpacePoint}
+use Rattle.integers.proofs.Sizes.{size_add, size_mul, size_unsigned, size_between, above_size, below_size}
+use Rattle.bounds_model.specs.Numbers.{IsWithin}
+use Rattle.bounds_model.specs.Space.{SpacePoint, squared_length}
 use Rattle.kernel_laws.specs.Limits.{IsVectorWithin, reach, ball_limit}
-use Rattle.min_ball.specs.Sums.{spread_limit}
+use Rattle.min_ball.specs.Sums.{IsInRange, Adds, squared_reach}
+use Rattle.min_ball.proofs.Coordinates.{same_point}
 
--- a vector within l, a sum within m, a mass and a weight of at most t, and a weighted sum of squares of at most q
-pub record SumSizes (l m t q : ℕ) (v p : SpacePoint) (w total s : ℤ) : Type 0 where
-  pub vector : IsVectorWithin l v
-  pub pull : IsVectorWithin m p
-  pub weight : Size t w
-  pub mass : Size t total
-  pub spread : Size q s
+-- ---- the limits as numerals
 
--- the sizes by the dimension
-pub sum_sizes : (dim : ℕ) (v p : SpacePoint) (w total s : ℤ) → (dim ≡ 2) ⊎ (dim ≡ 3)
-    → SumSizes (reach dim) (ball_limit dim * reach dim) (ball_limit dim) (spread_limit dim) v p w total s
-    → SumSizes 400000 (2 ^ 80 * 400000) (2 ^ 80) (2 ^ 80 * (3 * (400000 * 400000))) v p w total s ⊎ SumSizes 16000 (2 ^ 92 * 16000) (2 ^ 92) (2 ^ 92 * (3 * (16000 * 16000))) v p w total s
-sum_sizes dim v p w total s (inl e) h = inl (subst (λ d. SumSizes (reach d) (ball_limit d * reach d) (ball_limit d) (spread_limit d) v p w total s) e h)
-sum_sizes dim v p w total s (inr e) h = inr (subst (λ d. SumSizes (reach d) (ball_limit d * reach d) (ball_limit d) (spread_limit d) v p w total s) e h)
+-- weights within their limit
+pub weight_most : {dim n : ℕ} → (dim ≡ 2) ⊎ (dim ≡ 3) → n ≤ ball_limit dim → n ≤ 2 ^ 92
+weight_most {dim} {n} (inl e) h = let fits : n ≤ 2 ^ 80 = subst (λ d. n ≤ ball_limit d) e h in omega arith
+weight_most {dim} {n} (inr e) h = subst (λ d. n ≤ ball_limit d) e h
+
+-- times the greatest coordinate of a vector
+pub pull_most : {dim n : ℕ} → (dim ≡ 2) ⊎ (dim ≡ 3) → n ≤ ball_limit dim → n * reach dim ≤ 2 ^ 111
+pull_most {dim} {n} (inl e) h = subst (λ d. n * reach d ≤ 2 ^ 111) (sym e) (let fits : n ≤ 2 ^ 80 = subst (λ d. n ≤ ball_limit d) e h in omega arith)
+pull_most {dim} {n} (inr e) h = subst (λ d. n * reach d ≤ 2 ^ 111) (sym e) (let fits : n ≤ 2 ^ 92 = subst (λ d. n ≤ ball_limit d) e h in omega arith)
+
+-- times the greatest squared length
+pub moment_most : {dim n : ℕ} → (dim ≡ 2) ⊎ (dim ≡ 3) → n ≤ ball_limit dim → n * squared_reach dim ≤ 2 ^ 122
+moment_most {dim} {n} (inl e) h = subst (λ d. n * squared_reach d ≤ 2 ^ 122) (sym e) (let fits : n ≤ 2 ^ 80 = subst (λ d. n ≤ ball_limit d) e h in omega arith)
+moment_most {dim} {n} (inr e) h = subst (λ d. n * squared_reach d ≤ 2 ^ 122) (sym e) (let fits : n ≤ 2 ^ 92 = subst (λ d. n ≤ ball_limit d) e h in omega arith)
+
+-- ---- one point more
+
+distributes : (t w r : ℕ) → t * r + w * r ≡ (t + w) * r
+distributes t w r = omega arith
+
+size_more_weight : (t w r : ℕ) {a x : ℤ} → Size (t * r) a → Size r x → Size ((t + w) * r) (a +ℤ pos w *ℤ x)
+size_more_weight t w r {a} {x} h k = subst (λ n. Size n (a +ℤ pos w *ℤ x)) (distributes t w r) (size_add h (size_mul (size_unsigned w (le_refl w)) k))
+
+more_moment : (t w q m r : ℕ) → m ≤ t * r → q ≤ r → m + w * q ≤ (t + w) * r
+more_moment t w q m r h k = let product : w * q ≤ w * r = mul-le-mul (le_refl w) k in omega (arith, distributes t w r)
+
+-- the moment with one point more fits
+pub moment_fits : {dim : ℕ} (t w q m : ℕ) → (dim ≡ 2) ⊎ (dim ≡ 3) → t + w ≤ ball_limit dim → m ≤ t * squared_reach dim → q ≤ squared_reach dim → m + w * q ≤ 2 ^ 122
+moment_fits {dim} t w q m dims limit h k = le_trans (more_moment t w q m (squared_reach dim) h k) (moment_most dims limit)
+
+-- sums with one point more are in range
+pub range_more : {dim : ℕ} (t w q m : ℕ) {a b c x y z : ℤ} {v : SpacePoint}
+    → IsInRange dim (record { weight = t; pull = record { x = a; y = b; z = c }; moment = m }) → IsVectorWithin (reach dim) v → t + w ≤ ball_limit dim
+    → q ≤ squared_reach dim → x ≡ a +ℤ pos w *ℤ v.x → y ≡ b +ℤ pos w *ℤ v.y → z ≡ c +ℤ pos w *ℤ v.z
+    → IsInRange dim (record { weight = t + w; pull = record { x = x; y = y; z = z }; moment = m + w * q })
+range_more {dim} t w q m range within limit most in_x in_y in_z = record {
+  weight = limit;
+  pull = record {
+    x = subst (Size ((t + w) * reach dim)) (sym in_x) (size_more_weight t w (reach dim) range.pull.x within.x);
+    y = subst (Size ((t + w) * reach dim)) (sym in_y) (size_more_weight t w (reach dim) range.pull.y within.y);
+    z = subst (Size ((t + w) * reach dim)) (sym in_z) (size_more_weight t w (reach dim) range.pull.z within.z);
+  };
+  moment = more_moment t w q m (squared_reach dim) range.moment most;
+}
+
+moment_adds : (m w q : ℕ) (s : ℤ) → pos q ≡ s → pos (m + w * q) ≡ pos m +ℤ pos w *ℤ s
+moment_adds m w q s e = ap (λ v. pos m +ℤ v) (ap (λ v. pos w *ℤ v) e)
+
+-- and add it
+pub adds_more : (t w q m : ℕ) {a b c x y z : ℤ} {v : SpacePoint}
+    → pos q ≡ squared_length v → x ≡ a +ℤ pos w *ℤ v.x → y ≡ b +ℤ pos w *ℤ v.y → z ≡ c +ℤ pos w *ℤ v.z
+    → Adds w v (record { weight = t; pull = record { x = a; y = b; z = c }; moment = m }) (record { weight = t + w; pull = record { x = x; y = y; z = z }; moment = m + w * q })
+adds_more t w q m {v = v} is in_x in_y in_z = record {
+  weight = refl;
+  pull = same_point in_x in_y in_z;
+  moment = moment_adds m w q (squared_length v) is;
+}
+
+-- ---- ranges
+
+-- a number of at most n lies between -n and n
+pub within_size : {n : ℕ} {z : ℤ} → Size n z → IsWithin n z
+within_size h = record { low = above_size h; high = below_size h }
+
+-- and back
+pub size_of_within : {n : ℕ} {z : ℤ} → IsWithin n z → Size n z
+size_of_within h = size_between h.low h.high

@@ -1,15 +1,42 @@
--- What a ball is around, and what holds it.
-use Rattle.std.specs.Prelude.{List}
-use Rattle.bounds_model.specs.BallAnswer.{Weighted}
+-- Balls that supports hold in place.
+use Rattle.std.specs.Prelude.{◌≡◌, ℕ, ◌+◌, ◌<◌, ℤ, pos, ◌≤ℤ◌, List, All, length, map}
+use Rattle.std.specs.Coded.{Coded-set, coded_ℕ, coded_ℤ, le_prop}
+use lib.Dec.{T_prop}
+use Rattle.bounds_model.specs.Numbers.{HasCount}
+use Rattle.bounds_model.specs.Space.{SpacePoint}
+use Rattle.bounds_model.specs.Fractions.{Fraction, SameValue}
+use Rattle.bounds_model.specs.Places.{IsFraction}
+use Rattle.bounds_model.specs.BallAnswer.{Weighted, weight_sum, supported_size, IsOnBall, IsNotOutside}
+use Rattle.kernel_laws.specs.Limits.{ball_limit}
+use Rattle.corral.specs.declared.holding.Held.{Held}
+use Rattle.corral.specs.declared.holding.Support.{Support}
 use Rattle.corral.specs.Items.{first_points}
 use Rattle.corral.specs.Supported.{items_of, supports_of}
-use Rattle.min_ball.specs.declared.ball.Ball.{Ball}
-use Rattle.min_ball.specs.Settled.{numbers}
 
--- the points that the ball is around
-abbrev pub around : {K P : Type 0} {g : _} → Ball K P g → List P
-around b = first_points (items_of b.support)
+-- the coordinates of the points that supports are chosen from
+abbrev pub places : {K P : Type 0} {g : _} → (P → SpacePoint) → Support K P g → List SpacePoint
+places place s = map place (first_points (items_of s))
 
--- the numbers of its supports, with their weights
-abbrev pub numbers_of : {K P : Type 0} {g : _} → Ball K P g → List Weighted
-numbers_of b = numbers (supports_of b.support)
+-- a support as an answer lists it: the number of a point with its weight
+abbrev pub weighted_point : Held → Weighted
+weighted_point held = record { point = held.id.first; weight = pos held.weight }
+
+-- all supports, in order
+abbrev pub listed : {K P : Type 0} {g : _} → Support K P g → List Weighted
+listed s = map weighted_point (supports_of s)
+
+-- 1 to dim + 1 weighted points hold a ball of this squared radius, in lowest terms, in place around all points: each of them is on
+-- the ball around their weighted mean, and no point is outside
+pub record IsHeld (dim : ℕ) (points : List SpacePoint) (supports : List Weighted) (size : Fraction) : Type 0 where
+  pub count : HasCount 1 (dim + 1) supports
+  pub numbers : All (λ s. s.point < length points) supports
+  pub weights : All (λ s. pos 1 ≤ℤ s.weight) supports
+  pub weight_limit : weight_sum supports ≤ℤ pos (ball_limit dim)
+  pub on_ball : All (IsOnBall points supports) supports
+  pub none_outside : All (IsNotOutside points supports) points
+  pub lowest : IsFraction size
+  pub size_is : SameValue size (supported_size points supports)
+
+-- this holds in one way at most
+pub IsHeld-prop : (dim : ℕ) (points : List SpacePoint) (supports : List Weighted) (size : Fraction) → IsProp (IsHeld dim points supports size)
+IsHeld-prop dim points supports size = hlevel (le_prop, T_prop, Coded-set coded_ℕ, Coded-set coded_ℤ)

@@ -1,3 +1,3 @@
-pub mod Settled
 pub mod Balls
 pub mod Sums
+pub mod SmallestBalls

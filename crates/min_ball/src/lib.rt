@@ -1,15 +1,17 @@
-//! The smallest circle and the smallest sphere around points, CGAL's `Min_circle_2` and `Min_sphere_d` in exact numbers.
+//! The smallest circle around points of the plane, and the smallest sphere around points of space.
 //!
-//! - `smallest`: the smallest circle and the smallest sphere
-//! - `ball`: a ball by its supports
-//! - `sums`: what its size and its centre are computed from
+//! - `enclosing`: the two calls
+//! - `ball`: a ball with the supports that hold it in place
+//! - `answers`: the ball as an answer
+//! - `sums`: what the size and the centre are computed from
 #![tactic(auto)]
 
+mod answers;
 mod ball;
-mod smallest;
+mod enclosing;
 mod sums;
 #[cfg(test)]
 mod tests;
 
 pub use ball::Ball;
-pub use smallest::{circle, sphere};
+pub use enclosing::{circle, sphere};

@@ -1,76 +1,88 @@
-//! What the size and the centre of a ball are computed from.
-ghost use Rattle.std.specs.Prelude.{◌≡◌, ◌*◌, ◌+ℤ◌, ◌*ℤ◌, pos, map};
+//! Sums over the supports of a ball.
+ghost use Rattle.std.specs.Prelude.{◌≡◌, ◌+◌, ◌*◌, ◌≤◌, ◌^◌, ◌+ℤ◌, ◌*ℤ◌, ◌≤ℤ◌, pos};
 ghost use Rattle.integers.specs.Size.{Size};
-ghost use Rattle.bounds_model.specs.Space.{origin, plus, times, squared_length};
-ghost use Rattle.kernel_laws.specs.Vectors.{vector_of, sum_of};
-ghost use Rattle.kernel_laws.specs.Limits.{IsVectorWithin, reach, ball_limit};
-ghost use Rattle.corral.specs.Supported.{items_of, supports_of};
-ghost use Rattle.corral.specs.Items.{first_points};
-ghost use Rattle.min_ball.specs.Settled.{IsSettled, numbers};
-ghost use Rattle.min_ball.specs.Sums.{AreSums, AreWithin, spread_limit};
+ghost use Rattle.bounds_model.specs.Space.{squared_length};
+ghost use Rattle.bounds_model.specs.BallAnswer.{weight_sum};
+ghost use Rattle.kernel_laws.specs.Vectors.{vector_of};
+ghost use Rattle.kernel_laws.specs.Limits.{IsDifference, ball_limit};
+ghost use Rattle.min_ball.specs.Balls.{listed, places};
+ghost use Rattle.min_ball.specs.Sums.{IsInRange, Adds, AreSums, squared_reach};
 
 use corral::Support;
 use kernel_laws::{Kernel, Sum, Vector};
 
-/// Sums over weighted points as seen from the first of them.
-#[derive(Clone, Copy, Debug)]
+/// Sums over weighted points, as seen from one point.
+#[derive(Clone, Copy)]
 pub(crate) struct Sums {
     /// The sum of the weights.
-    pub(crate) mass: i128,
-    /// The weighted sum of the points.
+    pub(crate) weight: u128,
+    /// The weighted sum of the vectors to the points.
     pub(crate) pull: Sum,
-    /// The weighted sum of their squared distances from the first.
-    pub(crate) spread: i128,
+    /// The weighted sum of their squared lengths.
+    pub(crate) moment: u128,
 }
 
 impl Sums {
     /// Over no points.
     fn none() -> Sums
-        ensures mass { result.mass ≡ pos 0 }
-        ensures pull { sum_of result.pull ≡ origin }
-        ensures spread { result.spread ≡ pos 0 }
+        ensures { result ≡ record { weight = 0; pull = record { x = pos 0; y = pos 0; z = pos 0 }; moment = 0 } }
     {
         Sums {
-            mass: 0,
+            weight: 0,
             pull: Sum { x: 0, y: 0, z: 0 },
-            spread: 0,
+            moment: 0,
         }
     }
 
-    /// With one point more.
-    fn with<K: Kernel>(self, kernel: &K, weight: i128, v: Vector) -> Sums
-        requires mass { Size (ball_limit K.DIM) self.mass }
-        requires pull { IsVectorWithin (ball_limit K.DIM * reach K.DIM) (sum_of self.pull) }
-        requires spread { Size (spread_limit K.DIM) self.spread }
-        requires weight { Size (ball_limit K.DIM) weight }
-        requires vector { IsVectorWithin (reach K.DIM) (vector_of v) }
-        ensures mass { result.mass ≡ (weight +ℤ self.mass) }
-        ensures pull { sum_of result.pull ≡ plus (times weight (vector_of v)) (sum_of self.pull) }
-        ensures spread { result.spread ≡ ((weight *ℤ squared_length (vector_of v)) +ℤ self.spread) }
+    /// With one point more, which has this weight and vector.
+    fn with<K: Kernel>(self, kernel: &K, weight: u128, to: Vector) -> Sums
+        requires range { IsInRange K.DIM self }
+        requires vector { IsDifference K.DIM (vector_of to) }
+        requires limit { self.weight + weight ≤ ball_limit K.DIM }
+        ensures range { IsInRange K.DIM result }
+        ensures adds { Adds weight (vector_of to) self result }
     {
         Sums {
-            mass: self.mass + weight,
+            weight: self.weight + weight,
             pull: Sum {
-                x: self.pull.x + weight * v.x as i128,
-                y: self.pull.y + weight * v.y as i128,
-                z: self.pull.z + weight * v.z as i128,
+                x: plus(self.pull.x, weight, to.x),
+                y: plus(self.pull.y, weight, to.y),
+                z: plus(self.pull.z, weight, to.z),
             },
-            spread: self.spread + weight * kernel.dot(v, v),
+            moment: self.moment + weight * squared(kernel, to),
         }
+    }
+
+    /// Over all supports, as seen from the first.
+    pub(crate) fn over<K: Kernel>(kernel: &K, support: &Support<'_, K>) -> Sums
+        requires { weight_sum (listed support.now) ≤ℤ pos (ball_limit K.DIM) }
+        ensures { AreSums K.DIM (places K.place support.now) (listed support.now) result }
+    {
+        let first = support.first(0);
+        let mut sums = Sums::none();
+        'add: for i in 0..support.len() {
+            let to = kernel.diff(first, support.first(i));
+            sums = sums.with(kernel, support.weight(i), to);
+        }
+        sums
     }
 }
 
-/// The sums over supports.
-pub(crate) fn gather<K: Kernel>(kernel: &K, support: &Support<'_, K>) -> Sums
-    requires { IsSettled K.DIM K.place (items_of support.now) (supports_of support.now) }
-    ensures sums { AreSums (map K.place (first_points (items_of support.now))) (numbers (supports_of support.now)) result }
-    ensures within { AreWithin K.DIM result }
+/// A coordinate of a weighted sum, with one vector more.
+fn plus(sum: i128, weight: u128, coordinate: i64) -> i128
+    requires sum { Size (2 ^ 111) sum }
+    requires weight { weight ≤ 2 ^ 92 }
+    requires coordinate { Size 400000 coordinate }
+    ensures { result ≡ sum +ℤ pos weight *ℤ coordinate }
 {
-    let first = support.first(0);
-    let mut sums = Sums::none();
-    for i in 0..support.len() {
-        let v = kernel.diff(first, support.first(i));
-        sums = sums.with(kernel, support.weight(i) as i128, v);
-    }
-    sums
+    sum + weight as i128 * coordinate as i128
+}
+
+/// The squared length of a vector.
+fn squared<K: Kernel>(kernel: &K, v: Vector) -> u128
+    requires { IsDifference K.DIM (vector_of v) }
+    ensures value { pos result ≡ squared_length (vector_of v) }
+    ensures limit { result ≤ squared_reach K.DIM }
+{
+    kernel.dot(v, v) as u128
 }

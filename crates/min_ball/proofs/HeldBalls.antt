@@ -1,0 +1,148 @@
+-- Supports of equal potential, under which no point is low, hold a ball in place.
+use Rattle.std.proofs.Common.{◌≡◌, refl, sym, subst, ◌∙◌, ap, ap₂, ℕ, zero, suc, ◌+◌, ◌<◌, ◌≤◌, ℤ, pos, ◌*◌, ◌*ℤ◌, ◌≤ℤ◌, ◌<ℤ◌, List, [], ◌∷◌, length, get_or, map, arith}
+use Rattle.std.specs.Prelude.{All}
+use Rattle.std.proofs.lemmas.Int.{ints}
+use Rattle.std.proofs.lemmas.List.{length-map, get_or-map}
+use Rattle.std.proofs.lemmas.List.Elements.{All-map}
+use Rattle.std.proofs.lemmas.Option.{slice_get-get_or, get_or_from_slice_get}
+use Rattle.integers.specs.Total.{total}
+use Rattle.integers.proofs.Sums.{total-map}
+use Rattle.bounds_model.specs.Space.{SpacePoint, point_at, vector, plus, times, dot, squared_length, weighted_sum, origin}
+use Rattle.bounds_model.specs.Fractions.{Fraction, SameValue}
+use Rattle.bounds_model.specs.Places.{IsFraction}
+use Rattle.bounds_model.specs.BallAnswer.{Weighted, weight_sum, first_support, seen_support, pull, supported_size, IsOnBall, IsNotOutside}
+use Rattle.bounds_model.specs.Potentials.{WeightedVector, mass, moment, potential, IsLow}
+use Rattle.bounded_coords.specs.declared.cloud.Cloud.{Cloud}
+use Rattle.bounded_coords.specs.Clouds.{points_of}
+use Rattle.kernel_laws.specs.Limits.{ball_limit}
+use Rattle.corral.specs.declared.items.Id.{Id}
+use Rattle.corral.specs.declared.items.Items.{Items}
+use Rattle.corral.specs.declared.items.Items.TheVariants.{Points}
+use Rattle.corral.specs.declared.holding.Held.{Held}
+use Rattle.corral.specs.Items.{IsItem, item, first_points}
+use Rattle.corral.specs.Held.{AreHeld, weighted_item, weighted_items}
+use Rattle.corral.specs.Supports.{AreSupports}
+use Rattle.corral.proofs.Moments.{at_least_common, mass_positive}
+use Rattle.min_ball.specs.declared.sums.Sums.{Sums}
+use Rattle.min_ball.specs.Balls.{weighted_point, IsHeld}
+use Rattle.min_ball.specs.Sums.{AreSumsFrom}
+use Rattle.min_ball.proofs.SeenFromFirst.{sum_seen, on_ball_of_same, inside_of_above}
+
+-- ---- lists
+
+-- what holds of a mapped list holds of the list's elements mapped
+all_of_map : {X Y : Type 0} (P : Y → Type 0) (f : X → Y) (xs : List X) → All P (map f xs) → All (λ x. P (f x)) xs
+all_of_map P f xs h k d l = let as_many = length-map xs f in subst P (get_or-map f xs k d (f d) l) (h k (f d) (omega arith))
+
+-- an element that is there is the same with any other in its stead
+any_default : {X : Type 0} (xs : List X) (k : ℕ) (d e : X) → k < length xs → get_or xs k e ≡ get_or xs k d
+any_default xs k d e l = get_or_from_slice_get xs k (get_or xs k d) e (slice_get-get_or xs k d l)
+
+weighted_sum-map : {X Y : Type 0} (weight : Y → ℤ) (at : Y → SpacePoint) (f : X → Y) (xs : List X) → weighted_sum weight at (map f xs) ≡ weighted_sum (λ x. weight (f x)) (λ x. at (f x)) xs
+weighted_sum-map weight at f [] = refl
+weighted_sum-map weight at f (x ∷ xs) = ap (plus (times (weight (f x)) (at (f x)))) (weighted_sum-map weight at f xs)
+
+-- ---- supports among the points of a cloud, with their vectors from point 0
+
+-- the points as items
+abbrev pub cloud_items : (K : Type 0) {P : Type 0} → Cloud P → Items K P
+cloud_items K cloud = Points cloud
+
+-- the sum of their weights
+pub mass_is : {K P : Type 0} (place : P → SpacePoint) (items : Items K P) (held : List Held) → mass (weighted_items place items held) ≡ weight_sum (map weighted_point held)
+mass_is place items held = total-map (λ s. s.weight) (weighted_item place items) held ∙ sym (total-map (λ s. s.weight) weighted_point held)
+
+-- their weighted sum, by that as seen from the first support
+moment_seen : (K : Type 0) {P : Type 0} (place : P → SpacePoint) (cloud : Cloud P) (held : List Held)
+    → moment (weighted_items place (cloud_items K cloud) held)
+    ≡ plus (pull (map place (points_of cloud)) (map weighted_point held))
+    (times (mass (weighted_items place (cloud_items K cloud) held)) (vector (point_at (map place (points_of cloud)) 0) (first_support (map place (points_of cloud)) (map weighted_point held))))
+moment_seen K place cloud held =
+    let items = cloud_items K cloud in
+    let points = map place (points_of cloud) in
+    let supports = map weighted_point held in
+    let f = first_support points supports in
+    let at : Held → SpacePoint = λ s. point_at points s.id.first in
+    let weight : Held → ℤ = λ s. pos s.weight in
+    weighted_sum-map (λ (s : WeightedVector). s.weight) (λ s. s.vector) (weighted_item place items) held
+    ∙ sum_seen weight at (point_at points 0) f held
+    ∙ ap₂ (λ s t. plus s (times t (vector (point_at points 0) f)))
+    (sym (weighted_sum-map (λ (s : Weighted). s.weight) (seen_support points supports) weighted_point held))
+    (sym (total-map (λ (s : WeightedVector). s.weight) (weighted_item place items) held))
+
+-- they are on the ball
+supports_on_ball : (K : Type 0) {P : Type 0} (place : P → SpacePoint) (cloud : Cloud P) (held : List Held) → AreSupports (pos 1) (weighted_items place (cloud_items K cloud) held)
+    → All (IsOnBall (map place (points_of cloud)) (map weighted_point held)) (map weighted_point held)
+supports_on_ball K place cloud [] h = absurd (let some = h.some in omega arith)
+supports_on_ball K place cloud (first ∷ rest) h =
+    let items = cloud_items K cloud in
+    let held = first ∷ rest in
+    let points = map place (points_of cloud) in
+    let supports = map weighted_point held in
+    let weighted = weighted_items place items held in
+    let f = first_support points supports in
+    let equal = all_of_map (λ (a : WeightedVector). All (λ b. potential (pos 1) weighted a.vector ≡ potential (pos 1) weighted b.vector) weighted) (weighted_item place items) held h.equal in
+    All-map (IsOnBall points supports) weighted_point held (λ k d l.
+    let p = point_at points (get_or held k d).id.first in
+    subst (λ m. pos 2 *ℤ dot (vector f p) (pull points supports) ≡ m *ℤ squared_length (vector f p)) (mass_is place items held)
+    (on_ball_of_same (mass weighted) (point_at points 0) f p (pull points supports) (moment weighted) (moment_seen K place cloud held) (equal k d l 0 (weighted_item place items first) (omega arith))))
+
+-- no point is outside
+none_outside : (K : Type 0) {P : Type 0} (place : P → SpacePoint) (cloud : Cloud P) (held : List Held) → AreSupports (pos 1) (weighted_items place (cloud_items K cloud) held)
+    → ((id : Id) → IsItem (cloud_items K cloud) id → ¬ IsLow (pos 1) (weighted_items place (cloud_items K cloud) held) (item place (cloud_items K cloud) id))
+    → All (IsNotOutside (map place (points_of cloud)) (map weighted_point held)) (map place (points_of cloud))
+none_outside K place cloud [] h none_low k d l = absurd (let some = h.some in omega arith)
+none_outside K place cloud (first ∷ rest) h none_low k d l =
+    let items = cloud_items K cloud in
+    let held = first ∷ rest in
+    let points = map place (points_of cloud) in
+    let supports = map weighted_point held in
+    let weighted = weighted_items place items held in
+    let f = first_support points supports in
+    let p = point_at points k in
+    let as_many = length-map (points_of cloud) place in
+    let listed : k < length (points_of cloud) = omega arith in
+    let above = at_least_common (pos 1) weighted (potential (pos 1) weighted (vector (point_at points 0) f)) (λ j e m. h.equal j e m 0 (weighted_item place items first) (omega arith)) (vector (point_at points 0) p)
+    (none_low (record { first = k; second = k }) (listed, refl)) in
+    subst (IsNotOutside points supports) (any_default points k d origin l)
+    (subst (λ m. (m *ℤ squared_length (vector f p)) ≤ℤ (pos 2 *ℤ dot (vector f p) (pull points supports))) (mass_is place items held)
+    (inside_of_above (mass weighted) (point_at points 0) f p (pull points supports) (moment weighted) (moment_seen K place cloud held) above))
+
+-- ---- the ball
+
+-- the sum of their weights is at least 1
+pub some_weight : {K P : Type 0} (place : P → SpacePoint) (items : Items K P) (held : List Held) (sums : Sums) → AreSupports (pos 1) (weighted_items place items held)
+    → pos sums.weight ≡ weight_sum (map weighted_point held) → 1 ≤ sums.weight
+some_weight place items held sums h e =
+    let some = subst (λ m. pos 0 <ℤ m) (mass_is place items held ∙ sym e) (mass_positive (weighted_items place items held) h.some h.weights) in
+    conclude sums.weight some
+  where
+    conclude : (n : ℕ) → pos 0 <ℤ pos n → 1 ≤ n
+    conclude n h = omega (arith, ints)
+
+-- the size that the sums give is the supported one
+pub size_of_sums : (points : List SpacePoint) (supports : List Weighted) (sums : Sums) (size : Fraction) → AreSumsFrom (first_support points supports) points supports sums
+    → SameValue size (record { n = pos sums.moment; d = pos (2 * sums.weight) }) → SameValue size (supported_size points supports)
+size_of_sums points supports sums size h = subst (SameValue size) (ap₂ (λ n d. record { n = n; d = pos 2 *ℤ d }) h.moment h.weight)
+
+-- supports under which nothing is low hold a ball
+pub held_by_supports : (K : Type 0) {P : Type 0} (dim : ℕ) (place : P → SpacePoint) (cloud : Cloud P) (items : Items K P) (held : List Held) (size : Fraction)
+    → items ≡ cloud_items K cloud → AreHeld dim (cloud_items K cloud) held → AreSupports (pos 1) (weighted_items place (cloud_items K cloud) held)
+    → (mass (weighted_items place (cloud_items K cloud) held)) ≤ℤ pos (ball_limit dim)
+    → ((id : Id) → IsItem (cloud_items K cloud) id → ¬ IsLow (pos 1) (weighted_items place (cloud_items K cloud) held) (item place (cloud_items K cloud) id))
+    → IsFraction size → SameValue size (supported_size (map place (first_points items)) (map weighted_point held))
+    → IsHeld dim (map place (first_points items)) (map weighted_point held) size
+held_by_supports K {P} dim place cloud items held size is are_held supports limit none_low lowest size_is =
+    subst (λ (items : Items K P). SameValue size (supported_size (map place (first_points items)) (map weighted_point held)) → IsHeld dim (map place (first_points items)) (map weighted_point held) size) (sym is)
+    (λ size_is. let as_many = length-map held weighted_point in record {
+      count = record { at_least = let h = are_held.count.at_least in omega arith; at_most = let h = are_held.count.at_most in omega arith };
+      numbers = All-map (λ (s : Weighted). s.point < length (map place (points_of cloud))) weighted_point held
+          (λ k d l. let named = (are_held.listed k d l).0 in let count = length-map (points_of cloud) place in omega arith);
+      weights = All-map (λ (s : Weighted). pos 1 ≤ℤ s.weight) weighted_point held (all_of_map (λ (s : WeightedVector). pos 1 ≤ℤ s.weight) (weighted_item place (cloud_items K cloud)) held supports.weights);
+      weight_limit = subst (λ m. m ≤ℤ pos (ball_limit dim)) (mass_is place (cloud_items K cloud) held) limit;
+      on_ball = supports_on_ball K place cloud held supports;
+      none_outside = none_outside K place cloud held supports none_low;
+      lowest = lowest;
+      size_is = size_is;
+    })
+    size_is
