@@ -1,7 +1,13 @@
 //! Files and sinks that never fail.
 
-use crate::{Files, Sink, SureFiles, SureSink, load, write_all};
+use crate::{FileBytes, Files, Sink, SureFiles, SureSink, load, write_all};
+use std::alloc::Global;
 use std::test::Fail;
+
+fn whole_file(alloc: Global, files: &mut SureFiles, name: &str) -> Result<FileBytes, Fail> {
+    files.open(name)?;
+    Ok(load(alloc, files, 64)?)
+}
 
 #[test]
 fn names_and_their_bytes(rt: HostRuntime) -> Result<(), Fail> {
@@ -16,8 +22,7 @@ fn names_and_their_bytes(rt: HostRuntime) -> Result<(), Fail> {
         ("absent", b""),
         ("points", b"0 0\n3 1\n"),
     ] {
-        files.open(name)?;
-        let whole = load(alloc, &mut files, 64)?;
+        let whole = whole_file(alloc, &mut files, name)?;
         assert_eq!(rt; whole.as_slice(), bytes, "{name}");
     }
     Ok(())
@@ -29,10 +34,12 @@ fn a_read_goes_as_far_as_the_file(rt: HostRuntime) -> Result<(), Fail> {
     files.add("a", b"12345")?;
     files.open("a")?;
     let mut buf = [b'-'; 3];
-    for (count, bytes) in [(3, b"123".as_slice()), (2, b"453"), (0, b"453")] {
-        assert_eq!(rt; files.read(&mut buf)?, count);
-        assert_eq!(rt; buf.as_slice(), bytes);
-    }
+    assert_eq!(rt; files.read(&mut buf)?, 3);
+    assert_eq!(rt; buf.as_slice(), b"123".as_slice());
+    assert_eq!(rt; files.read(&mut buf)?, 2);
+    assert_eq!(rt; buf.as_slice(), b"453".as_slice());
+    assert_eq!(rt; files.read(&mut buf)?, 0);
+    assert_eq!(rt; buf.as_slice(), b"453".as_slice());
     Ok(())
 }
 
@@ -42,12 +49,12 @@ fn bytes_past_the_room(rt: HostRuntime) -> Result<(), Fail> {
     let mut out = SureSink::new(alloc)?;
     write_all(&mut out, b"front ")?;
     assert_eq!(rt; out.write(b"and more")?, 8);
-    assert_eq!(rt; out.as_slice(), b"front and more");
+    assert_eq!(rt; out.as_slice(), b"front and more".as_slice());
     let many = vec![in alloc; b'x'; 8_388_600]?;
     assert_eq!(rt; out.write(&many)?, 8_388_600);
     assert_eq!(rt; out.as_slice().len(), 8_388_608);
     assert_eq!(rt; out.write(b"later")?, 5);
     assert_eq!(rt; out.as_slice().len(), 8_388_608);
-    assert_eq!(rt; &out.as_slice()[..15], b"front and morex");
+    assert!(rt; out.as_slice().starts_with(b"front and morex"));
     Ok(())
 }

@@ -157,11 +157,7 @@ fn circles(rt: HostRuntime) -> Result<(), Fail> {
             "{:?}",
             row.points
         );
-        assert!(rt;
-            are_supports(answer.supports.as_slice(), row.supports),
-            "{:?}",
-            row.points
-        );
+        assert!(rt; are_supports(answer.supports.as_slice(), row.supports));
     }
     Ok(())
 }
@@ -292,11 +288,7 @@ fn spheres(rt: HostRuntime) -> Result<(), Fail> {
             "{:?}",
             row.points
         );
-        assert!(rt;
-            are_supports(answer.supports.as_slice(), row.supports),
-            "{:?}",
-            row.points
-        );
+        assert!(rt; are_supports(answer.supports.as_slice(), row.supports));
     }
     Ok(())
 }

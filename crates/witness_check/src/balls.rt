@@ -20,9 +20,10 @@ use kernel_laws::{Kernel, Plane, Sign, Space, side};
 use optimality::answer::passing_answers_are_best;
 use witness_format::{BallAnswer2, BallAnswer3, Weighted};
 
-/// Whether the supports hold a circle of this size and centre in place around all points: with its weights, each support is
-/// on the circle around the weighted mean, and no point is outside (Welzl, Smallest enclosing disks; Gärtner's optimality
-/// condition, that the centre is a convex combination of the supports).
+/// Whether the supports hold a circle of this size and centre in place around all points (CGAL manual, Bounding Volumes,
+/// `Min_circle_2`): with its weights, each support is on the circle around the weighted mean, and no point is outside. A circle is
+/// the smallest around points on it exactly where its centre is a weighted mean of them (Seidel's lemma, in Fischer, Gärtner and
+/// Kutz, Fast smallest-enclosing-ball computation in high dimensions).
 pub fn check_circle(cloud: Cloud2<'_>, a: &BallAnswer2) -> bool
     ensures passes { IsTrue result ↔ Passes ask_circle (plane (points_of cloud.entry)) (circle (circle_of a.now)) }
     ensures best { IsTrue result → IsBest ask_circle (plane (points_of cloud.entry)) (circle (circle_of a.now)) }

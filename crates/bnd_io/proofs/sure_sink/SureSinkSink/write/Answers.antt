@@ -1,4 +1,4 @@
-use Rattle.std.proofs.Common.{◌≡◌, ◌∙◌, ap, subst, ◌^◌, ◌-◌, ◌≤◌, min, length, ◌||◌, nat_lt, rules, arith}
+use Rattle.std.proofs.Common.{◌≡◌, ◌∙◌, subst, ◌^◌, ◌-◌, ◌≤◌, min, length, ◌||◌, nat_lt, rules}
 use Rattle.bnd_io.specs.Sure.{SureSinkView, kept_on}
 use Rattle.bnd_io.proofs.Keeping.{kept_bytes, fewer_taken}
 use Rattle.bnd_io.proofs.sure_sink.SureSinkSink.write.Goals as goal
