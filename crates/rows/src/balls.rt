@@ -91,16 +91,14 @@ fn smallest_balls(rt: HostRuntime) -> Result<(), Fail> {
         ),
     ];
     for (words, check, points, lines) in table {
-        for piece in [1, 16] {
-            let (status, answer, err) = run_on(rt.alloc(), words, points, b"", piece)?;
-            assert_eq!(rt; status, Status::Done, "at {points:?}");
-            assert_eq!(rt; err.as_slice().len(), 0, "at {points:?}");
-            let answer = answer.as_slice();
-            assert!(rt; answer.starts_with(lines), "at {points:?} came {answer:?}");
-            let (status, out, _) = run_on(rt.alloc(), check, points, answer, piece)?;
-            assert_eq!(rt; status, Status::Done, "at {points:?}");
-            assert_eq!(rt; out.as_slice(), b"yes\n".as_slice(), "at {points:?}");
-        }
+        let (status, answer, err) = run_on(rt.alloc(), words, points, b"", 16)?;
+        assert_eq!(rt; status, Status::Done, "at {points:?}");
+        assert_eq!(rt; err.as_slice().len(), 0, "at {points:?}");
+        let answer = answer.as_slice();
+        assert!(rt; answer.starts_with(lines), "at {points:?} came {answer:?}");
+        let (status, out, _) = run_on(rt.alloc(), check, points, answer, 16)?;
+        assert_eq!(rt; status, Status::Done, "at {points:?}");
+        assert_eq!(rt; out.as_slice(), b"yes\n".as_slice(), "at {points:?}");
     }
     Ok(())
 }
