@@ -3,10 +3,8 @@ use Rattle.std.proofs.Common.{◌≡◌, refl, sym, subst, ◌∙◌, ap, ap₂,
 use Rattle.std.specs.Prelude.{All, slice_get, Some, IsSomeAnd}
 use Rattle.std.proofs.lemmas.Int.{ints}
 use Rattle.std.proofs.lemmas.List.{take_more, length-map}
-use Rattle.std.proofs.lemmas.Option.{slice_get_within}
-use Rattle.integers.specs.Total.{total}
 use Rattle.integers.proofs.Sums.{total-take_more, total_nonneg_all}
-use Rattle.bounds_model.specs.Space.{SpacePoint, point_at, vector, plus, times, squared_length, weighted_sum, origin}
+use Rattle.bounds_model.specs.Space.{SpacePoint, point_at, vector, plus, times, squared_length, weighted_sum}
 use Rattle.bounds_model.specs.BallAnswer.{Weighted, weight_sum, first_support}
 use Rattle.corral.specs.declared.holding.Held.{Held}
 use Rattle.corral.specs.declared.items.Id.{Id}

@@ -1,4 +1,4 @@
-use Rattle.std.proofs.Common.{◌≡◌, ◌∙◌, sym, ap, ap₂, length, map, pos, [], ◌∷◌, ◌++◌, arith}
+use Rattle.std.proofs.Common.{◌∙◌, sym, ap, ap₂, map, pos, [], ◌∷◌, ◌++◌, arith}
 use Rattle.std.proofs.lemmas.List.{length-map, take_more, map_push}
 use Rattle.bounds_model.specs.BallAnswer.{Weighted}
 use Rattle.corral.specs.Supported.{supports_of}
