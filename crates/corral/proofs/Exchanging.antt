@@ -103,7 +103,7 @@ module _ {K P : Type 0} (dim : ℕ) (square : ℤ) (place : P → SpacePoint) (x
   new_none_low =
       all_unmap (λ v. ¬ IsLow square (weighted_items place xs b.held.items) v) (item place xs) (id ∷ names old)
       (subst (All (λ v. ¬ IsLow square (weighted_items place xs b.held.items) v)) all_vectors_are
-          (subst (λ items. All (λ v. ¬ IsLow square items v) (vectors all)) same h.found.none_low))
+      (subst (λ items. All (λ v. ¬ IsLow square items v) (vectors all)) same h.found.none_low))
 
   -- the value has risen
   pub new_value : IsBelow (value square (weighted_items place xs old)) (value square (weighted_items place xs b.held.items))
@@ -112,7 +112,7 @@ module _ {K P : Type 0} (dim : ℕ) (square : ℤ) (place : P → SpacePoint) (x
     none_low =
         subst (λ vs. All (λ v. ¬ IsLow square (weighted_items place xs b.held.items) v) (item place xs id ∷ vs)) (sym (held_vectors place xs old))
         (subst (All (λ v. ¬ IsLow square (weighted_items place xs b.held.items) v)) all_vectors_are
-            (subst (λ items. All (λ v. ¬ IsLow square items v) (vectors all)) same h.found.none_low));
+        (subst (λ items. All (λ v. ¬ IsLow square items v) (vectors all)) same h.found.none_low));
   })
 
 -- the search does not end without supports

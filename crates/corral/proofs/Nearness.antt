@@ -45,10 +45,11 @@ near_vectors {K} dim place items cs are near =
   where
     All-both : {A : Type 0} (P Q R : A → Type 0) → ((a : A) → P a → Q a → R a) → (xs : List A) → All P xs → All Q xs → All R xs
     All-both P Q R f xs p q k d l = f _ (p k d l) (q k d l)
+
     row : (a : Candidate) → vector_of a.vector ≡ item place items a.id → All (λ (b : Candidate). IsNear {K = K} dim place items a.id b.id) cs → All (λ v. IsVectorWithin (reach dim) (vector (vector_of a.vector) v)) (vectors cs)
     row a e near_a = All-map (λ v. IsVectorWithin (reach dim) (vector (vector_of a.vector) v)) (λ (c : Candidate). vector_of c.vector) cs
         (All-both (λ (b : Candidate). vector_of b.vector ≡ item place items b.id) (λ (b : Candidate). IsNear {K = K} dim place items a.id b.id) (λ (b : Candidate). IsVectorWithin (reach dim) (vector (vector_of a.vector) (vector_of b.vector)))
-            (λ b f h. subst (IsVectorWithin (reach dim)) (ap₂ vector (sym e) (sym f)) h) cs are near_a)
+        (λ b f h. subst (IsVectorWithin (reach dim)) (ap₂ vector (sym e) (sym f)) h) cs are near_a)
 
 -- so the solver takes them
 pub candidates_are_items : {K P : Type 0} (square : ℤ) (dim : ℕ) (place : P → SpacePoint) (items : Items K P) (cs : List Candidate) → AreCandidates place items cs → 1 ≤ length cs → length cs ≤ dim + 2

@@ -40,5 +40,5 @@ pub returns-then-not-is_low-clause-none_low : goal.returns-then-not-is_low-claus
 returns-then-not-is_low-clause-none_low g c =
     subst (λ held. (id : Id) → IsItem {K = g.row.K.Denot} c.args.items id → ¬ IsLow g.T.Potential.SQUARE (weighted_items g.K.Kernel.place c.args.items held) (item g.K.Kernel.place c.args.items id)) (sym c.into_support.ensures.supports)
     (subst (λ xs. (id : Id) → IsItem {K = g.row.K.Denot} xs id → ¬ IsLow g.T.Potential.SQUARE (weighted_items g.K.Kernel.place xs (held_in c.exchange.corral)) (item g.K.Kernel.place xs id)) c.exchange.invariant
-        (λ id named. none_lower g.T.Potential.SQUARE (supports_in g.K.Kernel.place c.exchange.corral) (item g.K.Kernel.place (all_items c.exchange.corral) c.lowest-id.result) (item g.K.Kernel.place (all_items c.exchange.corral) id)
-            (c.lowest-id.ensures.least id named) (λ low. not_both c.if-not-is_low.true (c.is_low.ensures.1 low))))
+    (λ id named. none_lower g.T.Potential.SQUARE (supports_in g.K.Kernel.place c.exchange.corral) (item g.K.Kernel.place (all_items c.exchange.corral) c.lowest-id.result) (item g.K.Kernel.place (all_items c.exchange.corral) id)
+    (c.lowest-id.ensures.least id named) (λ low. not_both c.if-not-is_low.true (c.is_low.ensures.1 low))))

@@ -37,5 +37,5 @@ invariant_of-result g c =
       });
       balanced = subst (λ held. IsBalance g.K.Kernel.DIM g.T.Potential.SQUARE (weighted_items g.K.Kernel.place c.args.items held) (record { held = c.push.new.self; moments = c.with-moments.result; level = to_z w128 (of_z w128 c.potential-level.result) })) (sym whole)
           (subst (λ u. IsBalance g.K.Kernel.DIM g.T.Potential.SQUARE (record { weight = pos 1; vector = u } ∷ []) (record { held = c.push.new.self; moments = c.with-moments.result; level = to_z w128 (of_z w128 c.potential-level.result) })) c.vector-vector.ensures.value
-              (balance_of_one g.K.Kernel.DIM g.T.Potential.SQUARE (vector_of c.vector-vector.result) _ g.T.Potential.zero_or_one g.met.K.Kernel.two_or_three c.vector-vector.ensures.difference sums level));
+          (balance_of_one g.K.Kernel.DIM g.T.Potential.SQUARE (vector_of c.vector-vector.result) _ g.T.Potential.zero_or_one g.met.K.Kernel.two_or_three c.vector-vector.ensures.difference sums level));
     }
