@@ -5,7 +5,7 @@ use Rattle.integers.specs.Total.{total}
 use Rattle.integers.proofs.Identities.{den-ring, read, polys, lits}
 use Rattle.integers.proofs.Order.{combine1}
 use Rattle.bounds_model.specs.Space.{SpacePoint, vector, plus, times, dot, squared_length, weighted_sum}
-use Rattle.min_ball.proofs.Coordinates.{same_point}
+use Rattle.kernel_laws.proofs.Points.{same_point}
 
 -- ---- weighted sums
 
