@@ -1,11 +1,10 @@
 -- The centre of a ball by the sums over its supports.
-use Rattle.std.proofs.Common.{◌≡◌, refl, sym, subst, ◌∙◌, ap, ap₂, ℕ, zero, suc, ◌≤◌, ℤ, pos, ◌+ℤ◌, ◌-ℤ◌, ◌*ℤ◌, List, [], ◌∷◌, map, arith}
-use Rattle.std.proofs.lemmas.Int.{ints}
+use Rattle.std.proofs.Common.{◌≡◌, refl, sym, subst, ◌∙◌, ap, ap₂, ℕ, zero, suc, ℤ, pos, ◌+ℤ◌, ◌-ℤ◌, ◌*ℤ◌, List, [], ◌∷◌, map}
 use Rattle.integers.proofs.Identities.{den-ring, read, polys, lits}
 use Rattle.integers.proofs.Order.{combine1}
 use Rattle.bounds_model.specs.Plane.{PlanePoint, PlaneRatio}
-use Rattle.bounds_model.specs.Space.{SpacePoint, SpaceRatio, point_at, vector, weighted_sum, origin, flat, flat_ratio, SamePlace}
-use Rattle.bounds_model.specs.BallAnswer.{Weighted, weight_sum, first_support, seen_support, pull, supported_centre}
+use Rattle.bounds_model.specs.Space.{SpacePoint, SpaceRatio, point_at, weighted_sum, flat, flat_ratio, SamePlace}
+use Rattle.bounds_model.specs.BallAnswer.{Weighted, first_support, seen_support, pull, supported_centre}
 use Rattle.min_ball.specs.declared.sums.Sums.{Sums}
 use Rattle.min_ball.specs.Sums.{AreSumsFrom}
 

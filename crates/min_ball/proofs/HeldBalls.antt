@@ -1,11 +1,10 @@
 -- Supports of equal potential, under which no point is low, hold a ball in place.
-use Rattle.std.proofs.Common.{◌≡◌, refl, sym, subst, ◌∙◌, ap, ap₂, ℕ, zero, suc, ◌+◌, ◌<◌, ◌≤◌, ℤ, pos, ◌*◌, ◌*ℤ◌, ◌≤ℤ◌, ◌<ℤ◌, List, [], ◌∷◌, length, get_or, map, arith}
+use Rattle.std.proofs.Common.{◌≡◌, refl, sym, subst, ◌∙◌, ap, ap₂, ℕ, ◌<◌, ◌≤◌, ℤ, pos, ◌*◌, ◌*ℤ◌, ◌≤ℤ◌, ◌<ℤ◌, List, [], ◌∷◌, length, get_or, map, arith}
 use Rattle.std.specs.Prelude.{All}
 use Rattle.std.proofs.lemmas.Int.{ints}
-use Rattle.std.proofs.lemmas.List.{length-map, get_or-map}
+use Rattle.std.proofs.lemmas.List.{length-map}
 use Rattle.std.proofs.lemmas.List.Elements.{All-map}
 use Rattle.std.proofs.lemmas.Option.{slice_get-get_or, get_or_from_slice_get}
-use Rattle.integers.specs.Total.{total}
 use Rattle.integers.proofs.Sums.{total-map}
 use Rattle.bounds_model.specs.Space.{SpacePoint, point_at, vector, plus, times, dot, squared_length, weighted_sum, origin}
 use Rattle.bounds_model.specs.Fractions.{Fraction, SameValue}
@@ -22,6 +21,7 @@ use Rattle.corral.specs.declared.holding.Held.{Held}
 use Rattle.corral.specs.Items.{IsItem, item, first_points}
 use Rattle.corral.specs.Held.{AreHeld, weighted_item, weighted_items}
 use Rattle.corral.specs.Supports.{AreSupports}
+use Rattle.corral.proofs.Mapped.{all_unmap}
 use Rattle.corral.proofs.Moments.{at_least_common, mass_positive}
 use Rattle.min_ball.specs.declared.sums.Sums.{Sums}
 use Rattle.min_ball.specs.Balls.{weighted_point, IsHeld}
@@ -29,10 +29,6 @@ use Rattle.min_ball.specs.Sums.{AreSumsFrom}
 use Rattle.min_ball.proofs.SeenFromFirst.{sum_seen, on_ball_of_same, inside_of_above}
 
 -- ---- lists
-
--- what holds of a mapped list holds of the list's elements mapped
-all_of_map : {X Y : Type 0} (P : Y → Type 0) (f : X → Y) (xs : List X) → All P (map f xs) → All (λ x. P (f x)) xs
-all_of_map P f xs h k d l = let as_many = length-map xs f in subst P (get_or-map f xs k d (f d) l) (h k (f d) (omega arith))
 
 -- an element that is there is the same with any other in its stead
 any_default : {X : Type 0} (xs : List X) (k : ℕ) (d e : X) → k < length xs → get_or xs k e ≡ get_or xs k d
@@ -81,7 +77,7 @@ supports_on_ball K place cloud (first ∷ rest) h =
     let supports = map weighted_point held in
     let weighted = weighted_items place items held in
     let f = first_support points supports in
-    let equal = all_of_map (λ (a : WeightedVector). All (λ b. potential (pos 1) weighted a.vector ≡ potential (pos 1) weighted b.vector) weighted) (weighted_item place items) held h.equal in
+    let equal = all_unmap (λ (a : WeightedVector). All (λ b. potential (pos 1) weighted a.vector ≡ potential (pos 1) weighted b.vector) weighted) (weighted_item place items) held h.equal in
     All-map (IsOnBall points supports) weighted_point held (λ k d l.
     let p = point_at points (get_or held k d).id.first in
     subst (λ m. pos 2 *ℤ dot (vector f p) (pull points supports) ≡ m *ℤ squared_length (vector f p)) (mass_is place items held)
@@ -138,7 +134,7 @@ held_by_supports K {P} dim place cloud items held size is are_held supports limi
       count = record { at_least = let h = are_held.count.at_least in omega arith; at_most = let h = are_held.count.at_most in omega arith };
       numbers = All-map (λ (s : Weighted). s.point < length (map place (points_of cloud))) weighted_point held
           (λ k d l. let named = (are_held.listed k d l).0 in let count = length-map (points_of cloud) place in omega arith);
-      weights = All-map (λ (s : Weighted). pos 1 ≤ℤ s.weight) weighted_point held (all_of_map (λ (s : WeightedVector). pos 1 ≤ℤ s.weight) (weighted_item place (cloud_items K cloud)) held supports.weights);
+      weights = All-map (λ (s : Weighted). pos 1 ≤ℤ s.weight) weighted_point held (all_unmap (λ (s : WeightedVector). pos 1 ≤ℤ s.weight) (weighted_item place (cloud_items K cloud)) held supports.weights);
       weight_limit = subst (λ m. m ≤ℤ pos (ball_limit dim)) (mass_is place (cloud_items K cloud) held) limit;
       on_ball = supports_on_ball K place cloud held supports;
       none_outside = none_outside K place cloud held supports none_low;

@@ -1,6 +1,6 @@
-pub mod Coordinates
 pub mod SumSizes
 pub mod SupportSums
+pub mod Listing
 pub mod SeenFromFirst
 pub mod HeldBalls
 pub mod Passing

@@ -1,23 +1,20 @@
 -- A held ball passes what a checker asks.
-use Rattle.std.proofs.Common.{◌≡◌, refl, sym, subst, ◌∙◌, ap, ap₂, ℕ, zero, suc, ◌+◌, ◌<◌, ◌≤◌, ◌^◌, ℤ, pos, ◌+ℤ◌, ◌-ℤ◌, ◌*ℤ◌, ◌≤ℤ◌, ◌<ℤ◌, List, [], ◌∷◌, length, map, arith}
+use Rattle.std.proofs.Common.{◌≡◌, sym, subst, ℕ, zero, suc, ◌<◌, ◌≤◌, ◌^◌, ℤ, pos, ◌≤ℤ◌, ◌<ℤ◌, List, [], ◌∷◌, length, map, arith}
 use Rattle.std.specs.Prelude.{All}
 use Rattle.std.proofs.lemmas.Int.{ints}
 use Rattle.std.proofs.lemmas.List.{length-map}
 use Rattle.std.proofs.lemmas.List.Elements.{All-head, All-tail}
-use Rattle.integers.specs.Total.{total}
 use Rattle.integers.proofs.Sums.{total_nonneg_all, total_positive}
-use Rattle.integers.proofs.Identities.{den-ring, read, polys, lits}
 use Rattle.bounds_model.specs.Plane.{PlanePoint, PlaneRatio}
-use Rattle.bounds_model.specs.Space.{SpacePoint, SpaceRatio, point_at, vector, plus, times, weighted_sum, origin, flat, flat_ratio, SamePlace}
+use Rattle.bounds_model.specs.Space.{SpacePoint, SpaceRatio, flat, flat_ratio, SamePlace}
 use Rattle.bounds_model.specs.Fractions.{Fraction}
-use Rattle.bounds_model.specs.Places.{IsPlaneRatio, IsSpaceRatio, point_limit, number_limit}
-use Rattle.bounds_model.specs.BallAnswer.{Weighted, weight_sum, first_support, seen_support, pull, supported_centre, IsSupportPlace, PassesCircle, PassesSphere}
+use Rattle.bounds_model.specs.Places.{IsPlaneRatio, IsSpaceRatio, number_limit}
+use Rattle.bounds_model.specs.BallAnswer.{Weighted, weight_sum, supported_centre, IsSupportPlace, PassesCircle, PassesSphere}
 use Rattle.corral.specs.declared.items.Items.{Items}
 use Rattle.corral.specs.declared.items.Items.TheVariants.{Points, Differences}
 use Rattle.corral.specs.Items.{first_points}
 use Rattle.min_ball.specs.declared.sums.Sums.{Sums}
 use Rattle.min_ball.specs.Balls.{IsHeld}
-use Rattle.min_ball.specs.Sums.{AreSumsFrom}
 
 -- ---- the places of supports
 

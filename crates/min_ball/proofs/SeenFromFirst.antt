@@ -1,11 +1,11 @@
 -- Potentials of points as seen from one point say where the points are as seen from another.
-use Rattle.std.proofs.Common.{◌≡◌, refl, sym, subst, ◌∙◌, ap, ap₂, ◌<◌, ◌≤◌, ℤ, pos, ◌+ℤ◌, ◌-ℤ◌, ◌*ℤ◌, ◌≤ℤ◌, ◌<ℤ◌, List, [], ◌∷◌, map, arith}
+use Rattle.std.proofs.Common.{◌≡◌, sym, subst, ap, ℤ, pos, ◌+ℤ◌, ◌-ℤ◌, ◌*ℤ◌, ◌≤ℤ◌, List, [], ◌∷◌, arith}
 use Rattle.std.proofs.lemmas.Int.{ints}
 use Rattle.integers.specs.Total.{total}
 use Rattle.integers.proofs.Identities.{den-ring, read, polys, lits}
 use Rattle.integers.proofs.Order.{combine1}
-use Rattle.bounds_model.specs.Space.{SpacePoint, vector, plus, times, dot, squared_length, weighted_sum, origin}
-use Rattle.min_ball.proofs.Coordinates.{same_point}
+use Rattle.bounds_model.specs.Space.{SpacePoint, vector, plus, times, dot, squared_length, weighted_sum}
+use Rattle.kernel_laws.proofs.Points.{same_point}
 
 -- ---- weighted sums
 

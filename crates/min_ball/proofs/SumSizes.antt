@@ -1,12 +1,11 @@
 -- How large sums over weighted points are.
-use Rattle.std.proofs.Common.{◌≡◌, refl, sym, subst, ap, ℕ, ◌+◌, ◌*◌, ◌^◌, ◌≤◌, ◌⊎◌, inl, inr, ℤ, pos, ◌+ℤ◌, ◌*ℤ◌, arith, le_trans, mul-le-mul, le_refl}
+use Rattle.std.proofs.Common.{◌≡◌, sym, subst, ℕ, ◌+◌, ◌*◌, ◌^◌, ◌≤◌, ◌⊎◌, inl, inr, ℤ, pos, ◌+ℤ◌, ◌*ℤ◌, arith, le_trans, mul-le-mul, le_refl}
 use Rattle.integers.specs.Size.{Size}
 use Rattle.integers.proofs.Sizes.{size_add, size_mul, size_unsigned, size_between, above_size, below_size}
 use Rattle.bounds_model.specs.Numbers.{IsWithin}
-use Rattle.bounds_model.specs.Space.{SpacePoint, squared_length}
+use Rattle.bounds_model.specs.Space.{SpacePoint}
 use Rattle.kernel_laws.specs.Limits.{IsVectorWithin, reach, ball_limit}
-use Rattle.min_ball.specs.Sums.{IsInRange, Adds, squared_reach}
-use Rattle.min_ball.proofs.Coordinates.{same_point}
+use Rattle.min_ball.specs.Sums.{IsInRange, squared_reach}
 
 -- ---- the limits as numerals
 
@@ -53,19 +52,6 @@ range_more {dim} t w q m range within limit most in_x in_y in_z = record {
     z = subst (Size ((t + w) * reach dim)) (sym in_z) (size_more_weight t w (reach dim) range.pull.z within.z);
   };
   moment = more_moment t w q m (squared_reach dim) range.moment most;
-}
-
-moment_adds : (m w q : ℕ) (s : ℤ) → pos q ≡ s → pos (m + w * q) ≡ pos m +ℤ pos w *ℤ s
-moment_adds m w q s e = ap (λ v. pos m +ℤ v) (ap (λ v. pos w *ℤ v) e)
-
--- and add it
-pub adds_more : (t w q m : ℕ) {a b c x y z : ℤ} {v : SpacePoint}
-    → pos q ≡ squared_length v → x ≡ a +ℤ pos w *ℤ v.x → y ≡ b +ℤ pos w *ℤ v.y → z ≡ c +ℤ pos w *ℤ v.z
-    → Adds w v (record { weight = t; pull = record { x = a; y = b; z = c }; moment = m }) (record { weight = t + w; pull = record { x = x; y = y; z = z }; moment = m + w * q })
-adds_more t w q m {v = v} is in_x in_y in_z = record {
-  weight = refl;
-  pull = same_point in_x in_y in_z;
-  moment = moment_adds m w q (squared_length v) is;
 }
 
 -- ---- ranges

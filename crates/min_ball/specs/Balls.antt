@@ -1,5 +1,5 @@
 -- Balls that supports hold in place.
-use Rattle.std.specs.Prelude.{◌≡◌, ℕ, ◌+◌, ◌<◌, ℤ, pos, ◌≤ℤ◌, List, All, length, map}
+use Rattle.std.specs.Prelude.{ℕ, ◌+◌, ◌<◌, pos, ◌≤ℤ◌, List, All, length, map}
 use Rattle.std.specs.Coded.{Coded-set, coded_ℕ, coded_ℤ, le_prop}
 use lib.Dec.{T_prop}
 use Rattle.bounds_model.specs.Numbers.{HasCount}
@@ -14,8 +14,8 @@ use Rattle.corral.specs.Items.{first_points}
 use Rattle.corral.specs.Supported.{items_of, supports_of}
 
 -- the coordinates of the points that supports are chosen from
-abbrev pub places : {K P : Type 0} {g : _} → (P → SpacePoint) → Support K P g → List SpacePoint
-places place s = map place (first_points (items_of s))
+abbrev pub coordinates : {K P : Type 0} {g : _} → (P → SpacePoint) → Support K P g → List SpacePoint
+coordinates place s = map place (first_points (items_of s))
 
 -- a support as an answer lists it: the number of a point with its weight
 abbrev pub weighted_point : Held → Weighted

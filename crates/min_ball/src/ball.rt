@@ -1,7 +1,7 @@
 //! A ball with the supports that hold it in place.
 ghost use Rattle.std.specs.Prelude.{◌≡◌, map};
 ghost use Rattle.bounded_coords.specs.Clouds.{points_of};
-ghost use Rattle.min_ball.specs.Balls.{listed, places, IsHeld, IsHeld-prop};
+ghost use Rattle.min_ball.specs.Balls.{coordinates, listed, IsHeld, IsHeld-prop};
 
 use crate::sums::Sums;
 use bounded_coords::Cloud;
@@ -14,7 +14,7 @@ use kernel_laws::{BallPotential, Kernel};
 pub struct Ball<'a, K: Kernel> {
     pub(crate) support: Support<'a, K>,
     pub(crate) size: Frac,
-    ghost held: { IsHeld K.DIM (places K.place support) (listed support) size } by { IsHeld-prop K.DIM (places K.place support) (listed support) size },
+    ghost held: { IsHeld K.DIM (coordinates K.place support) (listed support) size } by { IsHeld-prop K.DIM (coordinates K.place support) (listed support) size },
 }
 
 impl<'a, K: Kernel> Ball<'a, K> {
@@ -22,7 +22,8 @@ impl<'a, K: Kernel> Ball<'a, K> {
 
     /// The smallest ball around the points of a cloud.
     pub(crate) fn around(kernel: K, cloud: Cloud<'a, K::P>) -> Self
-        ensures { points_in result ≡ points_of cloud.entry }
+        ensures points { points_in result ≡ points_of cloud.entry }
+        ensures held { IsHeld K.DIM (map K.place (points_of cloud.entry)) (listed (support_of result)) (size_of result) }
     {
         let support = settle::<K, BallPotential>(kernel, Items::Points(cloud));
         let sums = Sums::over(&kernel, &support);

@@ -5,7 +5,7 @@ ghost use Rattle.bounds_model.specs.Space.{squared_length};
 ghost use Rattle.bounds_model.specs.BallAnswer.{weight_sum};
 ghost use Rattle.kernel_laws.specs.Vectors.{vector_of};
 ghost use Rattle.kernel_laws.specs.Limits.{IsDifference, ball_limit};
-ghost use Rattle.min_ball.specs.Balls.{listed, places};
+ghost use Rattle.min_ball.specs.Balls.{coordinates, listed};
 ghost use Rattle.min_ball.specs.Sums.{IsInRange, Adds, AreSums, squared_reach};
 
 use corral::Support;
@@ -56,7 +56,7 @@ impl Sums {
     /// Over all supports, as seen from the first.
     pub(crate) fn over<K: Kernel>(kernel: &K, support: &Support<'_, K>) -> Sums
         requires { weight_sum (listed support.now) ≤ℤ pos (ball_limit K.DIM) }
-        ensures { AreSums K.DIM (places K.place support.now) (listed support.now) result }
+        ensures { AreSums K.DIM (coordinates K.place support.now) (listed support.now) result }
     {
         let first = support.first(0);
         let mut sums = Sums::none();

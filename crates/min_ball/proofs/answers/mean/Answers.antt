@@ -1,8 +1,8 @@
-use Rattle.std.proofs.Common.{List, [], ◌∷◌, ◌^◌, ◌<◌, arith}
+use Rattle.std.proofs.Common.{[], ◌∷◌, ◌^◌, ◌<◌, arith}
 use Rattle.std.proofs.lemmas.Int.{to_z_pos}
 use mir.Syntax.{w128}
 use Rattle.integers.proofs.Sizes.{size_unsigned}
-use Rattle.integers.proofs.MachineArithmetic.{Given, given, with_inputs, codes, size_within}
+use Rattle.integers.proofs.MachineArithmetic.{given, with_inputs, codes, size_within}
 use Rattle.min_ball.proofs.SumSizes.{within_size}
 use Rattle.min_ball.proofs.answers.mean.Goals as goal
 

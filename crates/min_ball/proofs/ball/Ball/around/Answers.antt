@@ -1,8 +1,7 @@
-use Rattle.std.proofs.Common.{◌≡◌, ◌∙◌, sym, subst, ap, ◌<◌, ◌≤◌, ◌*◌, ◌≤ℤ◌, pos, arith}
+use Rattle.std.proofs.Common.{subst, ◌≤ℤ◌, pos, arith}
 use Rattle.kernel_laws.specs.Limits.{ball_limit}
 use Rattle.corral.specs.Supported.{supports_of, items_of}
-use Rattle.min_ball.specs.Balls.{listed, places}
-use Rattle.min_ball.specs.Sums.{AreSumsFrom}
+use Rattle.min_ball.specs.Balls.{coordinates, listed}
 use Rattle.min_ball.proofs.HeldBalls.{mass_is, cloud_items, some_weight, size_of_sums, held_by_supports}
 use Rattle.min_ball.proofs.ball.Ball.around.Goals as goal
 
@@ -24,5 +23,5 @@ invariant_of-result g c =
     record {
       held = held_by_supports g.row.K.Denot g.K.Kernel.DIM g.K.Kernel.place c.args.cloud (items_of support) held c.new-size.result
           c.settle-support.ensures.items c.settle-support.ensures.held c.settle-support.ensures.supports c.settle-support.ensures.limit c.settle-support.ensures.none_low c.new-size.ensures.lowest
-          (size_of_sums (places g.K.Kernel.place support) (listed support) c.over-sums.result c.new-size.result c.over-sums.ensures.sums c.new-size.ensures.value);
+          (size_of_sums (coordinates g.K.Kernel.place support) (listed support) c.over-sums.result c.new-size.result c.over-sums.ensures.sums c.new-size.ensures.value);
     }

@@ -1,4 +1,4 @@
-use Rattle.std.proofs.Common.{◌≡◌, ◌∙◌, ◌^◌, ◌≤◌, ◌+◌, ◌*◌, arith, rules, FitsSigned, to_z-of_z}
+use Rattle.std.proofs.Common.{arith, rules, FitsSigned, to_z-of_z}
 use mir.Syntax.{w64, w128}
 use Rattle.min_ball.proofs.SumSizes.{moment_fits, range_more}
 use Rattle.min_ball.proofs.sums.Sums.with.Goals as goal
@@ -27,4 +27,4 @@ returns-clause-range g c =
     let is_x = simp to_z-of_z at c.plus.ensures in
     let is_y = simp to_z-of_z at c.plus-2.ensures in
     let is_z = simp to_z-of_z at c.plus-3.ensures in
-    range_more c.args.self.weight c.args.weight c.squared.result c.args.self.moment c.requires.range c.requires.vector.within c.requires.limit c.squared.ensures.limit (to_z-of_z fits_x ∙ is_x) (to_z-of_z fits_y ∙ is_y) (to_z-of_z fits_z ∙ is_z)
+    simp to_z-of_z (range_more c.args.self.weight c.args.weight c.squared.result c.args.self.moment c.requires.range c.requires.vector.within c.requires.limit c.squared.ensures.limit is_x is_y is_z)
