@@ -25,7 +25,7 @@ space_limit : (square : ℤ) → (square ≡ pos 0) ⊎ (square ≡ pos 1) → w
 space_limit square (inl e) = subst (λ s. weight_limit s 3 ≤ 2 ^ 92) (sym e) (omega arith)
 space_limit square (inr e) = subst (λ s. weight_limit s 3 ≤ 2 ^ 92) (sym e) (omega arith)
 
-small_flag : (square : ℤ) → (square ≡ pos 0) ⊎ (square ≡ pos 1) → Size 1 square
+pub small_flag : (square : ℤ) → (square ≡ pos 0) ⊎ (square ≡ pos 1) → Size 1 square
 small_flag square (inl e) = subst (Size 1) (sym e) (record { abs = omega arith })
 small_flag square (inr e) = subst (Size 1) (sym e) (record { abs = omega arith })
 

@@ -1,5 +1,5 @@
 -- The sums that potentials are computed from.
-use Rattle.std.specs.Prelude.{◌≡◌, ℕ, ◌*◌, ℤ, pos, ◌-ℤ◌, ◌*ℤ◌, List, All}
+use Rattle.std.specs.Prelude.{◌≡◌, ℕ, ◌*◌, ◌^◌, ℤ, pos, ◌-ℤ◌, ◌*ℤ◌, List, All}
 use Rattle.integers.specs.Size.{Size}
 use Rattle.bounds_model.specs.Space.{SpacePoint, dot, squared_length}
 use Rattle.bounds_model.specs.Potentials.{WeightedVector, mass, moment, potential}
@@ -25,3 +25,8 @@ IsLevel square items level = All (λ item. potential square items item.vector �
 pub record AreWithin (square : ℤ) (dim : ℕ) (m : Moments) : Type 0 where
   pub mass : Size (weight_limit square dim) m.mass
   pub sum : IsVectorWithin (weight_limit square dim * reach dim) (sum_of m.sum)
+
+-- sums so small that potentials fit 64 bits
+pub record AreNarrow (m : Moments) : Type 0 where
+  pub mass : Size (2 ^ 20) m.mass
+  pub sum : IsVectorWithin (2 ^ 40) (sum_of m.sum)

@@ -26,6 +26,10 @@ pub(crate) struct Candidate {
 }
 
 impl Default for Candidate {
+    ghost use Rattle.std.specs.Prelude.{◌≡◌, pos};
+
+    ghost is_default = { λ c. c ≡ record { id = record { first = 0; second = 0 }; vector = record { x = pos 0; y = pos 0; z = pos 0 } } };
+
     /// The zero vector.
     fn default() -> Self {
         Candidate {

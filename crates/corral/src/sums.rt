@@ -1,12 +1,17 @@
 //! What potentials are computed from.
-ghost use Rattle.std.specs.Prelude.{◌≡◌, ◌^◌, ◌+ℤ◌, pos};
+ghost use Rattle.std.specs.Prelude.{◌≡◌, ◌↔◌, ◌^◌, ◌+ℤ◌, pos, IsTrue};
 ghost use Rattle.integers.specs.Size.{Size};
 ghost use Rattle.bounds_model.specs.Space.{origin, plus, times, dot as product};
 ghost use Rattle.kernel_laws.specs.Vectors.{vector_of, sum_of};
 ghost use Rattle.kernel_laws.specs.Limits.{IsVectorWithin, reach};
-ghost use Rattle.corral.specs.Moments.{potential_at, AreWithin};
+ghost use Rattle.corral.specs.Moments.{potential_at, AreWithin, AreNarrow};
 
 use kernel_laws::{Kernel, Potential, Sum, Vector};
+
+/// The greatest sum of weights, and the greatest coordinate of a weighted sum, for which potentials are computed in 64 bits.
+const MOST_NARROW_MASS: u128 = 1 << 20;
+
+const MOST_NARROW_SUM: u128 = 1 << 40;
 
 /// The sum of some weights, and the weighted sum of their vectors.
 #[derive(Clone, Copy, Debug)]
@@ -52,7 +57,10 @@ impl Moments {
         requires vector { IsVectorWithin (reach K.DIM) (vector_of v) }
         ensures { result ≡ product (vector_of v) (sum_of self.sum) }
     {
-        v.x as i128 * self.sum.x + v.y as i128 * self.sum.y + v.z as i128 * self.sum.z
+        if self.are_narrow() {
+            return self.narrow_along(v) as i128;
+        }
+        self.wide_along::<K, T>(v)
     }
 
     /// The potential of a vector.
@@ -61,6 +69,70 @@ impl Moments {
         requires vector { IsVectorWithin (reach K.DIM) (vector_of v) }
         ensures { result ≡ potential_at T.SQUARE self (vector_of v) }
     {
-        2 * self.along::<K, T>(v) - T::SQUARE * (self.mass * kernel.dot(v, v))
+        if self.are_narrow() {
+            return self.narrow_potential::<T>(v) as i128;
+        }
+        self.wide_potential::<K, T>(kernel, v)
     }
+
+    /// Whether potentials fit 64 bits. Sums of one or two vectors mostly do.
+    fn are_narrow(self) -> bool
+        ensures { IsTrue result ↔ AreNarrow self }
+    {
+        if !is_within(self.mass, MOST_NARROW_MASS) {
+            return false;
+        }
+        if !is_within(self.sum.x, MOST_NARROW_SUM) {
+            return false;
+        }
+        if !is_within(self.sum.y, MOST_NARROW_SUM) {
+            return false;
+        }
+        is_within(self.sum.z, MOST_NARROW_SUM)
+    }
+
+    /// The product with the weighted sum, in 64 bits.
+    fn narrow_along(self, v: Vector) -> i64
+        requires narrow { AreNarrow self }
+        requires vector { IsVectorWithin 400000 (vector_of v) }
+        ensures value { result ≡ product (vector_of v) (sum_of self.sum) }
+        ensures size { Size (2 ^ 61) result }
+    {
+        v.x * self.sum.x as i64 + v.y * self.sum.y as i64 + v.z * self.sum.z as i64
+    }
+
+    /// The potential in 64 bits.
+    fn narrow_potential<T: Potential>(self, v: Vector) -> i64
+        requires narrow { AreNarrow self }
+        requires vector { IsVectorWithin 400000 (vector_of v) }
+        ensures { result ≡ potential_at T.SQUARE self (vector_of v) }
+    {
+        let square = v.x * v.x + v.y * v.y + v.z * v.z;
+        2 * self.narrow_along(v) - T::SQUARE as i64 * (self.mass as i64 * square)
+    }
+
+    /// The product with the weighted sum, in 128 bits.
+    fn wide_along<K: Kernel, T: Potential>(self, v: Vector) -> i128
+        requires within { AreWithin T.SQUARE K.DIM self }
+        requires vector { IsVectorWithin (reach K.DIM) (vector_of v) }
+        ensures { result ≡ product (vector_of v) (sum_of self.sum) }
+    {
+        v.x as i128 * self.sum.x + v.y as i128 * self.sum.y + v.z as i128 * self.sum.z
+    }
+
+    /// The potential in 128 bits.
+    fn wide_potential<K: Kernel, T: Potential>(self, kernel: &K, v: Vector) -> i128
+        requires within { AreWithin T.SQUARE K.DIM self }
+        requires vector { IsVectorWithin (reach K.DIM) (vector_of v) }
+        ensures { result ≡ potential_at T.SQUARE self (vector_of v) }
+    {
+        2 * self.wide_along::<K, T>(v) - T::SQUARE * (self.mass * kernel.dot(v, v))
+    }
+}
+
+/// Whether a number's magnitude is at most this.
+fn is_within(n: i128, most: u128) -> bool
+    ensures { IsTrue result ↔ Size most n }
+{
+    n.unsigned_abs() <= most
 }

@@ -4,7 +4,7 @@ use Rattle.bounds_model.specs.Space.{SpacePoint}
 use Rattle.integers.proofs.MachineArithmetic.{Given, given, with_inputs, codes, computes, fits}
 use Rattle.kernel_laws.specs.Vectors.{vector_of}
 use Rattle.corral.proofs.MomentSizes.{MomentSizes, moment_sizes}
-use Rattle.corral.proofs.sums.Moments.along.Goals as goal
+use Rattle.corral.proofs.sums.Moments.wide_along.Goals as goal
 
 -- the coordinates, each with its bound
 abbrev inputs : {l m t : ℕ} {square mass : ℤ} {v s : SpacePoint} → MomentSizes l m t square v s mass → List Given
