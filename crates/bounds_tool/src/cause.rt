@@ -1,21 +1,31 @@
-//! Why a run gives no whole answer.
+//! Why a run gives no whole output.
 ghost use Rattle.std.specs.Prelude.{◌≡◌};
-ghost use Rattle.bounds_tool.specs.Causes.{status_of};
+ghost use Rattle.bounds_tool.specs.Causes.{meant};
+ghost use Rattle.bounds_tool.specs.Run.{cause_status};
 
 use crate::Status;
 
-/// Why a run gives no whole answer. Lines and sets are counted from 1.
+/// A file that a command names.
+#[derive(Clone, Copy, Debug, PartialEq, Eq)]
+pub(crate) enum InputFile {
+    /// The point file.
+    Points,
+    /// The answer file of `check`.
+    Answer,
+}
+
+/// Why a run gives no whole output. Lines and sets are counted from 1.
 #[derive(Clone, Copy, Debug, PartialEq, Eq)]
 pub(crate) enum Cause {
     /// The words are not understood.
     Words,
-    /// The point file was not opened.
-    PointsNotOpened,
-    /// The point file was not read.
-    PointsNotRead,
-    /// The point file is longer than its limit.
-    PointsTooLong,
-    /// The line of this number is no point.
+    /// The file was not opened.
+    NotOpened(InputFile),
+    /// The file was not read.
+    NotRead(InputFile),
+    /// The file is longer than its limit.
+    TooLong(InputFile),
+    /// The line of this number in the point file is no point.
     BadLine(u32),
     /// A coordinate on the line of this number is out of bounds.
     OutOfRange(u32),
@@ -25,6 +35,10 @@ pub(crate) enum Cause {
     NoPoints(u32),
     /// There are so many sets, and another number is called for.
     WrongSets(u32),
+    /// The line of this number in the answer file is not what an answer has there.
+    BadAnswer(u32),
+    /// A number on the line of this number in the answer file is past the limit.
+    BigNumber(u32),
     /// The output was not written whole.
     OutputNotWritten,
     /// Memory was refused.
@@ -34,17 +48,19 @@ pub(crate) enum Cause {
 impl Cause {
     /// The status that the run ends with.
     pub(crate) fn status(self) -> Status
-        ensures { result ≡ status_of self }
+        ensures { result ≡ cause_status (meant self) }
     {
         match self {
             Cause::Words => Status::Usage,
-            Cause::PointsNotOpened | Cause::PointsNotRead => Status::Read,
-            Cause::PointsTooLong
+            Cause::NotOpened(_) | Cause::NotRead(_) => Status::Read,
+            Cause::TooLong(_)
             | Cause::BadLine(_)
             | Cause::OutOfRange(_)
             | Cause::TooMany(_)
             | Cause::NoPoints(_)
-            | Cause::WrongSets(_) => Status::Input,
+            | Cause::WrongSets(_)
+            | Cause::BadAnswer(_)
+            | Cause::BigNumber(_) => Status::Input,
             Cause::OutputNotWritten => Status::Write,
             Cause::OutOfMemory => Status::Memory,
         }

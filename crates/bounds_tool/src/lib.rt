@@ -3,21 +3,23 @@
 //! - `command`: the top call, with the contract of the whole program
 //! - `status`: how a run ends
 //! - `words`: the words of a command line
-//! - `point_file`: a file's points
-//! - `square`: the output for one centre
+//! - `reading`: the files that a command names
+//! - `solving`: the answer to what is asked
+//! - `output`: what a run writes
 //! - `cause`, `telling`: why there is no whole output, and the line that says so
 #![tactic(auto)]
 
 mod cause;
 mod command;
-mod point_file;
-mod square;
+mod demo_points;
+mod output;
+mod reading;
+mod solving;
 mod status;
 mod telling;
 mod words;
 
 pub use command::run;
+pub use demo_points::make;
+pub use solving::{KgonFault, solve};
 pub use status::Status;
-
-#[cfg(test)]
-mod tests;

@@ -6,11 +6,11 @@ ghost use Rattle.bnd_io.specs.Sinks.{SinkContinues, Appended, AppendedPrefix};
 ghost use Rattle.bounds_tool.specs.Causes.{meant};
 ghost use Rattle.bounds_tool.specs.Telling.{Told, line_text};
 
-use crate::cause::Cause;
+use crate::cause::{Cause, InputFile};
 use bnd_io::{Sink, WriteFault, write_all};
 use itoa::Buffer;
 
-/// Writes the line that says why there is no whole answer. It takes no memory. Where the sink fails, a prefix of the line
+/// Writes the line that says why there is no whole output. It takes no memory. Where the sink fails, a prefix of the line
 /// was written.
 pub(crate) fn tell<E: Sink>(err: &mut E, cause: Cause)
     ensures { Told E.last_count (error_line (meant cause)) (E.state err.old) (E.state err.new) }
@@ -32,9 +32,16 @@ fn line_of(cause: Cause) -> Line
 {
     match cause {
         Cause::Words => Line::Whole(b"bounds: usage: words are not understood\n"),
-        Cause::PointsNotOpened => Line::Whole(b"bounds: points: cannot be opened\n"),
-        Cause::PointsNotRead => Line::Whole(b"bounds: points: cannot be read\n"),
-        Cause::PointsTooLong => Line::Whole(b"bounds: points: file is too long\n"),
+        Cause::NotOpened(InputFile::Points) => {
+            Line::Whole(b"bounds: points: cannot be opened\n")
+        }
+        Cause::NotOpened(InputFile::Answer) => {
+            Line::Whole(b"bounds: answer: cannot be opened\n")
+        }
+        Cause::NotRead(InputFile::Points) => Line::Whole(b"bounds: points: cannot be read\n"),
+        Cause::NotRead(InputFile::Answer) => Line::Whole(b"bounds: answer: cannot be read\n"),
+        Cause::TooLong(InputFile::Points) => Line::Whole(b"bounds: points: file is too long\n"),
+        Cause::TooLong(InputFile::Answer) => Line::Whole(b"bounds: answer: file is too long\n"),
         Cause::BadLine(line) => Line::Numbered(
             b"bounds: points: line ",
             line,
@@ -48,6 +55,16 @@ fn line_of(cause: Cause) -> Line
         }
         Cause::NoPoints(set) => Line::Numbered(b"bounds: points: set ", set, b" has no points\n"),
         Cause::WrongSets(count) => Line::Numbered(b"bounds: points: found ", count, b" sets\n"),
+        Cause::BadAnswer(line) => Line::Numbered(
+            b"bounds: answer: line ",
+            line,
+            b" is not understood\n",
+        ),
+        Cause::BigNumber(line) => Line::Numbered(
+            b"bounds: answer: line ",
+            line,
+            b" has a number past the limit\n",
+        ),
         Cause::OutputNotWritten => Line::Whole(b"bounds: output cannot be written\n"),
         Cause::OutOfMemory => Line::Whole(b"bounds: out of memory\n"),
     }

@@ -4,7 +4,7 @@ ghost use Rattle.bounds_model.specs.CentresAnswer.{PassesCentres};
 ghost use Rattle.bounded_coords.specs.Clouds.{counted_points};
 ghost use Rattle.witness_format.specs.Answers.{centres_of};
 
-use crate::one;
+use crate::one_centre::one;
 use crate::square_answer::answer;
 use bounded_coords::{Counted, Point2, Steps};
 use std::sync::ledger::Ledger;

@@ -1,0 +1,87 @@
+-- What words and files call for: a work to do, or the cause for which there is none.
+use Rattle.std.specs.Prelude.{ℕ, ◌^◌, nat_le, List, length, if◌then◌else◌}
+use Rattle.std.specs.declared.option.Option.{Option}
+use Rattle.std.specs.declared.option.Option.TheVariants.{Some, None}
+use Rattle.std.specs.declared.result.Result.{Result}
+use Rattle.std.specs.declared.result.Result.TheVariants.{Ok, Err}
+use Rattle.bounds_model.specs.Asks.{Ask, Sets}
+use Rattle.bounds_model.specs.Answers.{Answer}
+use Rattle.bounds_model.specs.PointText as text
+use Rattle.bounds_model.specs.PointText.{sets_of_text}
+use Rattle.bounds_model.specs.AnswerText.Formats as format
+use Rattle.bounds_model.specs.AnswerText.Reading.{reading_of}
+use Rattle.bounds_model.specs.ErrorLines.{Cause, InputFile, points_file, answer_file, words_not_understood, too_long, bad_line, out_of_range, too_many_points, no_points, wrong_sets, bad_answer, big_number}
+use Rattle.witness_format.specs.Kinds.{known_kinds}
+use Rattle.bnd_io.specs.Files.{Folder, bytes_of}
+use Rattle.bounds_tool.specs.Words.{Task, solve_task, check_task, task_of}
+
+-- one step after another, up to the first cause
+infixl 10 ◌>>=◌
+abbrev pub ◌>>=◌ : {A B : Type 0} → Result A Cause → (A → Result B Cause) → Result B Cause
+(Ok x) >>= f = f x
+(Err cause) >>= f = Err cause
+
+-- what is to be done with accepted files
+pub data Work : Type 0 where
+  solving : Ask → Sets → Work  -- to answer what is asked of these points
+  checking : Ask → Sets → Answer → Work  -- to judge this answer
+
+-- the most bytes of a point file, and of an answer file
+abbrev pub limit_of : InputFile → ℕ
+limit_of points_file = 2 ^ 21
+limit_of answer_file = 2 ^ 23
+
+-- the length of a file is judged before its text
+abbrev pub bytes_within : InputFile → List ℕ → Result (List ℕ) Cause
+bytes_within file bytes = if nat_le (length bytes) (limit_of file) then Ok bytes else Err (too_long file)
+
+-- why a text of points is refused
+abbrev pub points_cause : text.Refusal → Cause
+points_cause (text.bad_line line) = bad_line line
+points_cause (text.out_of_range line) = out_of_range line
+points_cause (text.too_many line) = too_many_points line
+points_cause (text.no_points set) = no_points set
+points_cause (text.wrong_sets count) = wrong_sets count
+
+abbrev pub read_points : Result Sets text.Refusal → Result Sets Cause
+read_points (Ok sets) = Ok sets
+read_points (Err refusal) = Err (points_cause refusal)
+
+-- why the text of an answer is refused
+abbrev pub answer_cause : format.Refusal → Cause
+answer_cause (format.bad_answer line) = bad_answer line
+answer_cause (format.big_number line) = big_number line
+
+abbrev pub read_answer : Result Answer format.Refusal → Result Answer Cause
+read_answer (Ok answer) = Ok answer
+read_answer (Err refusal) = Err (answer_cause refusal)
+
+-- the points of a point file, for what is asked
+abbrev pub points_in : Ask → List ℕ → Result Sets Cause
+points_in ask bytes = do
+  whole ← bytes_within points_file bytes
+  read_points (sets_of_text ask whole)
+
+-- the answer of an answer file
+abbrev pub answer_in : List ℕ → Result Answer Cause
+answer_in bytes = do
+  whole ← bytes_within answer_file bytes
+  read_answer (reading_of known_kinds whole)
+
+-- the work of a task: the point file is judged whole before the answer file
+abbrev pub work_of : Folder → Task → Result Work Cause
+work_of folder (solve_task ask file) = do
+  sets ← points_in ask (bytes_of folder file)
+  Ok (solving ask sets)
+work_of folder (check_task ask points answer) = do
+  sets ← points_in ask (bytes_of folder points)
+  a ← answer_in (bytes_of folder answer)
+  Ok (checking ask sets a)
+
+-- the work that the words call for, which are judged before any file
+abbrev pub judge_task : Folder → Option Task → Result Work Cause
+judge_task folder None = Err words_not_understood
+judge_task folder (Some task) = work_of folder task
+
+abbrev pub judge : List (List ℕ) → Folder → Result Work Cause
+judge words folder = judge_task folder (task_of words)

@@ -1,0 +1,57 @@
+//! A run over files and sinks in memory.
+ghost use Rattle.std.specs.Prelude.{◌≡◌, ◌<◌, ◌≤◌};
+
+use bnd_io::{MemFiles, MemSink};
+use bounded_coords::Steps;
+use bounds_tool::{Status, run};
+use std::alloc::Global;
+use std::marker::Brand;
+use std::sync::ledger::{Blank, Ledger};
+use std::test::Fail;
+
+fn run_counted<L: Ledger>(
+    alloc: Global,
+    words: &[&str],
+    files: &mut MemFiles,
+    out: &mut MemSink,
+    err: &mut MemSink,
+    blank: Blank,
+) -> Status
+    requires name { blank.name ≡ L.name }
+    requires parts { blank.parts ≡ L.parts }
+    requires some { 0 < blank.parts }
+{
+    let mut steps = Steps::<L>::new(blank);
+    run(alloc, words, files, out, err, &mut steps)
+}
+
+/// Runs a command with a ledger of its own.
+pub(crate) fn run_in_memory(
+    alloc: Global,
+    words: &[&str],
+    files: &mut MemFiles,
+    out: &mut MemSink,
+    err: &mut MemSink,
+) -> Status {
+    run_counted::<Brand>(alloc, words, files, out, err, Blank::new(1))
+}
+
+/// Runs a command on the file `a` and the file `b`, and gives the status, the output and the error line. Reads and writes go
+/// in pieces of this many bytes.
+pub(crate) fn run_on(
+    alloc: Global,
+    words: &[&str],
+    a: &[u8],
+    b: &[u8],
+    piece: u32,
+) -> Result<(Status, MemSink, MemSink), Fail>
+    requires { 1 ≤ piece }
+{
+    let mut files = MemFiles::new(alloc, piece);
+    files.add("a", a)?;
+    files.add("b", b)?;
+    let mut out = MemSink::new(alloc, piece)?;
+    let mut err = MemSink::new(alloc, piece)?;
+    let status = run_in_memory(alloc, words, &mut files, &mut out, &mut err);
+    Ok((status, out, err))
+}

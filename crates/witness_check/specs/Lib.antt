@@ -1,0 +1,3 @@
+pub mod CentresLimits
+pub mod HeldBalls
+pub mod Kinds
