@@ -1,4 +1,4 @@
-use Rattle.std.proofs.Common.{◌≡◌, sym, ◌∙◌, subst, pos, ◌<◌, ◌≤◌, ◌++◌, length, arith, rules, length-append}
+use Rattle.std.proofs.Common.{sym, ◌∙◌, subst, pos, ◌++◌, arith, rules, length-append}
 use Rattle.corral.specs.declared.search.Candidate.{Candidate}
 use Rattle.corral.specs.Parts.{IsPart}
 use Rattle.corral.proofs.MomentSums.{rest}

@@ -1,4 +1,4 @@
-use Rattle.std.proofs.Common.{◌≡◌, refl, sym, ◌∙◌, ap, subst, ℕ, ℤ, pos, ◌≤ℤ◌, ◌<ℤ◌, List, length, get_or, take, arith, rules, SFits, to_z, of_z, to_z-of_z, true, false}
+use Rattle.std.proofs.Common.{◌≡◌, refl, ◌∙◌, subst, ℤ, pos, ◌≤ℤ◌, ◌<ℤ◌, arith, rules, SFits, to_z, of_z, to_z-of_z}
 use Rattle.std.specs.Prelude.{All}
 use Rattle.std.proofs.lemmas.Int.{ints}
 use mir.Syntax.{w128}

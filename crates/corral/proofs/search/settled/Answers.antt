@@ -1,21 +1,17 @@
-use Rattle.std.proofs.Common.{◌≡◌, refl, sym, ◌∙◌, ap, subst, ℕ, ℤ, pos, ◌+◌, ◌≤◌, ◌≤ℤ◌, ◌⊎◌, inl, inr, List, length, take, get_or, Bool, true, false, arith, rules, SFits, to_z-of_z}
+use Rattle.std.proofs.Common.{◌≡◌, refl, sym, ◌∙◌, ap, subst, pos, ◌≤◌, ◌≤ℤ◌, inl, length, take, Bool, true, false, arith, rules, SFits, to_z-of_z}
 use Rattle.std.specs.Prelude.{All}
-use Rattle.std.proofs.lemmas.Int.{ints}
 use Rattle.std.proofs.lemmas.List.{length-map}
 use Rattle.std.proofs.lemmas.List.Elements.{All-get_or}
 use mir.Syntax.{w128}
-use Rattle.integers.proofs.Sizes.{below_size}
-use Rattle.bounds_model.specs.Space.{SpacePoint}
-use Rattle.bounds_model.specs.Potentials.{AreAffinelyDependent, IsDependence}
-use Rattle.kernel_laws.specs.Vectors.{vector_of, vectors_of}
+use Rattle.bounds_model.specs.Potentials.{AreAffinelyDependent}
+use Rattle.kernel_laws.specs.Vectors.{vector_of}
 use Rattle.kernel_laws.specs.declared.vectors.Vector.{Vector}
 use Rattle.kernel_laws.specs.Limits.{IsVectorWithin, IsDifference, reach}
-use Rattle.kernel_laws.specs.Solutions.{AreItems, IsWeighting, weighted, weight_limit}
-use Rattle.corral.specs.Supports.{IsRefuted}
-use Rattle.corral.specs.Moments.{AreMoments, potential_at}
+use Rattle.kernel_laws.specs.Solutions.{AreItems, IsWeighting, weight_limit}
+use Rattle.corral.specs.Moments.{potential_at}
 use Rattle.corral.specs.Balances.{vectors}
 use Rattle.corral.proofs.Parts.{part_all}
-use Rattle.corral.proofs.Solutions.{same_vectors, few_candidates, items_of_part, vectors_part, within_reach, within_plane_reach, light_weights, refuted_by_weight, IsSolution, solution_within, solution_few, solution_level, refuted_by_low, found, solution, first_of_part, not_empty}
+use Rattle.corral.proofs.Solutions.{same_vectors, few_candidates, items_of_part, vectors_part, within_reach, within_plane_reach, refuted_by_weight, IsSolution, solution_within, solution_few, solution_level, refuted_by_low, found, solution, first_of_part, not_empty}
 use Rattle.corral.proofs.search.settled.Goals as goal
 
 -- the zero vector

@@ -1,4 +1,4 @@
-use Rattle.std.proofs.Common.{◌≡◌, ◌∙◌, ap, subst, sym, inl, inr, pos, ◌+◌, ◌≤◌, ◌++◌, ◌∷◌, [], length, get_or, take, arith}
+use Rattle.std.proofs.Common.{◌∙◌, ap, subst, sym, inl, inr, ◌++◌, ◌∷◌, [], length, arith}
 use Rattle.std.specs.Prelude.{All}
 use Rattle.std.proofs.lemmas.List.Elements.{All-get_or}
 use Rattle.corral.specs.declared.holding.Held.{Held}

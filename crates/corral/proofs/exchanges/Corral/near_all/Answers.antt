@@ -1,4 +1,4 @@
-use Rattle.std.proofs.Common.{◌≡◌, subst, take, get_or, arith, pos, ◌<◌}
+use Rattle.std.proofs.Common.{subst, get_or, pos}
 use Rattle.std.specs.Prelude.{All}
 use Rattle.std.proofs.lemmas.List.Elements.{All-more}
 use Rattle.kernel_laws.specs.Vectors.{vector_of}

@@ -1,4 +1,4 @@
-use Rattle.std.proofs.Common.{subst, take, pos}
+use Rattle.std.proofs.Common.{subst, pos}
 use Rattle.std.specs.Prelude.{All}
 use Rattle.std.proofs.lemmas.List.Elements.{All-more}
 use Rattle.corral.specs.declared.search.Candidate.{Candidate}
