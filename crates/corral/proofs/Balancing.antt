@@ -1,20 +1,18 @@
 -- What a balance says of potentials.
-use Rattle.std.proofs.Common.{◌≡◌, refl, sym, ◌∙◌, ap, subst, inl, inr, ◌⊎◌, Bool, true, false, ℕ, ◌+◌, ◌*◌, ◌^◌, ◌≤◌, ◌<◌, ℤ, pos, ◌+ℤ◌, ◌≤ℤ◌, ◌<ℤ◌, List, [], ◌∷◌, length, get_or, arith}
+use Rattle.std.proofs.Common.{◌≡◌, refl, sym, ◌∙◌, ap, subst, inl, inr, ◌⊎◌, Bool, true, false, ℕ, ◌≤◌, ℤ, pos, ◌+ℤ◌, ◌≤ℤ◌, ◌<ℤ◌, List, [], ◌∷◌, arith}
 use Rattle.std.specs.Prelude.{All, IsTrue, ◌↔◌}
 use Rattle.std.specs.Int.Signed.{lt_z}
 use Rattle.std.proofs.lemmas.Int.{ints}
-use Rattle.std.proofs.lemmas.List.Elements.{All-nil, All-cons, All-head}
-use Rattle.integers.specs.Size.{Size}
-use Rattle.integers.specs.Total.{total}
+use Rattle.std.proofs.lemmas.List.Elements.{All-nil, All-cons}
 use Rattle.bounds_model.specs.Space.{SpacePoint, plus, times, origin}
-use Rattle.bounds_model.specs.Potentials.{WeightedVector, mass, moment, potential, AreAffinelyDependent, IsDependence, IsLow}
+use Rattle.bounds_model.specs.Potentials.{WeightedVector, mass, potential, AreAffinelyDependent, IsDependence, IsLow}
 use Rattle.kernel_laws.specs.Vectors.{sum_of}
 use Rattle.kernel_laws.specs.Limits.{IsVectorWithin, IsDifference, reach}
 use Rattle.kernel_laws.specs.Solutions.{weight_limit}
 use Rattle.corral.specs.declared.sums.Moments.{Moments}
 use Rattle.corral.specs.declared.search.Balance.{Balance}
-use Rattle.corral.specs.Supports.{support_vectors, AreSupports}
-use Rattle.corral.specs.Moments.{AreMoments, AreWithin, potential_at, IsLevel}
+use Rattle.corral.specs.Supports.{support_vectors}
+use Rattle.corral.specs.Moments.{AreMoments, AreWithin, potential_at}
 use Rattle.corral.specs.Balances.{IsBalance}
 use Rattle.corral.proofs.Supports.{all_vectors}
 use Rattle.corral.proofs.Moments.{below_common}

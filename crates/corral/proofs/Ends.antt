@@ -6,13 +6,9 @@ use Rattle.bounds_model.specs.Space.{SpacePoint, vector, dot, point_at}
 use Rattle.bounded_coords.specs.declared.cloud.Cloud.{Cloud}
 use Rattle.bounded_coords.specs.Clouds.{points_of}
 use Rattle.kernel_laws.specs.Vectors.{sum_of}
-use Rattle.corral.specs.declared.items.Id.{Id}
-use Rattle.corral.specs.declared.items.Items.{Items}
-use Rattle.corral.specs.declared.items.Items.TheVariants.{Points, Differences}
+use Rattle.corral.specs.declared.items.Items.TheVariants.{Differences}
 use Rattle.corral.specs.declared.sums.Moments.{Moments}
-use Rattle.corral.specs.Items.{IsItem, item}
-use Rattle.corral.specs.Moments.{potential_at}
-use Rattle.corral.specs.Lowest.{IsLowest, IsLeastAlong, IsMostAlong, along}
+use Rattle.corral.specs.Lowest.{IsLowest, IsLeastAlong, IsMostAlong}
 
 -- a difference is that of the ways from any origin
 pub difference_along : (o a b s : SpacePoint) → dot (vector b a) s ≡ dot (vector o a) s -ℤ dot (vector o b) s

@@ -3,12 +3,10 @@ use Rattle.std.proofs.Common.{◌≡◌, refl, sym, ◌∙◌, ap, ap₂, subst,
 use Rattle.std.specs.Prelude.{All}
 use Rattle.std.proofs.lemmas.List.{length-map}
 use Rattle.std.proofs.lemmas.List.Elements.{All-cons, All-head, All-tail, All-map}
-use Rattle.bounds_model.specs.Numbers.{HasCount}
 use Rattle.bounds_model.specs.Space.{SpacePoint}
 use Rattle.bounds_model.specs.Potentials.{WeightedVector, IsLow, value}
 use Rattle.exact_fractions.specs.Order.{IsBelow}
 use Rattle.kernel_laws.specs.Vectors.{vector_of}
-use Rattle.kernel_laws.specs.Limits.{IsDifference}
 use Rattle.kernel_laws.specs.Solutions.{AreItems, weighted}
 use Rattle.corral.specs.declared.items.Id.{Id}
 use Rattle.corral.specs.declared.items.Items.{Items}
@@ -16,7 +14,7 @@ use Rattle.corral.specs.declared.holding.Held.{Held}
 use Rattle.corral.specs.declared.search.Candidate.{Candidate}
 use Rattle.corral.specs.declared.search.Balance.{Balance}
 use Rattle.corral.specs.Parts.{IsPart}
-use Rattle.corral.specs.Supports.{IsSquare, support_vectors, AreSupports, Settles, IsRefuted}
+use Rattle.corral.specs.Supports.{IsSquare, support_vectors, AreSupports, IsRefuted}
 use Rattle.corral.specs.Items.{IsItem, item}
 use Rattle.corral.specs.Held.{names, weights, AreHeld, weighted_items}
 use Rattle.corral.specs.Balances.{IsBalance, vectors, candidate_names, AreCandidates, IsFound, AreRefuted}

@@ -30,3 +30,5 @@ pub mod Nearness
 pub mod Exchanging
 pub mod Filling
 pub mod Nearer
+pub mod Blanks
+pub mod Outcomes

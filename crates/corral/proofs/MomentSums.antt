@@ -1,14 +1,14 @@
 -- The sums of a list of weighted vectors, and how large they are.
-use Rattle.std.proofs.Common.{◌≡◌, refl, sym, ◌∙◌, ap, ap₂, subst, ℕ, zero, suc, ◌+◌, ◌-◌, ◌*◌, ◌^◌, ◌≤◌, ℤ, pos, negsuc, ◌+ℤ◌, ◌*ℤ◌, ◌≤ℤ◌, ◌<ℤ◌, List, [], ◌∷◌, length, take, drop, map, get_or, arith, le_trans, mul-le-mul_right}
+use Rattle.std.proofs.Common.{◌≡◌, refl, sym, ◌∙◌, ap, ap₂, subst, ℕ, ◌+◌, ◌-◌, ◌*◌, ◌≤◌, ℤ, pos, negsuc, ◌+ℤ◌, ◌≤ℤ◌, List, [], ◌∷◌, length, take, drop, get_or, arith, le_trans, mul-le-mul_right}
 use Rattle.std.specs.Prelude.{All}
 use Rattle.std.proofs.lemmas.Int.{ints}
-use Rattle.std.proofs.lemmas.List.{take_rest, length-drop}
-use Rattle.std.proofs.lemmas.List.Elements.{All-nil, All-cons, All-head, All-tail}
+use Rattle.std.proofs.lemmas.List.{take_rest}
+use Rattle.std.proofs.lemmas.List.Elements.{All-head, All-tail}
 use Rattle.integers.specs.Size.{Size}
 use Rattle.integers.specs.Total.{total}
 use Rattle.integers.proofs.Sizes.{size_add, size_mul, size_between}
 use Rattle.integers.proofs.Sums.{total_nonneg_all}
-use Rattle.bounds_model.specs.Space.{SpacePoint, plus, times, origin}
+use Rattle.bounds_model.specs.Space.{SpacePoint, plus, times}
 use Rattle.bounds_model.specs.Potentials.{WeightedVector, mass, moment}
 use Rattle.kernel_laws.specs.Vectors.{vector_of, vectors_of, sum_of}
 use Rattle.kernel_laws.specs.declared.vectors.Vector.{Vector}

@@ -1,9 +1,9 @@
 -- Items of a cloud are no farther apart than its points.
-use Rattle.std.proofs.Common.{◌≡◌, refl, sym, ◌∙◌, ap, ap₂, subst, ℕ, suc, ◌+◌, ◌<◌, ◌≤◌, ℤ, pos, ◌-ℤ◌, List, [], ◌∷◌, length, map, arith}
+use Rattle.std.proofs.Common.{◌≡◌, sym, ◌∙◌, ap₂, subst, ℕ, ◌+◌, ◌≤◌, ℤ, pos, ◌-ℤ◌, List, length, map, arith}
 use Rattle.std.specs.Prelude.{All, slice_get, Some}
 use Rattle.std.proofs.lemmas.Int.{ints}
 use Rattle.std.proofs.lemmas.List.{length-map}
-use Rattle.std.proofs.lemmas.List.Elements.{All-map, All-weaker, All-head, All-tail, All-nil, All-cons}
+use Rattle.std.proofs.lemmas.List.Elements.{All-map}
 use Rattle.bounds_model.specs.Space.{SpacePoint, vector, point_at}
 use Rattle.bounded_coords.specs.declared.cloud.Cloud.{Cloud}
 use Rattle.bounded_coords.specs.Clouds.{points_of}
@@ -13,7 +13,7 @@ use Rattle.kernel_laws.specs.Solutions.{AreItems}
 use Rattle.kernel_laws.proofs.Points.{same_point}
 use Rattle.corral.specs.declared.items.Id.{Id}
 use Rattle.corral.specs.declared.items.Items.{Items}
-use Rattle.corral.specs.declared.items.Items.TheVariants.{Points, Differences}
+use Rattle.corral.specs.declared.items.Items.TheVariants.{Points}
 use Rattle.corral.specs.declared.search.Candidate.{Candidate}
 use Rattle.corral.specs.Items.{item}
 use Rattle.corral.specs.Balances.{vectors, AreCandidates, IsNear}

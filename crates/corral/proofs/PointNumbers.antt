@@ -1,6 +1,6 @@
 -- The points that numbers stand for.
-use Rattle.std.proofs.Common.{◌≡◌, refl, sym, ap, ap₂, ◌∙◌, ℕ, zero, suc, ℤ, List, [], ◌∷◌, map}
-use Rattle.std.specs.Prelude.{slice_get, Some, None}
+use Rattle.std.proofs.Common.{◌≡◌, sym, ap, ap₂, ◌∙◌, ℕ, zero, suc, ℤ, List, [], ◌∷◌, map}
+use Rattle.std.specs.Prelude.{slice_get, Some}
 use Rattle.bounds_model.specs.Space.{SpacePoint, point_at, vector, dot}
 use Rattle.corral.specs.declared.sums.Moments.{Moments}
 use Rattle.corral.specs.Moments.{potential_at}

@@ -1,9 +1,8 @@
 -- The search among the parts of some candidates.
-use Rattle.std.proofs.Common.{◌≡◌, refl, sym, ◌∙◌, ap, subst, inl, inr, ◌⊎◌, ℕ, zero, suc, ◌+◌, ◌-◌, ◌<◌, ◌≤◌, ℤ, List, [], ◌∷◌, ◌++◌, length, take, get_or, arith, append_assoc, append-nil, length-append}
-use Rattle.bounds_model.specs.Space.{SpacePoint}
+use Rattle.std.proofs.Common.{◌≡◌, refl, sym, ◌∙◌, ap, subst, inl, inr, ◌⊎◌, ℕ, zero, suc, ◌-◌, ◌<◌, ◌≤◌, ℤ, List, [], ◌∷◌, ◌++◌, length, take, get_or, arith, append_assoc, append-nil, length-append}
 use Rattle.corral.specs.declared.search.Candidate.{Candidate}
 use Rattle.corral.specs.Parts.{IsPart}
-use Rattle.corral.specs.Parts.IsPart.{none, omits, keeps}
+use Rattle.corral.specs.Parts.IsPart.{omits}
 use Rattle.corral.specs.Supports.{IsRefuted}
 use Rattle.corral.specs.Balances.{vectors, AreRefuted}
 use Rattle.corral.proofs.Parts.{part_whole, part_of_empty, part_cases, part_trans, part_append}

@@ -1,13 +1,12 @@
 -- What the solver says of a part of some candidates.
-use Rattle.std.proofs.Common.{◌≡◌, refl, sym, ◌∙◌, ap, ap₂, subst, get_or, ◌-ℤ◌, ◌*ℤ◌, ◌⊎◌, inl, inr, ℕ, zero, suc, Bool, true, false, ◌+◌, ◌*◌, ◌^◌, ◌≤◌, ℤ, pos, ◌≤ℤ◌, ◌<ℤ◌, List, [], ◌∷◌, length, take, map, arith}
+use Rattle.std.proofs.Common.{◌≡◌, refl, sym, ◌∙◌, ap, ap₂, subst, get_or, ◌-ℤ◌, ◌*ℤ◌, ◌⊎◌, inl, inr, ℕ, zero, suc, Bool, false, ◌+◌, ◌^◌, ◌≤◌, ℤ, pos, ◌≤ℤ◌, ◌<ℤ◌, List, [], ◌∷◌, length, take, map, arith}
 use Rattle.std.specs.Prelude.{All, ◌==◌}
 use Rattle.std.proofs.lemmas.Int.{ints}
 use Rattle.std.proofs.lemmas.List.{length-map}
 use Rattle.std.proofs.lemmas.List.Elements.{All-weaker, All-nil, All-cons, All-head, All-tail}
-use Rattle.integers.specs.Total.{total}
 use Rattle.integers.proofs.Sizes.{below_size}
 use Rattle.bounds_model.specs.Space.{SpacePoint, vector, dot, squared_length}
-use Rattle.bounds_model.specs.Potentials.{WeightedVector, mass, potential, AreEqualPotentials, AreAffinelyDependent, IsLow}
+use Rattle.bounds_model.specs.Potentials.{WeightedVector, potential, AreEqualPotentials, AreAffinelyDependent, IsLow}
 use Rattle.kernel_laws.specs.Vectors.{vector_of, vectors_of}
 use Rattle.kernel_laws.specs.declared.vectors.Vector.{Vector}
 use Rattle.kernel_laws.specs.Limits.{IsVectorWithin, IsDifference, reach}
@@ -16,7 +15,7 @@ use Rattle.kernel_laws.proofs.SideLimits.{more_within}
 use Rattle.corral.specs.declared.search.Candidate.{Candidate}
 use Rattle.corral.specs.declared.sums.Moments.{Moments}
 use Rattle.corral.specs.Parts.{IsPart}
-use Rattle.corral.specs.Supports.{AreSupports, AreBalanced, Settles, IsRefuted}
+use Rattle.corral.specs.Supports.{AreSupports, AreBalanced, IsRefuted}
 use Rattle.corral.specs.Moments.{AreMoments, AreWithin, potential_at, IsLevel}
 use Rattle.corral.specs.declared.search.Balance.{Balance}
 use Rattle.corral.specs.Held.{names, weights}

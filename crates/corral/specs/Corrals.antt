@@ -1,15 +1,11 @@
 -- What a corral holds, and items of least potential.
-use Rattle.std.specs.Prelude.{◌≡◌, ℕ, ℤ, ◌≤ℤ◌, List}
+use Rattle.std.specs.Prelude.{List}
 use Rattle.bounds_model.specs.Space.{SpacePoint}
 use Rattle.bounds_model.specs.Potentials.{WeightedVector}
-use Rattle.corral.specs.declared.items.Id.{Id}
 use Rattle.corral.specs.declared.items.Items.{Items}
 use Rattle.corral.specs.declared.holding.Held.{Held}
-use Rattle.corral.specs.declared.sums.Moments.{Moments}
 use Rattle.corral.specs.declared.exchanges.Corral.{Corral}
-use Rattle.corral.specs.Items.{IsItem, item}
 use Rattle.corral.specs.Held.{weighted_items}
-use Rattle.corral.specs.Moments.{potential_at}
 
 -- the items that the supports are chosen from
 abbrev pub all_items : {K T P : Type 0} {g h : _} → Corral K T P g h → Items K P

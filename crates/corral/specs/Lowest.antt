@@ -1,5 +1,5 @@
 -- Items of least potential.
-use Rattle.std.specs.Prelude.{ℕ, ◌<◌, ℤ, ◌≤ℤ◌, List, All, length, map}
+use Rattle.std.specs.Prelude.{ℕ, ◌<◌, ℤ, ◌≤ℤ◌, List, length, map}
 use Rattle.bounds_model.specs.Space.{SpacePoint, vector, dot, point_at}
 use Rattle.corral.specs.declared.items.Id.{Id}
 use Rattle.corral.specs.declared.items.Items.{Items}

@@ -1,5 +1,5 @@
 //! Supports that are exchanged for greater ones.
-ghost use Rattle.std.specs.Prelude.{◌≡◌, ◌↔◌, ◌≤ℤ◌, pos, [], ◌∷◌, ◌+◌, All, length, map, IsTrue};
+ghost use Rattle.std.specs.Prelude.{◌≡◌, ◌↔◌, ◌≤ℤ◌, pos, [], ◌∷◌, All, IsTrue};
 ghost use Rattle.bounds_model.specs.Potentials.{potential, IsLow, value};
 ghost use Rattle.exact_fractions.specs.Order.{IsBelow};
 ghost use Rattle.kernel_laws.specs.Vectors.{vector_of};

@@ -1,6 +1,5 @@
 //! An item of least potential.
-ghost use Rattle.std.specs.Prelude.{◌≡◌, pos, ◌<◌, ◌≤ℤ◌, All, length};
-ghost use Rattle.bounds_model.specs.Space.{vector, dot as product};
+ghost use Rattle.std.specs.Prelude.{◌≡◌, pos, ◌<◌};
 ghost use Rattle.kernel_laws.specs.Vectors.{sum_of};
 ghost use Rattle.bounded_coords.specs.Clouds.{points_of};
 ghost use Rattle.corral.specs.Moments.{AreWithin};

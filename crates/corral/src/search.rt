@@ -1,9 +1,7 @@
 //! The part of a few items whose supports settle them.
 ghost use Rattle.std.specs.Prelude.{◌≡◌, ◌↔◌, pos, ◌^◌, ◌≤◌, ◌≤ℤ◌, ◌++◌, [], All, length, map, take, IsNone, IfSome, IsTrue};
-ghost use Rattle.std.specs.Int.{w128};
-ghost use Rattle.integers.specs.Size.{Size};
 ghost use Rattle.integers.specs.Total.{total};
-ghost use Rattle.kernel_laws.specs.Vectors.{vector_of, vectors_of};
+ghost use Rattle.kernel_laws.specs.Vectors.{vectors_of};
 ghost use Rattle.kernel_laws.specs.Limits.{IsVectorWithin, reach};
 ghost use Rattle.kernel_laws.specs.Solutions.{AreItems, weighted};
 ghost use Rattle.corral.specs.Parts.{IsPart};

@@ -1,6 +1,3 @@
-use Rattle.std.proofs.Common.{arith}
-use Rattle.bounded_coords.specs.Clouds.{points_of}
-use Rattle.kernel_laws.specs.Vectors.{sum_of}
 use Rattle.corral.proofs.Ends.{lowest_by_ends}
 use Rattle.corral.proofs.lowest.lowest_difference.Goals as goal
 

@@ -1,4 +1,3 @@
-use Rattle.std.proofs.Common.{ℕ}
 use Rattle.bounded_coords.specs.Clouds.{points_of}
 use Rattle.kernel_laws.specs.Vectors.{sum_of}
 use Rattle.corral.specs.Lowest.{along}

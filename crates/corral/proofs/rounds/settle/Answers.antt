@@ -1,4 +1,4 @@
-use Rattle.std.proofs.Common.{◌≡◌, sym, ◌∙◌, subst, pos, ◌≤ℤ◌, Bool, true, false}
+use Rattle.std.proofs.Common.{sym, ◌∙◌, subst, pos, ◌≤ℤ◌}
 use Rattle.bounds_model.specs.Potentials.{mass, IsLow}
 use Rattle.kernel_laws.specs.Solutions.{weight_limit}
 use Rattle.corral.specs.declared.items.Id.{Id}
@@ -6,6 +6,7 @@ use Rattle.corral.specs.Items.{IsItem, item}
 use Rattle.corral.specs.Held.{AreHeld, weighted_items}
 use Rattle.corral.specs.Supports.{AreSupports}
 use Rattle.corral.specs.Corrals.{all_items, held_in, supports_in}
+use Rattle.corral.proofs.Outcomes.{one_outcome}
 use Rattle.corral.proofs.Nearer.{nearer, none_lower}
 use Rattle.corral.proofs.rounds.settle.Goals as goal
 
@@ -32,13 +33,9 @@ returns-then-not-is_low-clause-limit g c =
     subst (λ held. mass (weighted_items {K = g.row.K.Denot} g.K.Kernel.place c.args.items held) ≤ℤ pos (weight_limit g.T.Potential.SQUARE g.K.Kernel.DIM)) (sym c.into_support.ensures.supports)
     (subst (λ xs. mass (weighted_items {K = g.row.K.Denot} g.K.Kernel.place xs (held_in c.exchange.corral)) ≤ℤ pos (weight_limit g.T.Potential.SQUARE g.K.Kernel.DIM)) c.exchange.invariant c.exchange.corral.balanced.limit)
 
--- a test has one outcome
-not_both : {b : Bool} → b ≡ false → b ≡ true → ⊥
-not_both e f = cc
-
 pub returns-then-not-is_low-clause-none_low : goal.returns-then-not-is_low-clause-none_low
 returns-then-not-is_low-clause-none_low g c =
     subst (λ held. (id : Id) → IsItem {K = g.row.K.Denot} c.args.items id → ¬ IsLow g.T.Potential.SQUARE (weighted_items g.K.Kernel.place c.args.items held) (item g.K.Kernel.place c.args.items id)) (sym c.into_support.ensures.supports)
     (subst (λ xs. (id : Id) → IsItem {K = g.row.K.Denot} xs id → ¬ IsLow g.T.Potential.SQUARE (weighted_items g.K.Kernel.place xs (held_in c.exchange.corral)) (item g.K.Kernel.place xs id)) c.exchange.invariant
     (λ id named. none_lower g.T.Potential.SQUARE (supports_in g.K.Kernel.place c.exchange.corral) (item g.K.Kernel.place (all_items c.exchange.corral) c.lowest-id.result) (item g.K.Kernel.place (all_items c.exchange.corral) id)
-    (c.lowest-id.ensures.least id named) (λ low. not_both c.if-not-is_low.true (c.is_low.ensures.1 low))))
+    (c.lowest-id.ensures.least id named) (λ low. one_outcome c.if-not-is_low.true (c.is_low.ensures.1 low))))

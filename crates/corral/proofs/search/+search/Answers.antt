@@ -1,14 +1,10 @@
-use Rattle.std.proofs.Common.{◌≡◌, sym, ◌∙◌, subst, pos, ◌<◌, ◌≤◌, ◌++◌, length, arith, rules, length-append}
-use Rattle.corral.specs.declared.search.Candidate.{Candidate}
+use Rattle.std.proofs.Common.{sym, ◌∙◌, subst, ◌++◌, arith, rules, length-append}
 use Rattle.corral.specs.Parts.{IsPart}
+use Rattle.corral.proofs.Blanks.{blank}
 use Rattle.corral.proofs.MomentSums.{rest}
 use Rattle.corral.proofs.Solutions.{few_candidates}
 use Rattle.corral.proofs.Searching.{popped, part_without, refuted_at_end, refuted_both_ways}
 use Rattle.corral.proofs.search.+search.Goals as goal
-
--- what stands past the end of a list of candidates
-abbrev blank : Candidate
-blank = record { id = record { first = 0; second = 0 }; vector = record { x = pos 0; y = pos 0; z = pos 0 } }
 
 pub push-requires : goal.push-requires
 push-requires g t c =

@@ -1,19 +1,15 @@
-use Rattle.std.proofs.Common.{◌≡◌, refl, sym, ◌∙◌, ap, subst, ℕ, ℤ, pos, ◌≤ℤ◌, ◌<ℤ◌, List, length, get_or, take, arith, rules, SFits, to_z, of_z, to_z-of_z, true, false}
+use Rattle.std.proofs.Common.{◌≡◌, refl, ◌∙◌, subst, ℤ, ◌≤ℤ◌, ◌<ℤ◌, arith, rules, SFits, to_z, of_z, to_z-of_z}
 use Rattle.std.specs.Prelude.{All}
 use Rattle.std.proofs.lemmas.Int.{ints}
 use mir.Syntax.{w128}
 use Rattle.kernel_laws.specs.Vectors.{vector_of}
 use Rattle.kernel_laws.specs.Limits.{IsVectorWithin, reach}
-use Rattle.corral.specs.declared.search.Candidate.{Candidate}
 use Rattle.corral.specs.Moments.{potential_at}
 use Rattle.corral.specs.Balances.{vectors}
+use Rattle.corral.proofs.Blanks.{blank}
 use Rattle.corral.proofs.Mapped.{at_map, map_all_more, take_whole}
 use Rattle.corral.proofs.Running.{is_less, is_not_less}
 use Rattle.corral.proofs.search.are_above.Goals as goal
-
--- what stands past the end of a list of candidates
-abbrev blank : Candidate
-blank = record { id = record { first = 0; second = 0 }; vector = record { x = pos 0; y = pos 0; z = pos 0 } }
 
 pub potential-requires-clause-vector : goal.potential-requires-clause-vector
 potential-requires-clause-vector g c =

@@ -1,30 +1,23 @@
-use Rattle.std.proofs.Common.{◌≡◌, refl, sym, ◌∙◌, ap, subst, ℕ, ℤ, pos, ◌+◌, ◌≤◌, ◌≤ℤ◌, ◌⊎◌, inl, inr, List, length, take, get_or, Bool, true, false, arith, rules, SFits, to_z-of_z}
+use Rattle.std.proofs.Common.{refl, sym, ◌∙◌, ap, subst, pos, ◌≤◌, ◌≤ℤ◌, inl, length, take, arith, rules, SFits, to_z-of_z}
 use Rattle.std.specs.Prelude.{All}
-use Rattle.std.proofs.lemmas.Int.{ints}
 use Rattle.std.proofs.lemmas.List.{length-map}
 use Rattle.std.proofs.lemmas.List.Elements.{All-get_or}
 use mir.Syntax.{w128}
-use Rattle.integers.proofs.Sizes.{below_size}
-use Rattle.bounds_model.specs.Space.{SpacePoint}
-use Rattle.bounds_model.specs.Potentials.{AreAffinelyDependent, IsDependence}
-use Rattle.kernel_laws.specs.Vectors.{vector_of, vectors_of}
+use Rattle.bounds_model.specs.Potentials.{AreAffinelyDependent}
+use Rattle.kernel_laws.specs.Vectors.{vector_of}
 use Rattle.kernel_laws.specs.declared.vectors.Vector.{Vector}
 use Rattle.kernel_laws.specs.Limits.{IsVectorWithin, IsDifference, reach}
-use Rattle.kernel_laws.specs.Solutions.{AreItems, IsWeighting, weighted, weight_limit}
-use Rattle.corral.specs.Supports.{IsRefuted}
-use Rattle.corral.specs.Moments.{AreMoments, potential_at}
+use Rattle.kernel_laws.specs.Solutions.{AreItems, IsWeighting, weight_limit}
+use Rattle.corral.specs.Moments.{potential_at}
 use Rattle.corral.specs.Balances.{vectors}
+use Rattle.corral.proofs.Outcomes.{one_outcome}
 use Rattle.corral.proofs.Parts.{part_all}
-use Rattle.corral.proofs.Solutions.{same_vectors, few_candidates, items_of_part, vectors_part, within_reach, within_plane_reach, light_weights, refuted_by_weight, IsSolution, solution_within, solution_few, solution_level, refuted_by_low, found, solution, first_of_part, not_empty}
+use Rattle.corral.proofs.Solutions.{same_vectors, few_candidates, items_of_part, vectors_part, within_reach, within_plane_reach, refuted_by_weight, IsSolution, solution_within, solution_few, solution_level, refuted_by_low, found, solution, first_of_part, not_empty}
 use Rattle.corral.proofs.search.settled.Goals as goal
 
 -- the zero vector
 abbrev zero : Vector
 zero = record { x = pos 0; y = pos 0; z = pos 0 }
-
--- a test has one outcome
-false_is_not_true : {b : Bool} → b ≡ false → b ≡ true → ⊥
-false_is_not_true e f = cc
 
 pub vectors-padded-requires : goal.vectors-padded-requires
 vectors-padded-requires g c = few_candidates g.K.Kernel.DIM g.met.K.Kernel.two_or_three c.requires.part c.requires.all.few
@@ -43,7 +36,7 @@ pub returns-then-not-are_positive-clause-none : goal.returns-then-not-are_positi
 returns-then-not-are_positive-clause-none g c e some =
     refuted_by_weight g.T.Potential.SQUARE (weight_limit g.T.Potential.SQUARE g.K.Kernel.DIM) (vectors c.args.all.now) (vectors c.args.part.now) c.in-Weights.solution.items
     (subst (λ vs. IsWeighting g.T.Potential.SQUARE (weight_limit g.T.Potential.SQUARE g.K.Kernel.DIM) vs c.in-Weights.solution.items) (same_vectors c.args.part.now c.vectors-padded.result c.vectors-padded.ensures) c.in-Weights.ensures.answer)
-    (λ all. false_is_not_true c.if-not-are_positive.true (c.are_positive.ensures.1 (subst (All (λ w. pos 1 ≤ℤ w)) (sym c.as_slice-weights.ensures.value) all)))
+    (λ all. one_outcome c.if-not-are_positive.true (c.are_positive.ensures.1 (subst (All (λ w. pos 1 ≤ℤ w)) (sym c.as_slice-weights.ensures.value) all)))
 
 pub moments-moments-requires-clause-near : goal.moments-moments-requires-clause-near
 moments-moments-requires-clause-near g c =
@@ -71,7 +64,7 @@ returns-then-not-are_above-clause-none g c e some =
     let solved : IsSolution g.T.Potential.SQUARE g.K.Kernel.DIM c.args.all.now c.args.part.now c.as_slice-weights.result.now c.moments-moments.result = (solution g.T.Potential.SQUARE g.K.Kernel.DIM c.args.all.now c.args.part.now (take (length c.args.part.now) c.vectors-padded.result) c.as_slice-weights.result.now c.in-Weights.solution.items c.moments-moments.result c.requires.part (not_empty (length c.args.part.now) c.is_empty.result c.is_empty.ensures c.if-is_empty.false) c.requires.all (same_vectors c.args.part.now c.vectors-padded.result c.vectors-padded.ensures) c.in-Weights.ensures.answer c.as_slice-weights.ensures.value c.in-Weights.ensures.null.1 (c.are_positive.ensures.0 c.if-not-are_positive.false) c.moments-moments.ensures) in
     let level = to_z-of_z fits ∙ c.potential-level.ensures ∙ ap (potential_at g.T.Potential.SQUARE c.moments-moments.result) (first_of_part c.args.part.now (take (length c.args.part.now) c.vectors-padded.result) zero (same_vectors c.args.part.now c.vectors-padded.result c.vectors-padded.ensures)) in
     let each = solution_level g.T.Potential.SQUARE g.K.Kernel.DIM c.args.all.now c.args.part.now c.as_slice-weights.result.now c.moments-moments.result solved _ (vector_of zero) level in
-    refuted_by_low g.T.Potential.SQUARE g.K.Kernel.DIM c.args.all.now c.args.part.now c.as_slice-weights.result.now c.moments-moments.result solved _ each (λ all. false_is_not_true c.if-not-are_above.true (c.are_above.ensures.1 all))
+    refuted_by_low g.T.Potential.SQUARE g.K.Kernel.DIM c.args.all.now c.args.part.now c.as_slice-weights.result.now c.moments-moments.result solved _ each (λ all. one_outcome c.if-not-are_above.true (c.are_above.ensures.1 all))
 
 pub weighted-requires-clause-few : goal.weighted-requires-clause-few
 weighted-requires-clause-few g c = solution_few g.T.Potential.SQUARE g.K.Kernel.DIM c.args.all.now c.args.part.now c.as_slice-weights.result.now c.moments-moments.result (solution g.T.Potential.SQUARE g.K.Kernel.DIM c.args.all.now c.args.part.now (take (length c.args.part.now) c.vectors-padded.result) c.as_slice-weights.result.now c.in-Weights.solution.items c.moments-moments.result c.requires.part (not_empty (length c.args.part.now) c.is_empty.result c.is_empty.ensures c.if-is_empty.false) c.requires.all (same_vectors c.args.part.now c.vectors-padded.result c.vectors-padded.ensures) c.in-Weights.ensures.answer c.as_slice-weights.ensures.value c.in-Weights.ensures.null.1 (c.are_positive.ensures.0 c.if-not-are_positive.false) c.moments-moments.ensures) g.met.K.Kernel.two_or_three

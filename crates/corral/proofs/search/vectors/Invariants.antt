@@ -1,4 +1,4 @@
-use Rattle.std.proofs.Common.{◌≡◌, ℕ, length, take, map}
+use Rattle.std.proofs.Common.{◌≡◌, length, take, map}
 use Rattle.corral.proofs.search.vectors.Given as goal
 
 abbrev pub invariant-loop-i : goal.invariant-loop-i

@@ -1,4 +1,4 @@
-use Rattle.std.proofs.Common.{◌≡◌, refl, sym, ◌∙◌, ap, subst, ◌≤◌, ◌++◌, length, arith}
+use Rattle.std.proofs.Common.{refl, sym, ◌∙◌, subst, ◌≤◌, ◌++◌, length}
 use Rattle.corral.specs.Parts.{IsPart}
 use Rattle.corral.specs.Balances.{vectors, AreRefuted}
 use Rattle.corral.proofs.Parts.{part_whole}

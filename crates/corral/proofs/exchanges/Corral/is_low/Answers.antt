@@ -1,6 +1,5 @@
 use Rattle.std.proofs.Common.{◌∙◌, rules, SFits, to_z-of_z, ap}
 use mir.Syntax.{w128}
-use Rattle.kernel_laws.specs.Vectors.{vector_of}
 use Rattle.corral.specs.Held.{weighted_items}
 use Rattle.corral.specs.Moments.{potential_at}
 use Rattle.corral.specs.Items.{item}

@@ -1,16 +1,13 @@
-use Rattle.std.proofs.Common.{◌≡◌, subst, take, get_or, arith, pos, ◌<◌}
+use Rattle.std.proofs.Common.{subst, get_or}
 use Rattle.std.specs.Prelude.{All}
 use Rattle.std.proofs.lemmas.List.Elements.{All-more}
 use Rattle.kernel_laws.specs.Vectors.{vector_of}
 use Rattle.corral.specs.declared.search.Candidate.{Candidate}
 use Rattle.corral.specs.Balances.{IsNear}
+use Rattle.corral.proofs.Blanks.{blank}
 use Rattle.corral.proofs.Mapped.{take_whole}
 use Rattle.corral.proofs.Nearness.{near_points}
 use Rattle.corral.proofs.exchanges.Corral.near_all.Goals as goal
-
--- what stands past the end of a list of candidates
-abbrev blank : Candidate
-blank = record { id = record { first = 0; second = 0 }; vector = record { x = pos 0; y = pos 0; z = pos 0 } }
 
 pub tell-preserved : goal.tell-preserved
 tell-preserved g c =

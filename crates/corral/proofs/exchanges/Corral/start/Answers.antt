@@ -1,15 +1,11 @@
-use Rattle.std.proofs.Common.{◌≡◌, refl, sym, ◌∙◌, ap, ap₂, subst, pos, ◌+◌, ◌≤◌, ◌++◌, ◌∷◌, [], length, arith, rules, SFits, to_z, of_z, to_z-of_z}
-use Rattle.std.specs.Prelude.{All}
+use Rattle.std.proofs.Common.{◌≡◌, sym, ◌∙◌, ap, subst, pos, ◌++◌, ◌∷◌, [], arith, rules, SFits, to_z, of_z, to_z-of_z}
 use Rattle.std.proofs.lemmas.List.Elements.{All-nil, All-cons}
 use mir.Syntax.{w128}
-use Rattle.bounds_model.specs.Space.{plus, times}
-use Rattle.kernel_laws.specs.Vectors.{vector_of, sum_of}
-use Rattle.kernel_laws.specs.Limits.{IsDifference}
+use Rattle.kernel_laws.specs.Vectors.{vector_of}
 use Rattle.corral.specs.declared.items.Id.{Id}
 use Rattle.corral.specs.declared.holding.Held.{Held}
-use Rattle.corral.specs.Items.{IsItem, item}
+use Rattle.corral.specs.Items.{IsItem}
 use Rattle.corral.specs.Held.{AreHeld, weighted_items}
-use Rattle.corral.specs.Moments.{AreMoments, potential_at}
 use Rattle.corral.specs.Balances.{IsBalance}
 use Rattle.corral.proofs.Balancing.{one_within, sums_of_one, balance_of_one}
 use Rattle.corral.proofs.exchanges.Corral.start.Goals as goal

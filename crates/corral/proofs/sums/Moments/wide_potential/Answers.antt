@@ -1,4 +1,4 @@
-use Rattle.std.proofs.Common.{◌≡◌, ℕ, ℤ, List, [], ◌∷◌, inl, inr}
+use Rattle.std.proofs.Common.{ℕ, ℤ, List, [], ◌∷◌, inl, inr}
 use mir.Syntax.{w128}
 use Rattle.bounds_model.specs.Space.{SpacePoint}
 use Rattle.integers.proofs.MachineArithmetic.{Given, given, with_inputs, codes, computes, fits, number}

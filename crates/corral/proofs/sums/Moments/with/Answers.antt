@@ -1,6 +1,6 @@
-use Rattle.std.proofs.Common.{List, [], ◌∷◌}
+use Rattle.std.proofs.Common.{[], ◌∷◌}
 use mir.Syntax.{w128}
-use Rattle.integers.proofs.MachineArithmetic.{Given, given, with_inputs, codes, computes, fits}
+use Rattle.integers.proofs.MachineArithmetic.{given, with_inputs, codes, computes, fits}
 use Rattle.kernel_laws.proofs.Points.{same_point}
 use Rattle.corral.proofs.sums.Moments.with.Goals as goal
 
