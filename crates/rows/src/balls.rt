@@ -16,7 +16,7 @@ const CHECK_SPHERE: [&str; 5] = ["check", "a", "b", "--kind", "sphere"];
 #[test]
 fn smallest_balls(rt: HostRuntime) -> Result<(), Fail> {
     // The words, those of the check, the points, and the first lines of the answer.
-    let table: [(&[&str], &[&str], &[u8], &[u8]); 12] = [
+    let table: [(&[&str], &[&str], &[u8], &[u8]); 20] = [
         (
             &CIRCLE,
             &CHECK_CIRCLE,
@@ -88,6 +88,55 @@ fn smallest_balls(rt: HostRuntime) -> Result<(), Fail> {
             &CHECK_SPHERE,
             b"0 0 7\n4 0 7\n2 3 7\n",
             b"answer 1 sphere\nsize 169/36\ncenter 12 5 42 6\nsupports 3\n",
+        ),
+        // Sets with many ties, of which several supports pass.
+        (
+            &CIRCLE,
+            &CHECK_CIRCLE,
+            b"0 0\n0 1\n0 2\n1 0\n1 1\n1 2\n2 0\n2 1\n2 2\n",
+            b"answer 1 circle\nsize 2/1\ncenter 1 1 1\nsupports ",
+        ),
+        (
+            &CIRCLE,
+            &CHECK_CIRCLE,
+            b"-5 0\n-4 -3\n-4 3\n-3 -4\n-3 4\n0 -5\n0 5\n3 -4\n3 4\n4 -3\n4 3\n5 0\n",
+            b"answer 1 circle\nsize 25/1\ncenter 0 0 1\nsupports ",
+        ),
+        (
+            &CIRCLE,
+            &CHECK_CIRCLE,
+            b"-8 -1\n-8 1\n-7 -4\n-7 4\n-4 -7\n-4 7\n-1 -8\n-1 8\n1 -8\n1 8\n4 -7\n4 7\n7 -4\n7 4\n8 -1\n8 1\n",
+            b"answer 1 circle\nsize 65/1\ncenter 0 0 1\nsupports ",
+        ),
+        (
+            &CIRCLE,
+            &CHECK_CIRCLE,
+            b"0 0\n0 0\n4 0\n4 0\n0 3\n0 3\n",
+            b"answer 1 circle\nsize 25/4\ncenter 4 3 2\nsupports ",
+        ),
+        (
+            &CIRCLE,
+            &CHECK_CIRCLE,
+            b"0 0\n2 1\n4 2\n8 4\n6 3\n",
+            b"answer 1 circle\nsize 20/1\ncenter 4 2 1\nsupports ",
+        ),
+        (
+            &CIRCLE,
+            &CHECK_CIRCLE,
+            b"5 0\n-3 4\n-3 -4\n-3 4\n0 1\n",
+            b"answer 1 circle\nsize 25/1\ncenter 0 0 1\nsupports ",
+        ),
+        (
+            &SPHERE,
+            &CHECK_SPHERE,
+            b"0 0 0\n0 0 2\n0 2 0\n0 2 2\n2 0 0\n2 0 2\n2 2 0\n2 2 2\n",
+            b"answer 1 sphere\nsize 3/1\ncenter 1 1 1 1\nsupports ",
+        ),
+        (
+            &SPHERE,
+            &CHECK_SPHERE,
+            b"-3 0 0\n-2 -2 -1\n-2 -2 1\n-2 -1 -2\n-2 -1 2\n-2 1 -2\n-2 1 2\n-2 2 -1\n-2 2 1\n-1 -2 -2\n-1 -2 2\n-1 2 -2\n-1 2 2\n0 -3 0\n0 0 -3\n0 0 3\n0 3 0\n1 -2 -2\n1 -2 2\n1 2 -2\n1 2 2\n2 -2 -1\n2 -2 1\n2 -1 -2\n2 -1 2\n2 1 -2\n2 1 2\n2 2 -1\n2 2 1\n3 0 0\n",
+            b"answer 1 sphere\nsize 9/1\ncenter 0 0 0 1\nsupports ",
         ),
     ];
     for (words, check, points, lines) in table {
