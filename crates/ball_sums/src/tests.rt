@@ -19,13 +19,10 @@ fn solid(rt: &impl Abort, x: i64, y: i64, z: i64) -> Point3 {
 #[test]
 fn a_circle_over_three_points(rt: HostRuntime) {
     let first = flat(&rt, 0, 0);
-    let mut sums = Sums::none();
-    for (weight, x, y) in [(13, 0, 0), (13, 4, 0), (10, 2, 3)] {
-        let to = Plane.diff(&first, &flat(&rt, x, y));
-        sums = sums
-            .checked_with(&Plane, weight, to)
-            .expect(&rt, "within the limit");
-    }
+    let sums = Sums::none()
+        .with(&Plane, 13, Plane.diff(&first, &first))
+        .with(&Plane, 13, Plane.diff(&first, &flat(&rt, 4, 0)))
+        .with(&Plane, 10, Plane.diff(&first, &flat(&rt, 2, 3)));
     let wanted = Sums {
         weight: 36,
         pull: Sum { x: 72, y: 30, z: 0 },

@@ -1,15 +1,12 @@
 -- A held ball passes what a checker asks.
-use Rattle.std.proofs.Common.{◌≡◌, sym, subst, ℕ, zero, suc, ◌<◌, ◌≤◌, ◌^◌, ℤ, pos, ◌≤ℤ◌, ◌<ℤ◌, List, [], ◌∷◌, length, map, arith}
+use Rattle.std.proofs.Common.{◌≡◌, sym, subst, ◌<◌, ◌≤◌, ◌^◌, List, length, map, arith}
 use Rattle.std.specs.Prelude.{All}
-use Rattle.std.proofs.lemmas.Int.{ints}
 use Rattle.std.proofs.lemmas.List.{length-map}
-use Rattle.std.proofs.lemmas.List.Elements.{All-head, All-tail}
-use Rattle.integers.proofs.Sums.{total_nonneg_all, total_positive}
 use Rattle.bounds_model.specs.Plane.{PlanePoint, PlaneRatio}
 use Rattle.bounds_model.specs.Space.{SpacePoint, SpaceRatio, flat, flat_ratio, SamePlace}
 use Rattle.bounds_model.specs.Fractions.{Fraction}
-use Rattle.bounds_model.specs.Places.{IsPlaneRatio, IsSpaceRatio, number_limit}
-use Rattle.bounds_model.specs.BallAnswer.{Weighted, weight_sum, supported_centre, IsSupportPlace, PassesCircle, PassesSphere}
+use Rattle.bounds_model.specs.Places.{IsPlaneRatio, IsSpaceRatio}
+use Rattle.bounds_model.specs.BallAnswer.{Weighted, supported_centre, PassesCircle, PassesSphere}
 use Rattle.corral.specs.declared.items.Items.{Items}
 use Rattle.corral.specs.declared.items.Items.TheVariants.{Points, Differences}
 use Rattle.corral.specs.Items.{first_points}

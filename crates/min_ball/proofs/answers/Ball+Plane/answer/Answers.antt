@@ -1,4 +1,4 @@
-use Rattle.std.proofs.Common.{◌≤◌, refl, map, subst}
+use Rattle.std.proofs.Common.{map, subst}
 use Rattle.bounds_model.specs.Space.{SamePlace, flat, flat_ratio}
 use Rattle.ball_sums.proofs.Weights.{some_weight}
 use Rattle.ball_sums.proofs.Means.{plane_mean_is}

@@ -1,4 +1,4 @@
-use Rattle.std.proofs.Common.{◌≡◌, ◌≤◌, map, subst, arith}
+use Rattle.std.proofs.Common.{◌≡◌, map, subst, arith}
 use Rattle.std.proofs.lemmas.List.{length-map, map-id}
 use Rattle.bounds_model.specs.Space.{SpacePoint, SamePlace}
 use Rattle.bounds_model.specs.BallAnswer.{PassesSphere}
