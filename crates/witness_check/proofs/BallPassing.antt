@@ -1,13 +1,10 @@
 -- What is left to ask of a circle or a sphere once its supports hold a ball in place: the centre.
-use Rattle.std.proofs.Common.{◌≡◌, refl, sym, subst, ◌∙◌, ap, ap₂, ℕ, zero, suc, ◌≤◌, ◌^◌, ℤ, pos, ◌+ℤ◌, ◌-ℤ◌, ◌*ℤ◌, ◌≤ℤ◌, List, [], ◌∷◌, length, map, Bool, IsTrue, ◌↔◌, arith}
-use Rattle.std.specs.Prelude.{All}
-use Rattle.std.proofs.lemmas.Int.{ints}
+use Rattle.std.proofs.Common.{◌≡◌, refl, sym, subst, ap, ◌≤◌, ◌^◌, List, [], ◌∷◌, length, map, Bool, IsTrue, ◌↔◌, arith}
 use Rattle.std.proofs.lemmas.List.{length-map}
-use Rattle.std.proofs.lemmas.List.Elements.{All-nil, All-cons, All-head, All-tail, All-weaker}
 use Rattle.bounds_model.specs.Plane.{PlanePoint}
-use Rattle.bounds_model.specs.Space.{SpacePoint, point_at, plus, times, vector, weighted_sum, flat, flat_ratio, SamePlace}
-use Rattle.bounds_model.specs.Places.{IsPlaneRatio, IsSpaceRatio, IsNatural}
-use Rattle.bounds_model.specs.BallAnswer.{Weighted, CircleAnswer, SphereAnswer, IsSupportPlace, weight_sum, first_support, pull, supported_size, supported_centre, PassesCircle, PassesSphere}
+use Rattle.bounds_model.specs.Space.{SpacePoint, flat, flat_ratio, SamePlace}
+use Rattle.bounds_model.specs.Places.{IsPlaneRatio, IsSpaceRatio}
+use Rattle.bounds_model.specs.BallAnswer.{CircleAnswer, SphereAnswer, first_support, supported_centre, PassesCircle, PassesSphere}
 use Rattle.ball_sums.specs.declared.sums.Sums.{Sums}
 use Rattle.ball_sums.specs.Means.{plane_mean, space_mean}
 use Rattle.ball_sums.proofs.Weights.{in_places}

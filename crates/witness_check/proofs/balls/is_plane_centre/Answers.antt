@@ -1,5 +1,3 @@
-use Rattle.std.proofs.Common.{◌≤◌, ℤ, pos, ◌<ℤ◌, arith}
-use Rattle.std.proofs.lemmas.Int.{ints}
 use Rattle.ball_sums.specs.Means.{plane_mean}
 use Rattle.ball_sums.proofs.MachineMeans.{denominator_positive}
 use Rattle.witness_check.proofs.LowestPlaces.{has_plane_place, plane_ratio_same}
