@@ -1,5 +1,5 @@
 -- Supports of equal potential, under which no point is low, hold a ball in place.
-use Rattle.std.proofs.Common.{◌≡◌, refl, sym, subst, ◌∙◌, ap, ap₂, ℕ, ◌<◌, ◌≤◌, ℤ, pos, ◌*◌, ◌*ℤ◌, ◌≤ℤ◌, ◌<ℤ◌, List, [], ◌∷◌, length, get_or, map, arith}
+use Rattle.std.proofs.Common.{◌≡◌, refl, sym, subst, ◌∙◌, ap, ap₂, ℕ, ◌<◌, ◌≤◌, ℤ, pos, ◌*ℤ◌, ◌≤ℤ◌, ◌<ℤ◌, List, [], ◌∷◌, length, get_or, map, arith}
 use Rattle.std.specs.Prelude.{All}
 use Rattle.std.proofs.lemmas.Int.{ints}
 use Rattle.std.proofs.lemmas.List.{length-map}
@@ -23,9 +23,8 @@ use Rattle.corral.specs.Held.{AreHeld, weighted_item, weighted_items}
 use Rattle.corral.specs.Supports.{AreSupports}
 use Rattle.corral.proofs.Mapped.{all_unmap}
 use Rattle.corral.proofs.Moments.{at_least_common, mass_positive}
-use Rattle.min_ball.specs.declared.sums.Sums.{Sums}
+use Rattle.ball_sums.specs.declared.sums.Sums.{Sums}
 use Rattle.min_ball.specs.Balls.{weighted_point, IsHeld}
-use Rattle.min_ball.specs.Sums.{AreSumsFrom}
 use Rattle.min_ball.proofs.SeenFromFirst.{sum_seen, on_ball_of_same, inside_of_above}
 
 -- ---- lists
@@ -115,11 +114,6 @@ some_weight place items held sums h e =
   where
     conclude : (n : ℕ) → pos 0 <ℤ pos n → 1 ≤ n
     conclude n h = omega (arith, ints)
-
--- the size that the sums give is the supported one
-pub size_of_sums : (points : List SpacePoint) (supports : List Weighted) (sums : Sums) (size : Fraction) → AreSumsFrom (first_support points supports) points supports sums
-    → SameValue size (record { n = pos sums.moment; d = pos (2 * sums.weight) }) → SameValue size (supported_size points supports)
-size_of_sums points supports sums size h = subst (SameValue size) (ap₂ (λ n d. record { n = n; d = pos 2 *ℤ d }) h.moment h.weight)
 
 -- supports under which nothing is low hold a ball
 pub held_by_supports : (K : Type 0) {P : Type 0} (dim : ℕ) (place : P → SpacePoint) (cloud : Cloud P) (items : Items K P) (held : List Held) (size : Fraction)

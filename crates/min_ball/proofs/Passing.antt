@@ -1,59 +1,22 @@
 -- A held ball passes what a checker asks.
-use Rattle.std.proofs.Common.{◌≡◌, sym, subst, ℕ, zero, suc, ◌<◌, ◌≤◌, ◌^◌, ℤ, pos, ◌≤ℤ◌, ◌<ℤ◌, List, [], ◌∷◌, length, map, arith}
+use Rattle.std.proofs.Common.{◌≡◌, sym, subst, ◌<◌, ◌≤◌, ◌^◌, List, length, map, arith}
 use Rattle.std.specs.Prelude.{All}
-use Rattle.std.proofs.lemmas.Int.{ints}
 use Rattle.std.proofs.lemmas.List.{length-map}
-use Rattle.std.proofs.lemmas.List.Elements.{All-head, All-tail}
-use Rattle.integers.proofs.Sums.{total_nonneg_all, total_positive}
 use Rattle.bounds_model.specs.Plane.{PlanePoint, PlaneRatio}
 use Rattle.bounds_model.specs.Space.{SpacePoint, SpaceRatio, flat, flat_ratio, SamePlace}
 use Rattle.bounds_model.specs.Fractions.{Fraction}
-use Rattle.bounds_model.specs.Places.{IsPlaneRatio, IsSpaceRatio, number_limit}
-use Rattle.bounds_model.specs.BallAnswer.{Weighted, weight_sum, supported_centre, IsSupportPlace, PassesCircle, PassesSphere}
+use Rattle.bounds_model.specs.Places.{IsPlaneRatio, IsSpaceRatio}
+use Rattle.bounds_model.specs.BallAnswer.{Weighted, supported_centre, PassesCircle, PassesSphere}
 use Rattle.corral.specs.declared.items.Items.{Items}
 use Rattle.corral.specs.declared.items.Items.TheVariants.{Points, Differences}
 use Rattle.corral.specs.Items.{first_points}
-use Rattle.min_ball.specs.declared.sums.Sums.{Sums}
+use Rattle.ball_sums.proofs.Weights.{in_places}
 use Rattle.min_ball.specs.Balls.{IsHeld}
-
--- ---- the places of supports
 
 -- there are at most 10000 points
 pub few_points : {K P : Type 0} (items : Items K P) → length (first_points items) ≤ 10000
 few_points (Points cloud) = cloud.limited
 few_points (Differences p q) = p.limited
-
-nonneg : (supports : List Weighted) → All (λ s. pos 1 ≤ℤ s.weight) supports → pos 0 ≤ℤ weight_sum supports
-nonneg supports h = total_nonneg_all (λ s. s.weight) supports (λ k d l. let one = h k d l in omega (arith, ints))
-
--- no weight is above the sum of all
-no_more_than_all : (supports : List Weighted) → All (λ s. pos 1 ≤ℤ s.weight) supports → All (λ s. s.weight ≤ℤ weight_sum supports) supports
-no_more_than_all [] h k d l = absurd (omega arith)
-no_more_than_all (s ∷ supports) h zero d l = let rest = nonneg supports (All-tail (λ (s : Weighted). pos 1 ≤ℤ s.weight) s supports h) in omega (arith, ints)
-no_more_than_all (s ∷ supports) h (suc k) d l =
-    let first = All-head (λ (s : Weighted). pos 1 ≤ℤ s.weight) s supports h in
-    let below = no_more_than_all supports (All-tail (λ (s : Weighted). pos 1 ≤ℤ s.weight) s supports h) k d (omega arith) in
-    omega (arith, ints)
-
--- the supports of a held ball are in their places
-in_places : (count limit : ℕ) (supports : List Weighted) → count ≤ 10000 → limit ≤ 2 ^ 92 → All (λ s. s.point < count) supports → All (λ s. pos 1 ≤ℤ s.weight) supports → weight_sum supports ≤ℤ pos limit
-    → All IsSupportPlace supports
-in_places count limit supports few small numbers weights most k d l =
-    let listed = numbers k d l in
-    let low = weights k d l in
-    let high = no_more_than_all supports weights k d l in
-    (omega arith, record { low = omega (arith, ints); high = within _ _ high most })
-  where
-    within : (w all : ℤ) → w ≤ℤ all → all ≤ℤ pos limit → w ≤ℤ pos number_limit
-    within w all h k = omega (arith, ints)
-
--- their weights have a sum of at least 1
-pub weight_of_held : {dim : ℕ} {points : List SpacePoint} {supports : List Weighted} {size : Fraction} (sums : Sums) → IsHeld dim points supports size → pos sums.weight ≡ weight_sum supports → 1 ≤ sums.weight
-weight_of_held {supports = supports} sums held e =
-    conclude sums.weight (subst (λ m. pos 0 <ℤ m) (sym e) (total_positive (λ (s : Weighted). s.weight) supports (let some = held.count.at_least in omega arith) (λ k d l. let one = held.weights k d l in omega (arith, ints))))
-  where
-    conclude : (n : ℕ) → pos 0 <ℤ pos n → 1 ≤ n
-    conclude n h = omega (arith, ints)
 
 -- ---- what passes
 

@@ -1,3 +1,2 @@
 pub mod Balls
-pub mod Sums
 pub mod SmallestBalls

@@ -1,17 +1,14 @@
 //! The ball as an answer.
-ghost use Rattle.std.specs.Prelude.{◌≡◌, ◌≤◌, ◌^◌, ◌+ℤ◌, ◌*ℤ◌, pos, length, map};
-ghost use Rattle.integers.specs.Size.{Size};
-ghost use Rattle.bounds_model.specs.Places.{IsNumber};
+ghost use Rattle.std.specs.Prelude.{◌≡◌, ◌≤◌, length, map};
 ghost use Rattle.bounds_model.specs.BallAnswer.{PassesCircle, PassesSphere};
 ghost use Rattle.corral.specs.Supported.{supports_of};
 ghost use Rattle.witness_format.specs.Answers.{weighted_of, circle_of, sphere_of};
 ghost use Rattle.min_ball.specs.Balls.{listed};
 
 use crate::Ball;
-use crate::sums::Sums;
+use crate::sums::sums_over;
 use arrayvec::ArrayVec;
 use corral::Support;
-use exact_fractions::{Homog2, Homog3};
 use kernel_laws::{Kernel, Plane, Space};
 use witness_format::{BallAnswer2, BallAnswer3, Weighted};
 
@@ -24,13 +21,11 @@ impl<'a> Ball<'a, Plane> {
         ensures size { result.size ≡ size_of self.now }
         ensures supports { map weighted_of result.supports.items ≡ listed (support_of self.now) }
     {
-        let sums = Sums::over(&Plane, &self.support);
+        let sums = sums_over(&Plane, &self.support);
         let first = self.support.first(0);
-        let x = mean(sums.weight, first.x(), sums.pull.x);
-        let y = mean(sums.weight, first.y(), sums.pull.y);
         BallAnswer2 {
             size: self.size,
-            center: Homog2::new(x, y, sums.weight as i128),
+            center: sums.plane_centre(first),
             supports: weighted(&self.support),
         }
     }
@@ -45,28 +40,14 @@ impl<'a> Ball<'a, Space> {
         ensures size { result.size ≡ size_of self.now }
         ensures supports { map weighted_of result.supports.items ≡ listed (support_of self.now) }
     {
-        let sums = Sums::over(&Space, &self.support);
+        let sums = sums_over(&Space, &self.support);
         let first = self.support.first(0);
-        let x = mean(sums.weight, first.x(), sums.pull.x);
-        let y = mean(sums.weight, first.y(), sums.pull.y);
-        let z = mean(sums.weight, first.z(), sums.pull.z);
         BallAnswer3 {
             size: self.size,
-            center: Homog3::new(x, y, z, sums.weight as i128),
+            center: sums.space_centre(first),
             supports: weighted(&self.support),
         }
     }
-}
-
-/// A coordinate of the weighted mean, times the sum of the weights: that of the pull as seen from the first support.
-fn mean(weight: u128, first: i32, pull: i128) -> i128
-    requires weight { weight ≤ 2 ^ 92 }
-    requires first { Size 200000 first }
-    requires pull { Size (2 ^ 111) pull }
-    ensures value { result ≡ pos weight *ℤ first +ℤ pull }
-    ensures number { IsNumber result }
-{
-    weight as i128 * first as i128 + pull
 }
 
 /// The supports as an answer lists them.

@@ -3,7 +3,7 @@ ghost use Rattle.std.specs.Prelude.{◌≡◌, map};
 ghost use Rattle.bounded_coords.specs.Clouds.{points_of};
 ghost use Rattle.min_ball.specs.Balls.{coordinates, listed, IsHeld, IsHeld-prop};
 
-use crate::sums::Sums;
+use crate::sums::sums_over;
 use bounded_coords::Cloud;
 use corral::{Items, Support, settle};
 use exact_fractions::Frac;
@@ -26,8 +26,8 @@ impl<'a, K: Kernel> Ball<'a, K> {
         ensures held { IsHeld K.DIM (map K.place (points_of cloud.entry)) (listed (support_of result)) (size_of result) }
     {
         let support = settle::<K, BallPotential>(kernel, Items::Points(cloud));
-        let sums = Sums::over(&kernel, &support);
-        let size = Frac::new(sums.moment, 2 * sums.weight);
+        let sums = sums_over(&kernel, &support);
+        let size = sums.size();
         Ball { support, size }
     }
 

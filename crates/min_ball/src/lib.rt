@@ -3,7 +3,7 @@
 //! - `enclosing`: the two calls
 //! - `ball`: a ball with the supports that hold it in place
 //! - `answers`: the ball as an answer
-//! - `sums`: what the size and the centre are computed from
+//! - `sums`: the sums that its size and its centre come from
 #![tactic(auto)]
 
 mod answers;

@@ -1,10 +1,8 @@
 pub mod BallPassing
 pub mod CentresPassing
-pub mod HeldSums
 pub mod Leaves
 pub mod LowestPlaces
-pub mod Means
 pub mod Narrowing
 pub mod Passing
-pub mod SupportSums
+pub mod SupportWeights
 pub mod Supports

@@ -13,6 +13,7 @@ use Rattle.bounds_model.specs.Plane.{PlaneRatio}
 use Rattle.bounds_model.specs.Space.{SpaceRatio, SamePlace, flat_ratio}
 use Rattle.bounds_model.specs.Fractions.{Fraction, SameValue, IsLowest, HaveNoCommonFactor}
 use Rattle.bounds_model.specs.Places.{IsFraction, IsPlaneRatio, IsSpaceRatio}
+use Rattle.ball_sums.proofs.Means.{plane_ratio_by, space_ratio_by}
 
 -- a fraction
 pub fraction_unique : (a b : Fraction) → IsLowest a → IsLowest b → SameValue a b → a ≡ b
@@ -96,20 +97,8 @@ has_space_place a b v p place same = (
   λ e. (subst IsSpaceRatio (sym e) place, subst (λ f. SamePlace f v) (sym e) same),
 )
 
--- ---- equal numbers
+-- ---- what `==` answers
 
--- points over denominators with equal numbers are equal
-pub plane_ratio_by : {x y w a b c : ℤ} → x ≡ a → y ≡ b → w ≡ c → (let p : PlaneRatio = record { x = x; y = y; w = w } in p) ≡ (let q : PlaneRatio = record { x = a; y = b; w = c } in q)
-plane_ratio_by {x} {y} {w} {a} {b} {c} h k l =
-    let first : (let p : PlaneRatio = record { x = x; y = y; w = w } in p) ≡ (let q : PlaneRatio = record { x = a; y = y; w = w } in q) = ap (λ v. record { x = v; y = y; w = w }) h in
-    first ∙ ap₂ (λ v u. record { x = a; y = v; w = u }) k l
-
-pub space_ratio_by : {x y z w a b c d : ℤ} → x ≡ a → y ≡ b → z ≡ c → w ≡ d → (let p : SpaceRatio = record { x = x; y = y; z = z; w = w } in p) ≡ (let q : SpaceRatio = record { x = a; y = b; z = c; w = d } in q)
-space_ratio_by {x} {y} {z} {w} {a} {b} {c} {d} h k l m =
-    let first : (let p : SpaceRatio = record { x = x; y = y; z = z; w = w } in p) ≡ (let q : SpaceRatio = record { x = a; y = b; z = z; w = w } in q) = ap₂ (λ v u. record { x = v; y = u; z = z; w = w }) h k in
-    first ∙ ap₂ (λ v u. record { x = a; y = b; z = v; w = u }) l m
-
--- what `==` answers
 pub plane_ratio_same : {yes : Bool} (a b : PlaneRatio) → yes ≡ (int_eq a.x b.x && (int_eq a.y b.y && int_eq a.w b.w)) → IsTrue yes ↔ (a ≡ b)
 plane_ratio_same {yes} a b e =
     let parts = Decides-at yes (int_eq a.x b.x && (int_eq a.y b.y && int_eq a.w b.w)) e

@@ -12,7 +12,7 @@ use Rattle.kernel_laws.specs.Signs.{height}
 use Rattle.witness_format.specs.declared.answer.Weighted.{Weighted}
 use Rattle.witness_format.specs.Answers.{weighted_of}
 use Rattle.witness_check.proofs.Passing.{All-unmap}
-use Rattle.witness_check.specs.declared.held.Held.{Held}
+use Rattle.ball_sums.specs.declared.sums.Sums.{Sums}
 use Rattle.witness_check.specs.HeldBalls.{IsHeld}
 
 -- the place of a numbered point
@@ -38,17 +38,17 @@ difference : (a b : ℤ) → ((a -ℤ b) <ℤ pos 0 → ⊥) → b ≤ℤ a
 difference a b h = by_lt_z a b (λ below. absurd (h (omega (arith, ints)))) (λ most. most)
 
 -- the height over the ball that the supports hold, in the supports' own words
-height_is : {dim : ℕ} (points : List SpacePoint) (supports : List model.Weighted) (h : Held) (first p : SpacePoint) → IsHeld dim points supports h → first_support points supports ≡ first
-    → height (sum_of h.pull) h.total (vector first p) ≡ pos 2 *ℤ dot (vector (first_support points supports) p) (pull points supports) -ℤ weight_sum supports *ℤ squared_length (vector (first_support points supports) p)
+height_is : {dim : ℕ} (points : List SpacePoint) (supports : List model.Weighted) (h : Sums) (first p : SpacePoint) → IsHeld dim points supports h → first_support points supports ≡ first
+    → height (sum_of h.pull) h.weight (vector first p) ≡ pos 2 *ℤ dot (vector (first_support points supports) p) (pull points supports) -ℤ weight_sum supports *ℤ squared_length (vector (first_support points supports) p)
 height_is points supports h first p held is =
-    ap₂ (λ sum weight. pos 2 *ℤ dot (vector first p) sum -ℤ weight *ℤ squared_length (vector first p)) held.sums.pull held.sums.weights
+    ap₂ (λ sum weight. pos 2 *ℤ dot (vector first p) sum -ℤ weight *ℤ squared_length (vector first p)) held.sums.sums.pull held.sums.sums.weight
     ∙ ap (λ f. pos 2 *ℤ dot (vector f p) (pull points supports) -ℤ weight_sum supports *ℤ squared_length (vector f p)) (sym is)
 
 -- a point of height 0 is on the ball
-pub on_ball_by : {yes : Bool} {dim : ℕ} (points : List SpacePoint) (supports : List model.Weighted) (h : Held) (first p : SpacePoint) (s : model.Weighted) → IsHeld dim points supports h → first_support points supports ≡ first → point_at points s.point ≡ p
-    → (IsTrue yes ↔ (height (sum_of h.pull) h.total (vector first p) ≡ pos 0)) → IsTrue yes ↔ IsOnBall points supports s
+pub on_ball_by : {yes : Bool} {dim : ℕ} (points : List SpacePoint) (supports : List model.Weighted) (h : Sums) (first p : SpacePoint) (s : model.Weighted) → IsHeld dim points supports h → first_support points supports ≡ first → point_at points s.point ≡ p
+    → (IsTrue yes ↔ (height (sum_of h.pull) h.weight (vector first p) ≡ pos 0)) → IsTrue yes ↔ IsOnBall points supports s
 on_ball_by {yes} points supports h first p s held is at test =
-    let e = ap (λ q. height (sum_of h.pull) h.total (vector first q)) (sym at) ∙ height_is points supports h first (point_at points s.point) held is in
+    let e = ap (λ q. height (sum_of h.pull) h.weight (vector first q)) (sym at) ∙ height_is points supports h first (point_at points s.point) held is in
     (λ t. equal _ _ (sym e ∙ test.0 t), λ on. test.1 (e ∙ none _ _ on))
   where
     equal : (a b : ℤ) → a -ℤ b ≡ pos 0 → a ≡ b
@@ -58,8 +58,8 @@ on_ball_by {yes} points supports h first p s held is at test =
     none a b h = omega (arith, ints)
 
 -- and one with a height below 0 is outside
-pub outside_by : {yes : Bool} {dim : ℕ} (points : List SpacePoint) (supports : List model.Weighted) (h : Held) (first p : SpacePoint) → IsHeld dim points supports h → first_support points supports ≡ first
-    → (IsTrue yes ↔ (height (sum_of h.pull) h.total (vector first p) <ℤ pos 0)) → (IsTrue yes → IsNotOutside points supports p → ⊥) × ((IsTrue yes → ⊥) → IsNotOutside points supports p)
+pub outside_by : {yes : Bool} {dim : ℕ} (points : List SpacePoint) (supports : List model.Weighted) (h : Sums) (first p : SpacePoint) → IsHeld dim points supports h → first_support points supports ≡ first
+    → (IsTrue yes ↔ (height (sum_of h.pull) h.weight (vector first p) <ℤ pos 0)) → (IsTrue yes → IsNotOutside points supports p → ⊥) × ((IsTrue yes → ⊥) → IsNotOutside points supports p)
 outside_by {yes} points supports h first p held is test =
     let e = height_is points supports h first p held is in
     (λ t inside. clash _ _ (subst (λ z. z <ℤ pos 0) e (test.0 t)) inside, λ no. difference _ _ (λ below. no (test.1 (subst (λ z. z <ℤ pos 0) (sym e) below))))

@@ -1,13 +1,12 @@
--- Balls that weighted points hold in place, and the sums over these points.
-use Rattle.std.specs.Prelude.{◌≡◌, ℕ, ◌+◌, ◌*◌, ◌<◌, ◌≤◌, pos, ◌+ℤ◌, ◌*ℤ◌, ◌≤ℤ◌, List, length, All}
-use Rattle.integers.specs.Total.{total}
-use Rattle.bounds_model.specs.Space.{SpacePoint, point_at, vector, plus, times, squared_length, weighted_sum}
+-- Balls that weighted points hold in place.
+use Rattle.std.specs.Prelude.{ℕ, ◌<◌, ◌≤◌, pos, ◌≤ℤ◌, List, length, All}
+use Rattle.bounds_model.specs.Space.{SpacePoint}
 use Rattle.bounds_model.specs.Fractions.{Fraction, SameValue}
 use Rattle.bounds_model.specs.Places.{IsFraction}
-use Rattle.bounds_model.specs.BallAnswer.{Weighted, weight_sum, first_support, supported_size, IsOnBall, IsNotOutside}
-use Rattle.kernel_laws.specs.Vectors.{sum_of}
-use Rattle.kernel_laws.specs.Limits.{IsVectorWithin, reach, ball_limit}
-use Rattle.witness_check.specs.declared.held.Held.{Held}
+use Rattle.bounds_model.specs.BallAnswer.{Weighted, weight_sum, supported_size, IsOnBall, IsNotOutside}
+use Rattle.kernel_laws.specs.Limits.{ball_limit}
+use Rattle.ball_sums.specs.declared.sums.Sums.{Sums}
+use Rattle.ball_sums.specs.Sums.{AreSums}
 
 -- the supports' numbers are those of so many points, and their weights are within their limits
 pub record HasBallLimits (dim count : ℕ) (supports : List Weighted) : Type 0 where
@@ -24,32 +23,7 @@ pub record HoldsBall (dim : ℕ) (points : List SpacePoint) (supports : List Wei
   pub on_ball : All (IsOnBall points supports) supports
   pub none_outside : All (IsNotOutside points supports) points
 
--- ---- sums over supports
-
--- the greatest squared length of a difference of two points
-abbrev pub squared_reach : ℕ → ℕ
-squared_reach dim = 3 * (reach dim * reach dim)
-
--- how large the sums are, by the sum of the weights
-pub record IsInRange (dim : ℕ) (h : Held) : Type 0 where
-  pub total : h.total ≤ ball_limit dim
-  pub pull : IsVectorWithin (h.total * reach dim) (sum_of h.pull)
-  pub moment : h.moment ≤ h.total * squared_reach dim
-
--- the sums with a support of this weight more, to which this is the vector
-pub record Adds (weight : ℕ) (v : SpacePoint) (old new : Held) : Type 0 where
-  pub total : new.total ≡ old.total + weight
-  pub pull : sum_of new.pull ≡ plus (sum_of old.pull) (times (pos weight) v)
-  pub moment : pos new.moment ≡ pos old.moment +ℤ pos weight *ℤ squared_length v
-
--- the sums over these supports, as seen from a point
-pub record IsSumOver (points : List SpacePoint) (from : SpacePoint) (supports : List Weighted) (h : Held) : Type 0 where
-  pub weights : pos h.total ≡ weight_sum supports
-  pub pull : sum_of h.pull ≡ weighted_sum (λ s. s.weight) (λ s. vector from (point_at points s.point)) supports
-  pub moment : pos h.moment ≡ total (λ s. s.weight *ℤ squared_length (vector from (point_at points s.point))) supports
-
 -- the sums over all supports, as seen from the first
-pub record IsHeld (dim : ℕ) (points : List SpacePoint) (supports : List Weighted) (h : Held) : Type 0 where
-  pub some : 1 ≤ h.total
-  pub range : IsInRange dim h
-  pub sums : IsSumOver points (first_support points supports) supports h
+pub record IsHeld (dim : ℕ) (points : List SpacePoint) (supports : List Weighted) (s : Sums) : Type 0 where
+  pub some : 1 ≤ s.weight
+  pub sums : AreSums dim points supports s

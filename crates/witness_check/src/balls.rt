@@ -1,9 +1,8 @@
 //! Circles and spheres: weighted points that hold a ball in place around all points.
-ghost use Rattle.std.specs.Prelude.{◌≡◌, ◌↔◌, ◌≤◌, ◌<◌, ◌^◌, pos, ◌+ℤ◌, ◌*ℤ◌, ◌<ℤ◌, length, map, All, IsTrue, MatchOption};
-ghost use Rattle.integers.specs.Size.{Size};
+ghost use Rattle.std.specs.Prelude.{◌≡◌, ◌↔◌, ◌≤◌, ◌<◌, ◌^◌, pos, ◌<ℤ◌, length, map, All, IsTrue, MatchOption};
 ghost use Rattle.bounds_model.specs.Space.{vector, origin, SamePlace, flat, flat_ratio};
 ghost use Rattle.bounds_model.specs.Fractions.{SameValue};
-ghost use Rattle.bounds_model.specs.Places.{IsNumber, IsFraction, IsPlaneRatio, IsSpaceRatio};
+ghost use Rattle.bounds_model.specs.Places.{IsFraction, IsPlaneRatio, IsSpaceRatio};
 ghost use Rattle.bounds_model.specs.BallAnswer.{first_support, supported_size, supported_centre, IsOnBall, IsNotOutside};
 ghost use Rattle.bounds_model.specs.Asks.{ask_circle, ask_sphere, plane, space};
 ghost use Rattle.bounds_model.specs.Answers.{Passes, IsBest, circle, sphere};
@@ -11,9 +10,11 @@ ghost use Rattle.bounded_coords.specs.Clouds.{points_of};
 ghost use Rattle.kernel_laws.specs.Vectors.{sum_of};
 ghost use Rattle.kernel_laws.specs.Signs.{height};
 ghost use Rattle.witness_format.specs.Answers.{weighted_of, circle_of, sphere_of};
-ghost use Rattle.witness_check.specs.HeldBalls.{HasBallLimits, HoldsBall, IsHeld, IsInRange};
+ghost use Rattle.ball_sums.specs.Sums.{IsInRange};
+ghost use Rattle.ball_sums.specs.Means.{mean_size, plane_mean, space_mean};
+ghost use Rattle.witness_check.specs.HeldBalls.{HasBallLimits, HoldsBall, IsHeld};
 
-use crate::held::Held;
+use ball_sums::Sums;
 use bounded_coords::{Cloud, Cloud2, Cloud3, Point2, Point3};
 use exact_fractions::{Frac, Homog2, Homog3};
 use kernel_laws::{Kernel, Plane, Sign, Space, side};
@@ -55,7 +56,7 @@ fn held_ball<K: Kernel>(
     cloud: Cloud<'_, K::P>,
     supports: &[Weighted],
     size: &Frac,
-) -> Option<Held>
+) -> Option<Sums>
     ensures { MatchOption result (HoldsBall K.DIM (map K.place (points_of cloud.entry)) (map weighted_of supports.now) size.now → ⊥) (λ h. HoldsBall K.DIM (map K.place (points_of cloud.entry)) (map weighted_of supports.now) size.now × IsHeld K.DIM (map K.place (points_of cloud.entry)) (map weighted_of supports.now) h) }
 {
     let held = sums(kernel, cloud, supports)?;
@@ -75,7 +76,7 @@ fn held_ball<K: Kernel>(
 
 /// The sums over the supports, as seen from the first. None where there are none, one is no point's, or a weight or their sum
 /// is not within the limits.
-fn sums<K: Kernel>(kernel: &K, cloud: Cloud<'_, K::P>, supports: &[Weighted]) -> Option<Held>
+fn sums<K: Kernel>(kernel: &K, cloud: Cloud<'_, K::P>, supports: &[Weighted]) -> Option<Sums>
     ensures { MatchOption result (HasBallLimits K.DIM (length (points_of cloud.entry)) (map weighted_of supports.now) → ⊥) (λ h. HasBallLimits K.DIM (length (points_of cloud.entry)) (map weighted_of supports.now) × IsHeld K.DIM (map K.place (points_of cloud.entry)) (map weighted_of supports.now) h) }
 {
     if supports.is_empty() {
@@ -85,10 +86,10 @@ fn sums<K: Kernel>(kernel: &K, cloud: Cloud<'_, K::P>, supports: &[Weighted]) ->
         return None;
     }
     let first = cloud.at(supports[0].point);
-    let mut held = Held::none();
+    let mut held = Sums::none();
     for s in supports {
         let to = kernel.diff(first, cloud.at(s.point));
-        held = held.with(kernel, s.weight, to)?;
+        held = held.checked_with(kernel, s.weight, to)?;
     }
     Some(held)
 }
@@ -103,13 +104,13 @@ fn are_numbers(supports: &[Weighted], count: u32) -> bool
 // ---- the size, the supports and the points
 
 /// Whether the size is half the weighted mean of the supports' squared distances from the first.
-fn is_size(size: &Frac, held: &Held) -> bool
-    requires some { 1 ≤ held.now.total }
-    requires total { held.now.total ≤ 2 ^ 92 }
+fn is_size(size: &Frac, held: &Sums) -> bool
+    requires some { 1 ≤ held.now.weight }
+    requires weight { held.now.weight ≤ 2 ^ 92 }
     requires moment { held.now.moment ≤ 2 ^ 122 }
-    ensures { IsTrue result ↔ (IsFraction size.now × SameValue size.now (record { n = pos held.now.moment; d = pos 2 *ℤ pos held.now.total })) }
+    ensures { IsTrue result ↔ (IsFraction size.now × SameValue size.now (mean_size held.now)) }
 {
-    let mean = Frac::new(held.moment, 2 * held.total);
+    let mean = held.size();
     size.num() == mean.num() && size.den() == mean.den()
 }
 
@@ -118,7 +119,7 @@ fn are_on_ball<K: Kernel>(
     kernel: &K,
     cloud: Cloud<'_, K::P>,
     supports: &[Weighted],
-    held: &Held,
+    held: &Sums,
 ) -> bool
     requires limits { HasBallLimits K.DIM (length (points_of cloud)) (map weighted_of supports.now) }
     requires held { IsHeld K.DIM (map K.place (points_of cloud)) (map weighted_of supports.now) held.now }
@@ -138,7 +139,7 @@ fn is_none_outside<K: Kernel>(
     kernel: &K,
     cloud: Cloud<'_, K::P>,
     supports: &[Weighted],
-    held: &Held,
+    held: &Sums,
 ) -> bool
     requires limits { HasBallLimits K.DIM (length (points_of cloud)) (map weighted_of supports.now) }
     requires held { IsHeld K.DIM (map K.place (points_of cloud)) (map weighted_of supports.now) held.now }
@@ -154,25 +155,25 @@ fn is_none_outside<K: Kernel>(
 }
 
 /// Whether a point is on the ball.
-fn is_on<K: Kernel>(kernel: &K, held: &Held, first: &K::P, p: &K::P) -> bool
-    requires some { 1 ≤ held.now.total }
+fn is_on<K: Kernel>(kernel: &K, held: &Sums, first: &K::P, p: &K::P) -> bool
+    requires some { 1 ≤ held.now.weight }
     requires range { IsInRange K.DIM held.now }
-    ensures { IsTrue result ↔ (height (sum_of held.now.pull) held.now.total (vector (K.place first.now) (K.place p.now)) ≡ pos 0) }
+    ensures { IsTrue result ↔ (height (sum_of held.now.pull) held.now.weight (vector (K.place first.now) (K.place p.now)) ≡ pos 0) }
 {
     matches!(
-        side(kernel, held.pull, held.total, kernel.diff(first, p)),
+        side(kernel, held.pull, held.weight, kernel.diff(first, p)),
         Sign::Zero
     )
 }
 
 /// Whether a point is outside the ball.
-fn is_outside<K: Kernel>(kernel: &K, held: &Held, first: &K::P, p: &K::P) -> bool
-    requires some { 1 ≤ held.now.total }
+fn is_outside<K: Kernel>(kernel: &K, held: &Sums, first: &K::P, p: &K::P) -> bool
+    requires some { 1 ≤ held.now.weight }
     requires range { IsInRange K.DIM held.now }
-    ensures { IsTrue result ↔ (height (sum_of held.now.pull) held.now.total (vector (K.place first.now) (K.place p.now)) <ℤ pos 0) }
+    ensures { IsTrue result ↔ (height (sum_of held.now.pull) held.now.weight (vector (K.place first.now) (K.place p.now)) <ℤ pos 0) }
 {
     matches!(
-        side(kernel, held.pull, held.total, kernel.diff(first, p)),
+        side(kernel, held.pull, held.weight, kernel.diff(first, p)),
         Sign::Minus
     )
 }
@@ -180,35 +181,19 @@ fn is_outside<K: Kernel>(kernel: &K, held: &Held, first: &K::P, p: &K::P) -> boo
 // ---- the centre
 
 /// Whether the centre is the weighted mean of the supports.
-fn is_plane_centre(centre: &Homog2, first: &Point2, held: &Held) -> bool
-    requires some { 1 ≤ held.now.total }
+fn is_plane_centre(centre: &Homog2, first: &Point2, held: &Sums) -> bool
+    requires some { 1 ≤ held.now.weight }
     requires range { IsInRange 2 held.now }
-    ensures { IsTrue result ↔ (IsPlaneRatio centre.now × SamePlace (flat_ratio centre.now) (flat_ratio (record { x = pos held.now.total *ℤ first.now.x +ℤ held.now.pull.x; y = pos held.now.total *ℤ first.now.y +ℤ held.now.pull.y; w = pos held.now.total }))) }
+    ensures { IsTrue result ↔ (IsPlaneRatio centre.now × SamePlace (flat_ratio centre.now) (flat_ratio (plane_mean first.now held.now))) }
 {
-    let x = mean(held.total, first.x(), held.pull.x);
-    let y = mean(held.total, first.y(), held.pull.y);
-    *centre == Homog2::new(x, y, held.total as i128)
+    *centre == held.plane_centre(first)
 }
 
 /// Whether the centre is the weighted mean of the supports.
-fn is_space_centre(centre: &Homog3, first: &Point3, held: &Held) -> bool
-    requires some { 1 ≤ held.now.total }
+fn is_space_centre(centre: &Homog3, first: &Point3, held: &Sums) -> bool
+    requires some { 1 ≤ held.now.weight }
     requires range { IsInRange 3 held.now }
-    ensures { IsTrue result ↔ (IsSpaceRatio centre.now × SamePlace centre.now (record { x = pos held.now.total *ℤ first.now.x +ℤ held.now.pull.x; y = pos held.now.total *ℤ first.now.y +ℤ held.now.pull.y; z = pos held.now.total *ℤ first.now.z +ℤ held.now.pull.z; w = pos held.now.total })) }
+    ensures { IsTrue result ↔ (IsSpaceRatio centre.now × SamePlace centre.now (space_mean first.now held.now)) }
 {
-    let x = mean(held.total, first.x(), held.pull.x);
-    let y = mean(held.total, first.y(), held.pull.y);
-    let z = mean(held.total, first.z(), held.pull.z);
-    *centre == Homog3::new(x, y, z, held.total as i128)
-}
-
-/// A coordinate of the weighted mean, times the sum of the weights: seen from the first support, it is that of the pull.
-fn mean(total: u128, first: i32, pull: i128) -> i128
-    requires total { total ≤ 2 ^ 92 }
-    requires first { Size 200000 first }
-    requires pull { Size (2 ^ 111) pull }
-    ensures value { result ≡ pos total *ℤ first +ℤ pull }
-    ensures number { IsNumber result }
-{
-    total as i128 * first as i128 + pull
+    *centre == held.space_centre(first)
 }

@@ -3,14 +3,12 @@
 //!
 //! - `answers`: an answer of any kind
 //! - `balls`: circles and spheres that weighted points hold in place
-//! - `held`: the sums over these points
 //! - `centres`: squares that cover the points
 #![tactic(auto)]
 
 mod answers;
 mod balls;
 mod centres;
-mod held;
 #[cfg(test)]
 mod tests;
 

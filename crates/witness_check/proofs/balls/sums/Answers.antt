@@ -8,10 +8,12 @@ use Rattle.bounds_model.specs.BallAnswer.{first_support}
 use Rattle.bounded_coords.specs.Clouds.{points_of}
 use Rattle.witness_format.specs.Answers.{weighted_of}
 use Rattle.witness_format.specs.declared.answer.Weighted.{Weighted}
-use Rattle.witness_check.specs.HeldBalls.{IsSumOver}
+use Rattle.ball_sums.specs.Sums.{AreSumsFrom}
+use Rattle.ball_sums.proofs.Weights.{some_weight}
+use Rattle.ball_sums.proofs.SupportSums.{sums_of_more}
 use Rattle.witness_check.proofs.Passing.{All-unmap, clash}
 use Rattle.witness_check.proofs.Supports.{placed, first_placed}
-use Rattle.witness_check.proofs.SupportSums.{sum_over_more, too_heavy, some_weight}
+use Rattle.witness_check.proofs.SupportWeights.{too_heavy}
 use Rattle.witness_check.proofs.balls.sums.Goals as goal
 
 not_empty : {yes : Bool} (supports : List Weighted) → yes ≡ eqb (length supports) 0 → yes ≡ false → 1 ≤ length supports
@@ -24,7 +26,7 @@ returns-then-not-are_numbers g c limits =
 
 pub returns-in_err-held : goal.returns-in_err-held
 returns-in_err-held g c =
-    rw c.from_residual.ensures (too_heavy c.args.supports.now c.loop-s.s-index (record { point = 0; weight = 0 }) c.loop-s.held.total c.loop-s-test.true c.loop-s.invariant.sums.weights c.in_err-held.ensures)
+    rw c.from_residual.ensures (too_heavy c.args.supports.now c.loop-s.s-index (record { point = 0; weight = 0 }) c.loop-s.held.weight c.loop-s-test.true c.loop-s.invariant.sums.weight c.in_err-held.ensures)
 
 pub loop-s-preserved : goal.loop-s-preserved
 loop-s-preserved g c =
@@ -41,8 +43,8 @@ loop-s-preserved g c =
     record {
       weights = subst (All (λ s. pos 1 ≤ℤ s.weight)) (sym more) (All-push (λ s. pos 1 ≤ℤ s.weight) (map weighted_of (take c.loop-s.s-index supports)) (weighted_of s) c.loop-s.invariant.weights (omega (arith, ints, added.0)));
       range = added.1;
-      sums = subst (λ ms. IsSumOver (map place points) (first_support (map place points) (map weighted_of supports)) ms c.in_ok-held.held) (sym more)
-          (sum_over_more (map place points) (first_support (map place points) (map weighted_of supports)) (map weighted_of (take c.loop-s.s-index supports)) (weighted_of s) c.loop-s.held c.in_ok-held.held s.weight _ refl to c.loop-s.invariant.sums added.2);
+      sums = subst (λ ms. AreSumsFrom (first_support (map place points) (map weighted_of supports)) (map place points) ms c.in_ok-held.held) (sym more)
+          (sums_of_more (map place points) (first_support (map place points) (map weighted_of supports)) (map weighted_of (take c.loop-s.s-index supports)) (weighted_of s) c.loop-s.held c.in_ok-held.held s.weight _ refl to c.loop-s.invariant.sums added.2);
     }
 
 pub returns : goal.returns
@@ -52,16 +54,16 @@ returns g c =
     let supports = c.args.supports.now in
     let whole : take c.loop-s.s-index supports ≡ supports = take_all c.loop-s.s-index supports c.loop-s-test.false in
     let weights = subst (λ ss. All (λ s. pos 1 ≤ℤ s.weight) (map weighted_of ss)) whole c.loop-s.invariant.weights in
-    let sums = subst (λ ss. IsSumOver (map place points) (first_support (map place points) (map weighted_of supports)) (map weighted_of ss) c.loop-s.held) whole c.loop-s.invariant.sums in
+    let sums = subst (λ ss. AreSumsFrom (first_support (map place points) (map weighted_of supports)) (map place points) (map weighted_of ss) c.loop-s.held) whole c.loop-s.invariant.sums in
     let some = subst (λ n. 1 ≤ n) (sym (length-map supports weighted_of)) (not_empty supports c.is_empty.ensures c.if-is_empty.false) in
     let numbers = subst (λ n. All (λ s. s.point < n) supports) c.len.ensures.count (c.are_numbers.ensures.0 c.if-not-are_numbers.false) in (
       record {
         some = some;
         numbers = All-map (λ s. s.point < length points) weighted_of supports numbers;
         weights = weights;
-        weight_limit = within sums.weights c.loop-s.invariant.range.total;
+        weight_limit = within sums.weight c.loop-s.invariant.range.weight;
       },
-      record { some = some_weight (map weighted_of supports) c.loop-s.held.total some weights sums.weights; range = c.loop-s.invariant.range; sums = sums },
+      record { some = some_weight (map weighted_of supports) c.loop-s.held.weight some weights sums.weight; sums = record { range = c.loop-s.invariant.range; sums = sums } },
     )
   where
     within : {t limit : ℕ} {a : ℤ} → pos t ≡ a → t ≤ limit → a ≤ℤ pos limit

@@ -1,54 +1,26 @@
-use Rattle.std.proofs.Common.{◌∙◌, ap, ◌<◌, ◌≤◌, ◌^◌, pos, ◌+ℤ◌, ◌*ℤ◌, refl, map, rules, arith, SFits}
-use Rattle.std.proofs.lemmas.Int.{to_z_pos, to_z-of_z, ints}
-use mir.Syntax.{w32, w128}
-use Rattle.integers.proofs.Sizes.{size_unsigned}
-use Rattle.bounds_model.specs.Space.{flat}
-use Rattle.bounds_model.specs.Places.{number_limit}
+use Rattle.std.proofs.Common.{map, subst}
+use Rattle.bounds_model.specs.Space.{SamePlace, flat, flat_ratio}
+use Rattle.ball_sums.proofs.Weights.{some_weight}
+use Rattle.ball_sums.proofs.Means.{plane_mean_is}
 use Rattle.corral.specs.Items.{first_points}
 use Rattle.corral.specs.Supported.{supports_of, items_of}
 use Rattle.witness_format.specs.Answers.{weighted_of}
 use Rattle.min_ball.specs.Balls.{listed}
 use Rattle.min_ball.specs.SmallestBalls.{points_in, support_of}
-use Rattle.min_ball.proofs.SumSizes.{within_size}
 use Rattle.min_ball.proofs.SupportSums.{point_of_first}
-use Rattle.min_ball.proofs.Centres.{plane_centre}
-use Rattle.min_ball.proofs.Passing.{few_points, weight_of_held, circle_passes}
+use Rattle.min_ball.proofs.Passing.{few_points, circle_passes}
 use Rattle.min_ball.proofs.answers.Ball+Plane.answer.Goals as goal
 
-pub new-requires-clause-w : goal.new-requires-clause-w
-new-requires-clause-w c =
-    let most = c.over-sums.ensures.range.weight in
-    let small : c.over-sums.result.weight < 2 ^ 127 = omega arith in
-    let fits : c.over-sums.result.weight ≤ number_limit = omega arith in
-    simp (to_z_pos w128 c.over-sums.result.weight small) (within_size (size_unsigned c.over-sums.result.weight fits))
-
-pub new-requires-clause-some : goal.new-requires-clause-some
-new-requires-clause-some c =
-    let most = c.over-sums.ensures.range.weight in
-    let small : c.over-sums.result.weight < 2 ^ 127 = omega arith in
-    let some = weight_of_held c.over-sums.result c.args.self.now.held c.over-sums.ensures.sums.weight in
-    simp (to_z_pos w128 c.over-sums.result.weight small) (omega (arith, ints))
+pub plane_centre-requires-clause-some : goal.plane_centre-requires-clause-some
+plane_centre-requires-clause-some c =
+    let held = c.args.self.now.held in
+    some_weight (listed (support_of c.args.self.now)) c.sums_over-sums.result.weight held.count.at_least held.weights c.sums_over-sums.ensures.sums.weight
 
 pub returns-clause-passes : goal.returns-clause-passes
 returns-clause-passes c =
     let points = points_in c.args.self.now in
     let support = support_of c.args.self.now in
-    let weight = c.over-sums.result.weight in
-    let pull = c.over-sums.result.pull in
-    let most = c.over-sums.ensures.range.weight in
-    let small : weight < 2 ^ 127 = omega arith in
-    let fits_x : SFits w32 c.x.result = search rules in
-    let fits_y : SFits w32 c.y.result = search rules in
-    let fits_across : SFits w128 pull.x = search rules in
-    let fits_up : SFits w128 pull.y = search rules in
-    let fits_mean_x : SFits w128 c.mean-x.result = search rules in
-    let fits_mean_y : SFits w128 c.mean-y.result = search rules in
-    let in_x = simp to_z-of_z at c.mean-x.ensures.value in
-    let in_y = simp to_z-of_z at c.mean-y.ensures.value in
-    let place = simp (to_z-of_z, to_z_pos w128 weight small) at c.new.ensures.place in
+    let centre = c.plane_centre.result in
     let first = point_of_first flat (first_points (items_of support)) (supports_of support) c.first-first.result.now c.first-first.ensures in
-    circle_passes points c.args.self.now.size c.new.result (listed support) (map weighted_of c.weighted.result.items) c.weighted.ensures (few_points (items_of support)) c.args.self.now.held c.new.ensures.lowest
-    (plane_centre points (listed support) c.over-sums.result c.first-first.result.now c.mean-x.result c.mean-y.result (pos weight) c.new.result first c.over-sums.ensures.sums
-    (in_x ∙ ap (λ x. pos weight *ℤ x +ℤ pull.x) c.x.ensures.value)
-    (in_y ∙ ap (λ y. pos weight *ℤ y +ℤ pull.y) c.y.ensures.value)
-    refl place)
+    circle_passes points c.args.self.now.size centre (listed support) (map weighted_of c.weighted.result.items) c.weighted.ensures (few_points (items_of support)) c.args.self.now.held c.plane_centre.ensures.lowest
+    (subst (SamePlace (flat_ratio centre)) (plane_mean_is points (listed support) c.sums_over-sums.result c.first-first.result.now c.sums_over-sums.ensures.sums first) c.plane_centre.ensures.place)

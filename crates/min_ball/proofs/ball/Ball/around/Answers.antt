@@ -1,27 +1,35 @@
-use Rattle.std.proofs.Common.{subst, ◌≤ℤ◌, pos, arith}
+use Rattle.std.proofs.Common.{subst, ◌≤ℤ◌, pos, le_trans}
 use Rattle.kernel_laws.specs.Limits.{ball_limit}
+use Rattle.ball_sums.proofs.SumSizes.{weight_most, moment_most}
+use Rattle.ball_sums.proofs.Means.{mean_size_is}
+use Rattle.bounds_model.specs.Fractions.{SameValue}
 use Rattle.corral.specs.Supported.{supports_of, items_of}
 use Rattle.min_ball.specs.Balls.{coordinates, listed}
-use Rattle.min_ball.proofs.HeldBalls.{mass_is, cloud_items, some_weight, size_of_sums, held_by_supports}
+use Rattle.min_ball.proofs.HeldBalls.{mass_is, cloud_items, some_weight, held_by_supports}
 use Rattle.min_ball.proofs.ball.Ball.around.Goals as goal
 
-pub over-sums-requires : goal.over-sums-requires
-over-sums-requires g c =
+pub sums_over-sums-requires : goal.sums_over-sums-requires
+sums_over-sums-requires g c =
     let items = cloud_items g.row.K.Denot c.args.cloud in
     subst (λ m. m ≤ℤ pos (ball_limit g.K.Kernel.DIM)) (mass_is g.K.Kernel.place items (supports_of c.settle-support.result)) c.settle-support.ensures.limit
 
-pub new-size-requires-clause-some : goal.new-size-requires-clause-some
-new-size-requires-clause-some g c =
+pub size-size-requires-clause-some : goal.size-size-requires-clause-some
+size-size-requires-clause-some g c =
     let items = cloud_items g.row.K.Denot c.args.cloud in
-    let some = some_weight g.K.Kernel.place items (supports_of c.settle-support.result) c.over-sums.result c.settle-support.ensures.supports c.over-sums.ensures.sums.weight in
-    omega arith
+    some_weight g.K.Kernel.place items (supports_of c.settle-support.result) c.sums_over-sums.result c.settle-support.ensures.supports c.sums_over-sums.ensures.sums.weight
+
+pub size-size-requires-clause-weight : goal.size-size-requires-clause-weight
+size-size-requires-clause-weight g c = weight_most g.met.K.Kernel.two_or_three c.sums_over-sums.ensures.range.weight
+
+pub size-size-requires-clause-moment : goal.size-size-requires-clause-moment
+size-size-requires-clause-moment g c = le_trans c.sums_over-sums.ensures.range.moment (moment_most g.met.K.Kernel.two_or_three c.sums_over-sums.ensures.range.weight)
 
 pub invariant_of-result : goal.invariant_of-result
 invariant_of-result g c =
     let support = c.settle-support.result in
     let held = supports_of support in
     record {
-      held = held_by_supports g.row.K.Denot g.K.Kernel.DIM g.K.Kernel.place c.args.cloud (items_of support) held c.new-size.result
-          c.settle-support.ensures.items c.settle-support.ensures.held c.settle-support.ensures.supports c.settle-support.ensures.limit c.settle-support.ensures.none_low c.new-size.ensures.lowest
-          (size_of_sums (coordinates g.K.Kernel.place support) (listed support) c.over-sums.result c.new-size.result c.over-sums.ensures.sums c.new-size.ensures.value);
+      held = held_by_supports g.row.K.Denot g.K.Kernel.DIM g.K.Kernel.place c.args.cloud (items_of support) held c.size-size.result
+          c.settle-support.ensures.items c.settle-support.ensures.held c.settle-support.ensures.supports c.settle-support.ensures.limit c.settle-support.ensures.none_low c.size-size.ensures.lowest
+          (subst (SameValue c.size-size.result) (mean_size_is (coordinates g.K.Kernel.place support) (listed support) c.sums_over-sums.result c.sums_over-sums.ensures.sums) c.size-size.ensures.value);
     }

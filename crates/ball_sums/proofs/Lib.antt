@@ -1,0 +1,5 @@
+pub mod SumSizes
+pub mod Weights
+pub mod SupportSums
+pub mod MachineMeans
+pub mod Means
