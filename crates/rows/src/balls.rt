@@ -1,6 +1,6 @@
 //! Smallest circles and spheres. Their size and centre are fixed; of the supports the checker says whether they are right.
 
-use crate::runs::{run_on, run_over};
+use crate::runs::{is_answered, run_on, run_over};
 use bnd_io::{SureFiles, SureSink};
 use bounds_tool::Status;
 use std::test::Fail;
@@ -16,7 +16,7 @@ const CHECK_SPHERE: [&str; 5] = ["check", "a", "b", "--kind", "sphere"];
 #[test]
 fn smallest_balls(rt: HostRuntime) -> Result<(), Fail> {
     // The words, those of the check, the points, and the first lines of the answer.
-    let table: [(&[&str], &[&str], &[u8], &[u8]); 20] = [
+    let table: [(&[&str], &[&str], &[u8], &[u8]); 12] = [
         (
             &CIRCLE,
             &CHECK_CIRCLE,
@@ -89,65 +89,58 @@ fn smallest_balls(rt: HostRuntime) -> Result<(), Fail> {
             b"0 0 7\n4 0 7\n2 3 7\n",
             b"answer 1 sphere\nsize 169/36\ncenter 12 5 42 6\nsupports 3\n",
         ),
-        // Sets with many ties, of which several supports pass.
+    ];
+    for (words, check, points, lines) in table {
+        let passes = is_answered(rt.alloc(), words, check, points, lines)?;
+        assert!(rt; passes, "at {points:?}");
+    }
+    Ok(())
+}
+
+#[test]
+fn sets_with_many_ties(rt: HostRuntime) -> Result<(), Fail> {
+    // A grid, twelve points on a circle, repeats, a line, a cube, and six points on a sphere: several supports pass.
+    let table: [(&[&str], &[&str], &[u8], &[u8]); 6] = [
         (
             &CIRCLE,
             &CHECK_CIRCLE,
             b"0 0\n0 1\n0 2\n1 0\n1 1\n1 2\n2 0\n2 1\n2 2\n",
-            b"answer 1 circle\nsize 2/1\ncenter 1 1 1\nsupports ",
+            b"answer 1 circle\nsize 2/1\ncenter 1 1 1\n",
         ),
         (
             &CIRCLE,
             &CHECK_CIRCLE,
             b"-5 0\n-4 -3\n-4 3\n-3 -4\n-3 4\n0 -5\n0 5\n3 -4\n3 4\n4 -3\n4 3\n5 0\n",
-            b"answer 1 circle\nsize 25/1\ncenter 0 0 1\nsupports ",
-        ),
-        (
-            &CIRCLE,
-            &CHECK_CIRCLE,
-            b"-8 -1\n-8 1\n-7 -4\n-7 4\n-4 -7\n-4 7\n-1 -8\n-1 8\n1 -8\n1 8\n4 -7\n4 7\n7 -4\n7 4\n8 -1\n8 1\n",
-            b"answer 1 circle\nsize 65/1\ncenter 0 0 1\nsupports ",
+            b"answer 1 circle\nsize 25/1\ncenter 0 0 1\n",
         ),
         (
             &CIRCLE,
             &CHECK_CIRCLE,
             b"0 0\n0 0\n4 0\n4 0\n0 3\n0 3\n",
-            b"answer 1 circle\nsize 25/4\ncenter 4 3 2\nsupports ",
+            b"answer 1 circle\nsize 25/4\ncenter 4 3 2\n",
         ),
         (
             &CIRCLE,
             &CHECK_CIRCLE,
             b"0 0\n2 1\n4 2\n8 4\n6 3\n",
-            b"answer 1 circle\nsize 20/1\ncenter 4 2 1\nsupports ",
-        ),
-        (
-            &CIRCLE,
-            &CHECK_CIRCLE,
-            b"5 0\n-3 4\n-3 -4\n-3 4\n0 1\n",
-            b"answer 1 circle\nsize 25/1\ncenter 0 0 1\nsupports ",
+            b"answer 1 circle\nsize 20/1\ncenter 4 2 1\n",
         ),
         (
             &SPHERE,
             &CHECK_SPHERE,
             b"0 0 0\n0 0 2\n0 2 0\n0 2 2\n2 0 0\n2 0 2\n2 2 0\n2 2 2\n",
-            b"answer 1 sphere\nsize 3/1\ncenter 1 1 1 1\nsupports ",
+            b"answer 1 sphere\nsize 3/1\ncenter 1 1 1 1\n",
         ),
         (
             &SPHERE,
             &CHECK_SPHERE,
-            b"-3 0 0\n-2 -2 -1\n-2 -2 1\n-2 -1 -2\n-2 -1 2\n-2 1 -2\n-2 1 2\n-2 2 -1\n-2 2 1\n-1 -2 -2\n-1 -2 2\n-1 2 -2\n-1 2 2\n0 -3 0\n0 0 -3\n0 0 3\n0 3 0\n1 -2 -2\n1 -2 2\n1 2 -2\n1 2 2\n2 -2 -1\n2 -2 1\n2 -1 -2\n2 -1 2\n2 1 -2\n2 1 2\n2 2 -1\n2 2 1\n3 0 0\n",
-            b"answer 1 sphere\nsize 9/1\ncenter 0 0 0 1\nsupports ",
+            b"3 0 0\n-3 0 0\n0 3 0\n0 -3 0\n0 0 3\n0 0 -3\n",
+            b"answer 1 sphere\nsize 9/1\ncenter 0 0 0 1\n",
         ),
     ];
     for (words, check, points, lines) in table {
-        let (status, answer, err) = run_on(rt.alloc(), words, points, b"", 16)?;
-        assert_eq!(rt; status, Status::Done, "at {points:?}");
-        assert_eq!(rt; err.as_slice().len(), 0, "at {points:?}");
-        let answer = answer.as_slice();
-        assert!(rt; answer.starts_with(lines), "at {points:?} came {answer:?}");
-        let (status, out, _) = run_on(rt.alloc(), check, points, answer, 16)?;
-        assert_eq!(rt; status, Status::Done, "at {points:?}");
-        assert_eq!(rt; out.as_slice(), b"yes\n".as_slice(), "at {points:?}");
+        let passes = is_answered(rt.alloc(), words, check, points, lines)?;
+        assert!(rt; passes, "at {points:?}");
     }
     Ok(())
 }

@@ -55,3 +55,17 @@ pub(crate) fn run_on(
     let status = run_over(alloc, words, &mut files, &mut out, &mut err);
     Ok((status, out, err))
 }
+
+/// Whether a command answers these points with a text that begins with these lines, and `check` says yes to it.
+pub(crate) fn is_answered(
+    alloc: Global,
+    words: &[&str],
+    check: &[&str],
+    points: &[u8],
+    lines: &[u8],
+) -> Result<bool, Fail> {
+    let (solved, answer, _) = run_on(alloc, words, points, b"", 16)?;
+    let (checked, verdict, _) = run_on(alloc, check, points, answer.as_slice(), 16)?;
+    let is_done = solved == Status::Done && checked == Status::Done;
+    Ok(is_done && answer.as_slice().starts_with(lines) && verdict.as_slice() == b"yes\n".as_slice())
+}
