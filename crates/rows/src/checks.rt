@@ -134,7 +134,7 @@ fn refused_answers(rt: HostRuntime) -> Result<(), Fail> {
             b"bounds: answer: line 5 is not understood\n",
         ),
         (
-            b"answer 1 strip\nsize 144/25\ndirection 3 4\nbounds 0 12\nfan 4\n1 0 1 0\n3 4 2 0\n0 1 2 1\n-1 0\nend\n",
+            b"answer 1 rectangle\nsize 2/1\ndirection 1 1\nalong 1 3\nacross -1 1\nfan 3\n1 0 2 0 3 1\n1 1 3 1 0 2\n0 1\nend\n",
             b"bounds: answer: line 1 is not understood\n",
         ),
         (b"", b"bounds: answer: line 1 is not understood\n"),

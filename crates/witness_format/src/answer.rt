@@ -3,6 +3,7 @@ ghost use Rattle.std.specs.Prelude.{◌≡◌};
 ghost use Rattle.bounds_model.specs.Answers.{size_of};
 ghost use Rattle.witness_format.specs.Answers.{answer_of};
 
+use crate::AnswerList;
 use arrayvec::ArrayVec;
 use exact_fractions::{Frac, Homog2, Homog3};
 
@@ -57,6 +58,60 @@ pub struct CentresAnswer {
     pub leaves: ArrayVec<Leaf, 16>,
 }
 
+/// A vector: the direction of a fan, or the normal of a strip.
+#[derive(Clone, Copy, Debug, Default, PartialEq, Eq)]
+pub struct Dir {
+    /// The first coordinate.
+    pub x: i128,
+    /// The second coordinate.
+    pub y: i128,
+}
+
+/// Two bounds.
+#[derive(Clone, Copy, Debug, Default, PartialEq, Eq)]
+pub struct Span {
+    /// The lower bound.
+    pub lo: i128,
+    /// The upper bound.
+    pub hi: i128,
+}
+
+/// From a direction to the next, with the numbers of a highest and a lowest point for both.
+#[derive(Clone, Copy, Debug, Default, PartialEq, Eq)]
+pub struct HalfCone {
+    /// The direction.
+    pub dir: Dir,
+    /// The number of a highest point.
+    pub hi: u32,
+    /// The number of a lowest point.
+    pub lo: u32,
+}
+
+/// A list of cones.
+pub type HalfCones = AnswerList<HalfCone>;
+
+/// Cones over half a turn, and the last direction.
+#[derive(Debug, Drop, PartialEq, Eq)]
+pub struct HalfFan {
+    /// The cones.
+    pub cones: HalfCones,
+    /// The last direction.
+    pub last: Dir,
+}
+
+/// A strip around the points, and a fan which shows that none is thinner.
+#[derive(Debug, Drop, PartialEq, Eq)]
+pub struct StripAnswer {
+    /// The squared width.
+    pub size: Frac,
+    /// The normal of the strip.
+    pub direction: Dir,
+    /// The bounds of the strip along its normal.
+    pub bounds: Span,
+    /// The fan.
+    pub fan: HalfFan,
+}
+
 /// An answer of any kind.
 #[derive(Debug, Drop, PartialEq, Eq)]
 pub enum Answer {
@@ -64,6 +119,8 @@ pub enum Answer {
     Circle(BallAnswer2),
     /// A sphere around the points.
     Sphere(BallAnswer3),
+    /// A strip around the points.
+    Strip(StripAnswer),
     /// Squares that cover the points.
     Centres(CentresAnswer),
 }
@@ -75,6 +132,7 @@ pub fn size(answer: &Answer) -> Frac
     match answer {
         Answer::Circle(a) => a.size,
         Answer::Sphere(a) => a.size,
+        Answer::Strip(a) => a.size,
         Answer::Centres(a) => a.size,
     }
 }

@@ -1,7 +1,7 @@
 use Rattle.std.proofs.Common.{append_assoc, FitsSigned, rules}
 use Rattle.std.specs.Int.{w128}
 use Rattle.std.proofs.lemmas.Int.{to_z-of_z}
-use Rattle.witness_format.proofs.printing.push_space_ratio.Goals as goal
+use Rattle.witness_format.proofs.line_printing.push_space_ratio.Goals as goal
 
 pub returns : goal.returns
 returns c =
