@@ -15,10 +15,10 @@ use Rattle.text_laws.proofs.AnswerTexts.BallKinds.{circle_law, circle_written, k
 use Rattle.text_laws.proofs.AnswerTexts.FanKinds.{strip_law, strip_written, kind-strip_written}
 use Rattle.text_laws.proofs.AnswerTexts.PairKinds.{centres_law, centres_written, kind-centres_written}
 use Rattle.text_laws.proofs.AnswerTexts.TextLaws.{known_back}
-use Rattle.witness_format.specs.declared.answer.Answer as code
+use Rattle.answers.specs.declared.answer.Answer as code
 use Rattle.witness_format.specs.declared.fault.ReadFault.{ReadFault}
 use Rattle.witness_format.specs.declared.fault.ReadFault.TheVariants.{BadAnswer, BigNumber, OutOfMemory}
-use Rattle.witness_format.specs.Answers as seen
+use Rattle.answers.specs.Answers as seen
 use Rattle.witness_format.specs.Kinds.{known_kinds, IsKnown, behind, body_of, closed, answer_by}
 use Rattle.witness_format.specs.Outcomes.{ReadsOr, IsFound}
 

@@ -10,9 +10,9 @@ use Rattle.text_laws.proofs.AnswerTexts.AnswerLaws.{KindLaw}
 use Rattle.text_laws.proofs.AnswerTexts.BallKinds.{circle_law, sphere_law}
 use Rattle.text_laws.proofs.AnswerTexts.FanKinds.{strip_law}
 use Rattle.text_laws.proofs.AnswerTexts.PairKinds.{centres_law}
-use Rattle.witness_format.specs.declared.answer.Answer.{Answer}
-use Rattle.witness_format.specs.declared.answer.Answer.TheVariants.{Circle, Sphere, Strip, Centres}
-use Rattle.witness_format.specs.Answers.{weighted_of, vector_of, span_of, half_cone_of, leaf_of, answer_of}
+use Rattle.answers.specs.declared.answer.Answer.{Answer}
+use Rattle.answers.specs.declared.answer.Answer.TheVariants.{Circle, Sphere, Strip, Centres}
+use Rattle.answers.specs.Answers.{weighted_of, vector_of, span_of, half_cone_of, leaf_of, answer_of}
 use Rattle.witness_format.specs.Bodies.{weighted_values, half_cone_values, leaf_values, said_of}
 
 -- values of the code as the fields of their lines, and these as values of the model

@@ -5,17 +5,17 @@ use Rattle.bounds_model.specs.AnswerText.Fields.{number, plane_ratio, point_numb
 use Rattle.bounds_model.specs.AnswerText.LineFormats.{Values}
 use Rattle.bounds_model.specs.AnswerText.Formats.{Body}
 use Rattle.bounds_model.specs.AnswerText.Kinds.{Kind, circle_kind, sphere_kind, half_fields, strip_kind, centres_kind}
-use Rattle.witness_format.specs.declared.answer.Weighted.{Weighted}
-use Rattle.witness_format.specs.declared.answer.BallAnswer2.{BallAnswer2}
-use Rattle.witness_format.specs.declared.answer.BallAnswer3.{BallAnswer3}
-use Rattle.witness_format.specs.declared.answer.Leaf.{Leaf}
-use Rattle.witness_format.specs.declared.answer.CentresAnswer.{CentresAnswer}
-use Rattle.witness_format.specs.declared.answer.Dir.{Dir}
-use Rattle.witness_format.specs.declared.answer.Span.{Span}
-use Rattle.witness_format.specs.declared.answer.HalfCone.{HalfCone}
-use Rattle.witness_format.specs.declared.answer.StripAnswer.{StripAnswer}
-use Rattle.witness_format.specs.declared.answer.Answer.{Answer}
-use Rattle.witness_format.specs.declared.answer.Answer.TheVariants.{Circle, Sphere, Strip, Centres}
+use Rattle.answers.specs.declared.balls.Weighted.{Weighted}
+use Rattle.answers.specs.declared.balls.BallAnswer2.{BallAnswer2}
+use Rattle.answers.specs.declared.balls.BallAnswer3.{BallAnswer3}
+use Rattle.answers.specs.declared.centres.Leaf.{Leaf}
+use Rattle.answers.specs.declared.centres.CentresAnswer.{CentresAnswer}
+use Rattle.answers.specs.declared.fans.Dir.{Dir}
+use Rattle.answers.specs.declared.fans.Span.{Span}
+use Rattle.answers.specs.declared.fans.HalfCone.{HalfCone}
+use Rattle.answers.specs.declared.fans.StripAnswer.{StripAnswer}
+use Rattle.answers.specs.declared.answer.Answer.{Answer}
+use Rattle.answers.specs.declared.answer.Answer.TheVariants.{Circle, Sphere, Strip, Centres}
 
 -- ---- lines
 

@@ -1,7 +1,5 @@
-//! Answers: their types, and their text both ways.
+//! The text of answers, both ways. Their types are those of the crate `answers`.
 //!
-//! - `answer`: an answer of each kind, and its size
-//! - `answer_list`: the lists in answers
 //! - `printing`: the one text of an answer
 //! - `reading`: a text as an answer, or why it is refused
 //! - `kinds`: the kinds by their names
@@ -15,8 +13,6 @@
 //! - `fault`: why a text is refused
 #![tactic(auto)]
 
-mod answer;
-mod answer_list;
 mod fault;
 mod field_list;
 mod field_value;
@@ -34,11 +30,12 @@ mod reading;
 mod tests;
 mod words;
 
-pub use answer::{
-    Answer, BallAnswer2, BallAnswer3, CentresAnswer, Dir, HalfCone, HalfCones, HalfFan, Leaf, Span,
-    StripAnswer, Weighted, size,
+pub use answers::{
+    AnnulusAnswer, Answer, AnswerList, BallAnswer2, BallAnswer3, Blocker, CentresAnswer, Chord,
+    Chords, Dir, Dir3, DistanceAnswer, EmptyAnswer, HalfCone, HalfCones, HalfFan, KgonAnswer, Leaf,
+    Numbers, ParaAnswer, Potentials, QuarterCone, QuarterCones, QuarterFan, RectAnswer, Span,
+    StripAnswer, Weighted, WeightedPair, size,
 };
-pub use answer_list::AnswerList;
 pub use fault::ReadFault;
 pub use printing::{AnswerBytes, print};
 pub use reading::read;

@@ -3,7 +3,7 @@ ghost use Rattle.std.specs.Prelude.{◌≡◌};
 
 use crate::field_list::FieldList;
 use crate::field_value::PointNumber;
-use crate::{Dir, HalfCone, Leaf, Span, Weighted};
+use answers::{Dir, HalfCone, Leaf, Span, Weighted};
 use exact_fractions::{Frac, Homog2, Homog3};
 
 /// A value that fills a line.

@@ -14,7 +14,8 @@ use crate::kinds::{AnswerKind, kind_of};
 use crate::line::Line;
 use crate::lines::Unread;
 use crate::words::Words;
-use crate::{AnswerList, ReadFault, fields};
+use crate::{ReadFault, fields};
+use answers::AnswerList;
 use arrayvec::ArrayVec;
 use std::alloc::Global;
 

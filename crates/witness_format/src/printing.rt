@@ -4,11 +4,11 @@ ghost use Rattle.bounds_model.specs.Answers.{HasPlaces};
 ghost use Rattle.bounds_model.specs.AnswerText.Kinds.{circle_kind, sphere_kind, strip_kind, centres_kind};
 ghost use Rattle.bounds_model.specs.AnswerText.Spelling.{Spells};
 ghost use Rattle.bounds_model.specs.AnswerText.Written.{body_bytes, kind_bytes};
-ghost use Rattle.witness_format.specs.Answers.{answer_of};
+ghost use Rattle.answers.specs.Answers.{answer_of};
 ghost use Rattle.witness_format.specs.Bodies.{circle_body, sphere_body, strip_body, centres_body, said_of};
 
 use crate::line_printing::{push_counted, push_first, push_line, push_titled};
-use crate::{Answer, BallAnswer2, BallAnswer3, CentresAnswer, StripAnswer, size};
+use answers::{Answer, BallAnswer2, BallAnswer3, CentresAnswer, StripAnswer, size};
 use bounded_coords::OutOfMemory;
 use std::alloc::{AllocError, Global};
 use std::marker::Model;

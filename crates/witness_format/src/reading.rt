@@ -4,7 +4,7 @@ ghost use Rattle.bounds_model.specs.Answers as model;
 ghost use Rattle.bounds_model.specs.AnswerText.Kinds.{circle_kind, sphere_kind, strip_kind, centres_kind};
 ghost use Rattle.bounds_model.specs.AnswerText.Reading.{all_lines, reading_of};
 ghost use Rattle.bounds_model.specs.AnswerText.Spelling.{Spells};
-ghost use Rattle.witness_format.specs.Answers.{answer_of};
+ghost use Rattle.answers.specs.Answers.{answer_of};
 ghost use Rattle.witness_format.specs.Kinds.{format_of, known_kinds, IsKnown, MayWant, TextMayWant, body_of, answer_by};
 ghost use Rattle.witness_format.specs.Lines.{lines_left};
 ghost use Rattle.witness_format.specs.Outcomes.{Reads, ReadsOr, IsFound};
@@ -12,7 +12,8 @@ ghost use Rattle.witness_format.specs.Outcomes.{Reads, ReadsOr, IsFound};
 use crate::kinds::AnswerKind;
 use crate::line_reading::{read_counted, read_kind, read_line, read_listed, read_titled};
 use crate::lines::Unread;
-use crate::{Answer, BallAnswer2, BallAnswer3, CentresAnswer, HalfFan, ReadFault, StripAnswer};
+use crate::ReadFault;
+use answers::{Answer, BallAnswer2, BallAnswer3, CentresAnswer, HalfFan, StripAnswer};
 use exact_fractions::Frac;
 use std::alloc::Global;
 

@@ -1,5 +1,6 @@
 //! Texts with the answer or the refusal that they give.
-use crate::{Answer, ReadFault, print, read, size};
+use crate::{ReadFault, print, read};
+use answers::{Answer, size};
 use std::alloc::{AllocError, Global};
 use std::process::Abort;
 use std::test::Fail;

@@ -3,7 +3,7 @@ use Rattle.bounds_model.specs.AnswerText.Fields.{plane_ratio, point_number}
 use Rattle.bounds_model.specs.AnswerText.LineFormats.{Values}
 use Rattle.bounds_model.specs.AnswerText.Formats.{counted, counts_after}
 use Rattle.bounds_model.specs.AnswerText.Kinds.{centres_kind}
-use Rattle.witness_format.specs.declared.answer.Answer.TheVariants.{Centres}
+use Rattle.answers.specs.declared.answer.Answer.TheVariants.{Centres}
 use Rattle.witness_format.specs.Lines.{lines_left}
 use Rattle.witness_format.proofs.KindTexts.{part_read, body_read}
 use Rattle.witness_format.proofs.SaidAnswers.{said_is}

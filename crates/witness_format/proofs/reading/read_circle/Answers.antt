@@ -3,7 +3,7 @@ use Rattle.bounds_model.specs.AnswerText.Fields.{plane_ratio}
 use Rattle.bounds_model.specs.AnswerText.LineFormats.{titled}
 use Rattle.bounds_model.specs.AnswerText.Formats.{line}
 use Rattle.bounds_model.specs.AnswerText.Kinds.{circle_kind, supports}
-use Rattle.witness_format.specs.declared.answer.Answer.TheVariants.{Circle}
+use Rattle.answers.specs.declared.answer.Answer.TheVariants.{Circle}
 use Rattle.witness_format.specs.Lines.{lines_left}
 use Rattle.witness_format.proofs.KindTexts.{part_read, body_read}
 use Rattle.witness_format.proofs.SaidAnswers.{said_is}

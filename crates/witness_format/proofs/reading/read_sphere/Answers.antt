@@ -3,7 +3,7 @@ use Rattle.bounds_model.specs.AnswerText.Fields.{space_ratio}
 use Rattle.bounds_model.specs.AnswerText.LineFormats.{titled}
 use Rattle.bounds_model.specs.AnswerText.Formats.{line}
 use Rattle.bounds_model.specs.AnswerText.Kinds.{sphere_kind, supports}
-use Rattle.witness_format.specs.declared.answer.Answer.TheVariants.{Sphere}
+use Rattle.answers.specs.declared.answer.Answer.TheVariants.{Sphere}
 use Rattle.witness_format.specs.Lines.{lines_left}
 use Rattle.witness_format.proofs.KindTexts.{part_read, body_read}
 use Rattle.witness_format.proofs.SaidAnswers.{said_is}

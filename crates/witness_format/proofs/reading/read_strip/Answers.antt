@@ -3,7 +3,7 @@ use Rattle.bounds_model.specs.AnswerText.Fields.{number}
 use Rattle.bounds_model.specs.AnswerText.LineFormats.{titled, untitled}
 use Rattle.bounds_model.specs.AnswerText.Formats.{line, counts_after}
 use Rattle.bounds_model.specs.AnswerText.Kinds.{strip_kind, fan, half_fields}
-use Rattle.witness_format.specs.declared.answer.Answer.TheVariants.{Strip}
+use Rattle.answers.specs.declared.answer.Answer.TheVariants.{Strip}
 use Rattle.witness_format.specs.Bodies.{dir_values, span_values, half_cone_values}
 use Rattle.witness_format.specs.Lines.{lines_left}
 use Rattle.witness_format.proofs.KindTexts.{part_read, body_read}

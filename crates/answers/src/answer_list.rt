@@ -1,4 +1,4 @@
-//! Lists of parts of an answer.
+//! The lists in answers.
 ghost use Rattle.std.specs.Prelude.{◌≡◌, [], ◌∷◌, ◌++◌, ◌<◌, ◌≤◌, length, Some, OnOk, OnErr};
 ghost use Rattle.std.specs.List.{slice_get};
 ghost use Rattle.std.specs.Cmp.Lexicographic.{pointwise, lists_per, lists_equiv};
@@ -47,7 +47,8 @@ impl<T: Copy> AnswerList<T> {
 
     /// How many items there are.
     pub fn len(&self) -> u32
-        ensures { result ≡ length self.now }
+        ensures count { result ≡ length self.now }
+        ensures limit { result ≤ 1000000 }
     {
         self.items.len() as u32
     }
@@ -61,7 +62,7 @@ impl<T: Copy> AnswerList<T> {
     }
 
     /// All items.
-    pub(crate) fn as_slice(&self) -> &[T]
+    pub fn as_slice(&self) -> &[T]
         ensures items { result.now ≡ self.now }
         ensures within { length result.now ≤ 1000000 }
     {
