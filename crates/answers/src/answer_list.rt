@@ -56,7 +56,7 @@ impl<T: Copy> AnswerList<T> {
     /// The item at this place, counted from 0.
     pub fn at(&self, i: u32) -> T
         requires { i < length self.now }
-        ensures { Some result ≡ slice_get self.now i }
+        ensures { slice_get self.now i ≡ Some result }
     {
         self.items[i as usize]
     }
