@@ -1,6 +1,7 @@
 -- A value, or a place, has one form in lowest terms.
 use Prim.Native.Nat.{◌∣◌}
-use Rattle.std.proofs.Common.{Bool, IsTrue, int_eq, ◌&&◌, ◌≡◌, ◌↔◌, sym, subst, ◌∙◌, ap, ap₂, ℤ, pos, nat_abs, neg_ℤ, ◌*ℤ◌, ◌<ℤ◌, [], ◌∷◌}
+use Rattle.std.proofs.Common.{Bool, IsTrue, int_eq, ◌&&◌, ◌≡◌, ◌↔◌, sym, subst, ◌∙◌, ap, ap₂, arith, ℕ, ℤ, pos, nat_abs, neg_ℤ, ◌*ℤ◌, ◌<ℤ◌, [], ◌∷◌}
+use Rattle.std.proofs.lemmas.Int.{ints}
 use Rattle.std.specs.Prelude.{All}
 use Rattle.std.proofs.lemmas.Bool.Decides.{Decides-at, Decides-and, Decides-int_eq}
 use Rattle.std.proofs.lemmas.List.Elements.{All-nil, All-cons, All-head, All-tail}
@@ -13,7 +14,21 @@ use Rattle.bounds_model.specs.Plane.{PlaneRatio}
 use Rattle.bounds_model.specs.Space.{SpaceRatio, SamePlace, flat_ratio}
 use Rattle.bounds_model.specs.Fractions.{Fraction, SameValue, IsLowest, HaveNoCommonFactor}
 use Rattle.bounds_model.specs.Places.{IsFraction, IsPlaneRatio, IsSpaceRatio}
-use Rattle.ball_sums.proofs.Means.{plane_ratio_by, space_ratio_by}
+
+-- ---- equal numbers
+
+-- points over denominators with equal numbers are equal
+pub plane_ratio_by : {x y w a b c : ℤ} → x ≡ a → y ≡ b → w ≡ c → (let p : PlaneRatio = record { x = x; y = y; w = w } in p) ≡ (let q : PlaneRatio = record { x = a; y = b; w = c } in q)
+plane_ratio_by {x} {y} {w} {a} {b} {c} h k l =
+    let first : (let p : PlaneRatio = record { x = x; y = y; w = w } in p) ≡ (let q : PlaneRatio = record { x = a; y = y; w = w } in q) = ap (λ v. record { x = v; y = y; w = w }) h in
+    first ∙ ap₂ (λ v u. record { x = a; y = v; w = u }) k l
+
+pub space_ratio_by : {x y z w a b c d : ℤ} → x ≡ a → y ≡ b → z ≡ c → w ≡ d → (let p : SpaceRatio = record { x = x; y = y; z = z; w = w } in p) ≡ (let q : SpaceRatio = record { x = a; y = b; z = c; w = d } in q)
+space_ratio_by {x} {y} {z} {w} {a} {b} {c} {d} h k l m =
+    let first : (let p : SpaceRatio = record { x = x; y = y; z = z; w = w } in p) ≡ (let q : SpaceRatio = record { x = a; y = b; z = z; w = w } in q) = ap₂ (λ v u. record { x = v; y = u; z = z; w = w }) h k in
+    first ∙ ap₂ (λ v u. record { x = a; y = b; z = v; w = u }) l m
+
+-- ---- one form for each value
 
 -- a fraction
 pub fraction_unique : (a b : Fraction) → IsLowest a → IsLowest b → SameValue a b → a ≡ b
@@ -111,3 +126,11 @@ space_ratio_same {yes} a b e =
     (Decides-and (int_eq a.x b.x) (int_eq a.y b.y && (int_eq a.z b.z && int_eq a.w b.w)) (Decides-int_eq a.x b.x)
     (Decides-and (int_eq a.y b.y) (int_eq a.z b.z && int_eq a.w b.w) (Decides-int_eq a.y b.y) (Decides-and (int_eq a.z b.z) (int_eq a.w b.w) (Decides-int_eq a.z b.z) (Decides-int_eq a.w b.w)))) in
     (λ t. let h = parts.0 t in space_ratio_by h.0 h.1.0 h.1.1.0 h.1.1.1, λ h. parts.1 (ap (λ p. p.x) h, (ap (λ p. p.y) h, (ap (λ p. p.z) h, ap (λ p. p.w) h))))
+
+-- numbers that stand for equal ones are equal
+pub same_number : {m n : ℕ} {a b : ℤ} → pos m ≡ a → pos n ≡ b → a ≡ b → m ≡ n
+same_number {m} {n} {a} {b} h k e = omega (arith, ints)
+
+-- fractions with equal parts are equal
+pub same_fraction : {m n d e : ℕ} (a b : Fraction) → pos m ≡ a.n → pos n ≡ b.n → pos d ≡ a.d → pos e ≡ b.d → m ≡ n → d ≡ e → a ≡ b
+same_fraction a b an bn ad bd h k = ap₂ (λ n d. let f : Fraction = record { n = n; d = d } in f) (sym an ∙ ap pos h ∙ bn) (sym ad ∙ ap pos k ∙ bd)
