@@ -7,19 +7,13 @@ use Rattle.integers.proofs.Order.{nonneg_difference, nonneg_from_positive, le_an
 use Rattle.bounds_model.specs.Plane.{PlanePoint, origin, point_at, vector, dot, cross, turn, plus, times, quarter_turn}
 use Rattle.bounds_model.specs.Fans.{HalfCone, AreExtreme, reach}
 use Rattle.bounds_model.specs.ParallelogramAnswer.{Chord, IsAcross}
+use Rattle.directions.proofs.Reading.{reach_parts}
 use Rattle.parallelogram_strip.specs.FullTurn.{opposite}
 use Rattle.parallelogram_strip.specs.Crossings.{reach_of}
 use Rattle.parallelogram_strip.proofs.Turning.{dot_between}
 use Rattle.parallelogram_strip.proofs.FullTurn.{IsFullTurn}
 
 -- ---- reaches
-
--- a reach is a difference of two products
-pub reach_parts : (points : List PlanePoint) (d : PlanePoint) (high low : ℕ) → reach points d high low ≡ dot d (point_at points high) -ℤ dot d (point_at points low)
-reach_parts points d high low = plain d.x d.y (point_at points low).x (point_at points low).y (point_at points high).x (point_at points high).y
-  where
-    plain : (dx dy px py qx qy : ℤ) → dx *ℤ (qx -ℤ px) +ℤ dy *ℤ (qy -ℤ py) ≡ (dx *ℤ qx +ℤ dy *ℤ qy) -ℤ (dx *ℤ px +ℤ dy *ℤ py)
-    plain dx dy px py qx qy = read (dx ∷ dy ∷ px ∷ py ∷ qx ∷ qy ∷ []) (λ xs a b c d e f. simp (a, b, c, d, e, f, polys) (den-ring xs _ _ tt))
 
 -- two points reach as far as their numbers exchanged, the other way
 pub reach_turned : (points : List PlanePoint) (d : PlanePoint) (high low : ℕ) → reach points d low high ≡ neg_ℤ (reach points d high low)

@@ -10,9 +10,10 @@ use Rattle.parallelogram_strip.specs.FullTurn.{cone_at}
 use Rattle.parallelogram_strip.specs.Crossings.{reach_of, weight_of, Joins, IsChord, IsCrossing}
 use Rattle.parallelogram_strip.specs.declared.crossing.Crossing.{Crossing}
 use Rattle.answers.specs.Answers.{chord_of}
-use Rattle.parallelogram_strip.proofs.Signs.{magnitude_is}
+use Rattle.directions.proofs.Signs.{magnitude_is}
 use Rattle.parallelogram_strip.proofs.FullTurn.{IsFullTurn, magnitude_back}
-use Rattle.parallelogram_strip.proofs.Crossings.{reach_parts, reach_turned, highest_same, lowest_same, chord_extent}
+use Rattle.directions.proofs.Reading.{reach_parts}
+use Rattle.parallelogram_strip.proofs.Crossings.{reach_turned, highest_same, lowest_same, chord_extent}
 
 -- two pairs that are extreme in one direction: the highest of either reaches beyond the lowest of either equally far
 pub reach_mixed : (points : List PlanePoint) (e : PlanePoint) (c c' : HalfCone) → c.high < length points → c.low < length points → c'.high < length points → c'.low < length points → AreExtreme points e c.high c.low → AreExtreme points e c'.high c'.low

@@ -13,8 +13,9 @@ use Rattle.bounds_model.specs.Fractions.{HaveNoCommonFactor}
 use Rattle.bounds_model.specs.Fans.{reach}
 use Rattle.bounds_model.specs.ParallelogramAnswer.{IsAcross}
 use Rattle.parallelogram_strip.specs.Crossings.{IsChord}
-use Rattle.parallelogram_strip.proofs.Crossings.{chord_across, reach_parts}
-use Rattle.parallelogram_strip.proofs.Reading.{point_is}
+use Rattle.directions.proofs.Reading.{reach_parts}
+use Rattle.parallelogram_strip.proofs.Crossings.{chord_across}
+use Rattle.directions.proofs.Reading.{point_is}
 
 -- a product with a vector is a difference of products
 dot_vector : (d p q : PlanePoint) → dot d (vector p q) ≡ dot d q -ℤ dot d p
@@ -115,11 +116,6 @@ quotient_size {n} {s} {r} {c} some e size = record { abs = most (nat_abs r) (nat
         least : (s x y : ℕ) → 0 < s → s * x ≡ y → y ≤ n → x ≤ n
         least zero x y some e l = absurd (omega arith)
         least (suc s) x y some e l = omega arith
-
--- the product of a magnitude with itself is the square
-pub square_magnitude : (z : ℤ) → pos (nat_abs z * nat_abs z) ≡ z *ℤ z
-square_magnitude (pos n) = refl
-square_magnitude (negsuc n) = refl
 
 -- what reaches forward is not behind
 pub not_behind : (points : List PlanePoint) (d : PlanePoint) (a b : ℕ) (p q : PlanePoint) → slice_get points a ≡ Some p → slice_get points b ≡ Some q → pos 0 ≤ℤ reach points d b a → dot d p ≤ℤ dot d q

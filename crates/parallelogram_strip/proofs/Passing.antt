@@ -24,7 +24,8 @@ use Rattle.parallelogram_strip.specs.Crossings.{reach_of, area_of, weight_of, Is
 use Rattle.parallelogram_strip.specs.declared.crossing.Crossing.{Crossing}
 use Rattle.parallelogram_strip.specs.Flat.{AreWide, IsFlatAt, point_chord}
 use Rattle.parallelogram_strip.proofs.FullTurn.{full_turn_of, first_half, each_around, length-directions, direction_at, two_cones}
-use Rattle.parallelogram_strip.proofs.Crossings.{reach_parts, reach_opposite}
+use Rattle.directions.proofs.Reading.{reach_parts}
+use Rattle.parallelogram_strip.proofs.Crossings.{reach_opposite}
 use Rattle.parallelogram_strip.proofs.Extents.{reach_mixed, crossing_extent, not_along, area_same}
 
 -- a range holds a smaller one

@@ -4,7 +4,7 @@ use Rattle.std.proofs.Math.Nat.{eq-or-lt_of_le}
 use Rattle.integers.proofs.Identities.{den-ring, read, polys, lits}
 use Rattle.integers.proofs.Order.{nonneg_mul, nonneg_add, positive_mul, positive_add, lt_by, le_by, le_of_mul_le, nonneg_from_positive}
 use Rattle.bounds_model.specs.Plane.{PlanePoint, cross, dot}
-use Rattle.parallelogram_strip.proofs.Signs.{positive_of_mul}
+use Rattle.directions.proofs.Signs.{positive_of_mul}
 
 -- of three directions, each to the left of the one before, the last is to the left of the first
 pub turn_trans : (a b c : PlanePoint) → pos 0 ≤ℤ a.y → pos 0 <ℤ b.y → pos 0 <ℤ c.y → pos 0 <ℤ cross a b → pos 0 <ℤ cross b c → pos 0 <ℤ cross a c

@@ -18,7 +18,8 @@ use Rattle.parallelogram_strip.specs.Crossings.{reach_of}
 use Rattle.parallelogram_strip.specs.Widths.{IsWidth, IsNotWider}
 use Rattle.parallelogram_strip.specs.declared.thinnest.Width.{Width}
 use Rattle.parallelogram_strip.proofs.FullTurn.{IsFullTurn, full_turn_of, direction_at, two_cones}
-use Rattle.parallelogram_strip.proofs.Crossings.{reach_parts, reach_opposite}
+use Rattle.directions.proofs.Reading.{reach_parts}
+use Rattle.parallelogram_strip.proofs.Crossings.{reach_opposite}
 use Rattle.parallelogram_strip.proofs.Extents.{reach_mixed}
 use Rattle.parallelogram_strip.proofs.MadeChords.{lowest_long}
 use Rattle.parallelogram_strip.proofs.Passing.{AreBounds, bounds_hold, cone_any, within_more}

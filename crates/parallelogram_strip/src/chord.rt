@@ -8,7 +8,7 @@ ghost use Rattle.bounded_coords.specs.Clouds.{points_of};
 ghost use Rattle.answers.specs.Answers.{vector_of, chord_of};
 ghost use Rattle.parallelogram_strip.specs.Crossings.{IsChord};
 
-use crate::products::{beyond, cross, squared_length, turn};
+use directions::{beyond, cross, squared_length, turn};
 use answers::{Chord, Dir};
 use bounded_coords::{Cloud2, Point2};
 use exact_fractions::quotient;

@@ -12,7 +12,7 @@ ghost use Rattle.parallelogram_strip.specs.Crossings.{reach_of, area_of, weight_
 
 use crate::around::cone_at;
 use crate::chord::chord;
-use crate::products::{beyond, reach};
+use directions::{beyond, reach};
 use answers::{Chord, Dir, HalfCone, HalfFan};
 use bounded_coords::Cloud2;
 

@@ -6,8 +6,8 @@ ghost use Rattle.answers.specs.Answers.{half_fan_of, chord_of, parallelogram_of}
 ghost use Rattle.parallelogram_strip.specs.PlainFan.{IsPlainFan};
 ghost use Rattle.parallelogram_strip.specs.Flat.{AreWide, IsFlatAt, point_chord};
 
-use crate::products::reach;
-use crate::spans::span;
+use directions::reach;
+use directions::span;
 use answers::{Chord, Chords, HalfFan, ParaAnswer};
 use bounded_coords::{Cloud2, OutOfMemory};
 use exact_fractions::Frac;

@@ -6,9 +6,7 @@
 //! - `chords`: the chords of all directions in one way around the fan, and the best
 //! - `crossing`: where the line across a direction passes, and the chord there
 //! - `around`: the fan's cones, carried on around the full turn
-//! - `spans`: bounds along a direction
 //! - `chord`: the chord from a point to an edge
-//! - `products`: products of directions and points
 #![tactic(auto)]
 
 mod around;
@@ -16,9 +14,7 @@ mod chord;
 mod chords;
 mod crossing;
 mod flat;
-mod products;
 mod smallest;
-mod spans;
 mod thinnest;
 
 pub use smallest::parallelogram;

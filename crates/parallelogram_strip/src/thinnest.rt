@@ -6,8 +6,8 @@ ghost use Rattle.answers.specs.Answers.{half_fan_of, strip_of};
 ghost use Rattle.parallelogram_strip.specs.PlainFan.{IsPlainFan};
 ghost use Rattle.parallelogram_strip.specs.Widths.{IsWidth, IsNotWider};
 
-use crate::products::{beyond, squared_length};
-use crate::spans::span;
+use directions::{beyond, squared_length};
+use directions::span;
 use answers::{HalfFan, StripAnswer};
 use bounded_coords::Cloud2;
 use exact_fractions::Frac;

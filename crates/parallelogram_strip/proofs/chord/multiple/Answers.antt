@@ -6,7 +6,7 @@ use Rattle.integers.specs.Size.{Size}
 use Rattle.integers.proofs.Sizes.{size_fits_in, size_more}
 use Rattle.bounds_model.specs.Plane.{vector, cross, squared_length}
 use Rattle.answers.specs.Answers.{vector_of}
-use Rattle.parallelogram_strip.proofs.Bounds.{within_of_size}
+use Rattle.directions.proofs.Bounds.{within_of_size}
 use Rattle.parallelogram_strip.proofs.MadeChords.{lowest_long, quotient_size}
 use Rattle.parallelogram_strip.proofs.Multiples.{length_divides, multiple_is}
 use Rattle.parallelogram_strip.proofs.chord.multiple.Goals as goal

@@ -4,7 +4,7 @@ use Rattle.std.proofs.lemmas.Int.{ints}
 use Rattle.integers.proofs.Sizes.{size_fits_in}
 use Rattle.bounded_coords.specs.Clouds.{points_of}
 use Rattle.answers.specs.Answers.{vector_of}
-use Rattle.parallelogram_strip.proofs.Signs.{nonneg_neg}
+use Rattle.directions.proofs.Signs.{nonneg_neg}
 use Rattle.parallelogram_strip.proofs.Crossings.{reach_turned}
 use Rattle.parallelogram_strip.proofs.crossing.chord_between.Goals as goal
 

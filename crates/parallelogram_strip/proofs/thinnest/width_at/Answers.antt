@@ -9,7 +9,7 @@ use Rattle.parallelogram_strip.specs.FullTurn.{cone_at}
 use Rattle.parallelogram_strip.specs.Crossings.{reach_of}
 use Rattle.parallelogram_strip.proofs.Crossings.{ahead_at_start}
 use Rattle.parallelogram_strip.proofs.MadeChords.{not_behind, lowest_long}
-use Rattle.parallelogram_strip.proofs.Reading.{reach_is}
+use Rattle.directions.proofs.Reading.{reach_is}
 use Rattle.parallelogram_strip.proofs.ConesRead.{around_first, around_named, around_short, cones_length, turn_of}
 use Rattle.parallelogram_strip.proofs.thinnest.width_at.Goals as goal
 

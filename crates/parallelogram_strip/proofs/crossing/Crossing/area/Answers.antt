@@ -2,7 +2,7 @@ use Rattle.std.proofs.Common.{◌*◌, ap, pos, [], ◌∷◌}
 use mir.Syntax.{w128}
 use Rattle.integers.proofs.Sizes.{size_fits_in}
 use Rattle.integers.proofs.UnsignedArithmetic.{limited, with_limited, amounts, amount_fits, amount_within}
-use Rattle.parallelogram_strip.proofs.Bounds.{size_in, magnitude_read}
+use Rattle.directions.proofs.Bounds.{size_in, magnitude_read}
 use Rattle.parallelogram_strip.proofs.crossing.Crossing.area.Goals as goal
 
 pub overflow_mul-result : goal.overflow_mul-result

@@ -10,7 +10,7 @@ use answers::Dir;
 use bounded_coords::{Cloud2, Point2};
 
 /// How far out a point lies in a direction.
-pub(crate) fn along(d: Dir, p: &Point2) -> i64
+pub fn along(d: Dir, p: &Point2) -> i64
     requires { IsShort (vector_of d) }
     ensures value { result ≡ dot (vector_of d) p.now }
     ensures size { Size 160000000000 result }
@@ -19,7 +19,7 @@ pub(crate) fn along(d: Dir, p: &Point2) -> i64
 }
 
 /// How far the one point lies out beyond the other.
-pub(crate) fn reach(cloud: Cloud2<'_>, d: Dir, hi: u32, lo: u32) -> i64
+pub fn reach(cloud: Cloud2<'_>, d: Dir, hi: u32, lo: u32) -> i64
     requires direction { IsShort (vector_of d) }
     requires hi { hi < length (points_of cloud) }
     requires lo { lo < length (points_of cloud) }
@@ -30,7 +30,7 @@ pub(crate) fn reach(cloud: Cloud2<'_>, d: Dir, hi: u32, lo: u32) -> i64
 }
 
 /// How far the point q lies out beyond the point p, which it is not behind.
-pub(crate) fn beyond(d: Dir, p: &Point2, q: &Point2) -> u128
+pub fn beyond(d: Dir, p: &Point2, q: &Point2) -> u128
     requires direction { IsShort (vector_of d) }
     requires order { dot (vector_of d) p.now ≤ℤ dot (vector_of d) q.now }
     ensures value { pos result ≡ dot (vector_of d) q.now -ℤ dot (vector_of d) p.now }
@@ -41,7 +41,7 @@ pub(crate) fn beyond(d: Dir, p: &Point2, q: &Point2) -> u128
 }
 
 /// Twice the area of the triangle a, b, c, above 0 where it turns left.
-pub(crate) fn turn(a: &Point2, b: &Point2, c: &Point2) -> i64
+pub fn turn(a: &Point2, b: &Point2, c: &Point2) -> i64
     ensures value { result ≡ turn_of a.now b.now c.now }
     ensures size { Size 320000000000 result }
 {
@@ -50,7 +50,7 @@ pub(crate) fn turn(a: &Point2, b: &Point2, c: &Point2) -> i64
 }
 
 /// The cross product of a direction and the vector from a to b.
-pub(crate) fn cross(d: Dir, a: &Point2, b: &Point2) -> i64
+pub fn cross(d: Dir, a: &Point2, b: &Point2) -> i64
     requires { IsShort (vector_of d) }
     ensures value { result ≡ cross_of (vector_of d) (vector a.now b.now) }
     ensures size { Size 320000000000 result }
@@ -61,7 +61,7 @@ pub(crate) fn cross(d: Dir, a: &Point2, b: &Point2) -> i64
 }
 
 /// The square of a direction's length.
-pub(crate) fn squared_length(d: Dir) -> u128
+pub fn squared_length(d: Dir) -> u128
     requires { IsShort (vector_of d) }
     ensures value { pos result ≡ squared_length_of (vector_of d) }
     ensures limit { result ≤ 320000000000 }

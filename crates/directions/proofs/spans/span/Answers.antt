@@ -5,8 +5,8 @@ use Rattle.bounds_model.specs.Plane.{dot}
 use Rattle.bounds_model.specs.Strip.{Span}
 use Rattle.bounded_coords.specs.Clouds.{points_of}
 use Rattle.answers.specs.Answers.{vector_of}
-use Rattle.parallelogram_strip.proofs.Reading.{point_is}
-use Rattle.parallelogram_strip.proofs.spans.span.Goals as goal
+use Rattle.directions.proofs.Reading.{point_is}
+use Rattle.directions.proofs.spans.span.Goals as goal
 
 -- bounds with the same parts
 same_span : {l h l' h' : ℤ} → l ≡ l' → h ≡ h' → ◌≡◌ {A = Span} (record { low = l; high = h }) (record { low = l'; high = h' })

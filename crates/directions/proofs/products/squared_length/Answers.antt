@@ -3,9 +3,9 @@ use mir.Syntax.{w128}
 use Rattle.bounds_model.specs.Numbers.{IsWithin}
 use Rattle.integers.proofs.Sizes.{size_fits_in}
 use Rattle.integers.proofs.UnsignedArithmetic.{limited, with_limited, amounts, amount_fits, amount_within}
-use Rattle.parallelogram_strip.proofs.Bounds.{size_in, magnitude_read}
-use Rattle.parallelogram_strip.proofs.MadeChords.{square_magnitude}
-use Rattle.parallelogram_strip.proofs.products.squared_length.Goals as goal
+use Rattle.directions.proofs.Bounds.{size_in, magnitude_read}
+use Rattle.directions.proofs.Signs.{square_magnitude}
+use Rattle.directions.proofs.products.squared_length.Goals as goal
 
 -- a magnitude of a coordinate
 magnitude_of : (n : ℕ) (z : ℤ) → IsWithin 400000 z → n ≡ nat_abs (to_z w128 (of_z w128 z)) → (n ≡ nat_abs z) × (n ≤ 400000)

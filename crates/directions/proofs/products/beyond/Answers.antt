@@ -2,8 +2,8 @@ use Rattle.std.proofs.Common.{◌≡◌, subst, ap₂, ℕ, ℤ, pos, nat_abs, �
 use Rattle.integers.specs.Size.{Size}
 use Rattle.integers.proofs.Sizes.{size_fits_in, size_sub}
 use Rattle.integers.proofs.Order.{nonneg_difference}
-use Rattle.parallelogram_strip.proofs.Signs.{magnitude_of}
-use Rattle.parallelogram_strip.proofs.products.beyond.Goals as goal
+use Rattle.directions.proofs.Signs.{magnitude_of}
+use Rattle.directions.proofs.products.beyond.Goals as goal
 
 -- the magnitude of a difference, by the order of what is equal to its parts
 difference_is : {n : ℕ} {x y p q : ℤ} → x ≡ q → y ≡ p → n ≡ nat_abs (x -ℤ y) → p ≤ℤ q → pos n ≡ q -ℤ p

@@ -1,8 +1,8 @@
 use Rattle.std.proofs.Common.{ℤ, List, [], ◌∷◌, w64}
 use Rattle.bounds_model.specs.Numbers.{IsWithin}
 use Rattle.integers.proofs.MachineArithmetic.{Given, given, with_inputs, codes, computes, fits, size_within}
-use Rattle.parallelogram_strip.proofs.Bounds.{size_in}
-use Rattle.parallelogram_strip.proofs.products.cross.Goals as goal
+use Rattle.directions.proofs.Bounds.{size_in}
+use Rattle.directions.proofs.products.cross.Goals as goal
 
 -- the coordinates, each with its bound
 abbrev inputs : {dx dy ax ay bx by : ℤ} → IsWithin 400000 dx → IsWithin 400000 dy → IsWithin 200000 ax → IsWithin 200000 ay → IsWithin 200000 bx → IsWithin 200000 by → List Given

@@ -6,12 +6,12 @@ ghost use Rattle.bounds_model.specs.StripAnswer.{IsShortSpan};
 ghost use Rattle.bounded_coords.specs.Clouds.{points_of};
 ghost use Rattle.answers.specs.Answers.{vector_of, span_of};
 
-use crate::products::along;
+use crate::along;
 use answers::{Dir, Span};
 use bounded_coords::Cloud2;
 
 /// How far out two points lie in a direction, the lower one first.
-pub(crate) fn span(cloud: Cloud2<'_>, d: Dir, hi: u32, lo: u32) -> Span
+pub fn span(cloud: Cloud2<'_>, d: Dir, hi: u32, lo: u32) -> Span
     requires direction { IsShort (vector_of d) }
     requires hi { hi < length (points_of cloud) }
     requires lo { lo < length (points_of cloud) }

@@ -3,8 +3,8 @@ use Rattle.bounds_model.specs.Fans.{reach}
 use Rattle.bounded_coords.specs.Clouds.{points_of}
 use Rattle.answers.specs.Answers.{vector_of}
 use Rattle.integers.proofs.MachineArithmetic.{given, with_inputs, codes, computes}
-use Rattle.parallelogram_strip.proofs.Reading.{reach_is}
-use Rattle.parallelogram_strip.proofs.products.reach.Goals as goal
+use Rattle.directions.proofs.Reading.{reach_is}
+use Rattle.directions.proofs.products.reach.Goals as goal
 
 pub returns-clause-value : goal.returns-clause-value
 returns-clause-value c =
