@@ -72,7 +72,8 @@ impl Frac {
         requires some { 0 < d }
         requires numerator { n ≤ 2 ^ 126 }
         requires denominator { d ≤ 2 ^ 126 }
-        ensures { IsTrue result ↔ SameValue self.now (record { n = pos n; d = pos d }) }
+        ensures value { IsTrue result ↔ SameValue self.now (record { n = pos n; d = pos d }) }
+        ensures within { IsTrue result → (self.now.n ≤ℤ pos n) × (self.now.d ≤ℤ pos d) }
     {
         let ratio = Frac::new(n, d);
         self.num() == ratio.num() && self.den() == ratio.den()
