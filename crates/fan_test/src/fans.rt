@@ -20,7 +20,7 @@ pub(crate) fn narrow(d: Dir) -> Direction
 }
 
 /// The direction at which cone i of a fan over half a turn begins, or the last one.
-pub(crate) fn half_direction(fan: &HalfFan, i: u32) -> Dir
+pub fn half_direction(fan: &HalfFan, i: u32) -> Dir
     requires { i ≤ length fan.now.cones }
     ensures { vector_of result ≡ point_at (half_directions (half_fan_of fan.now)) i }
 {
@@ -31,7 +31,7 @@ pub(crate) fn half_direction(fan: &HalfFan, i: u32) -> Dir
 }
 
 /// The direction at which cone i of a fan over a quarter turn begins, or the last one.
-pub(crate) fn quarter_direction(fan: &QuarterFan, i: u32) -> Dir
+pub fn quarter_direction(fan: &QuarterFan, i: u32) -> Dir
     requires { i ≤ length fan.now.cones }
     ensures { vector_of result ≡ point_at (quarter_directions (quarter_fan_of fan.now)) i }
 {

@@ -22,6 +22,7 @@ mod tests;
 pub use chain::{Chain, EAST, NORTH, WEST, encloses, leads};
 pub use direction::Direction;
 pub use ends::End;
+pub use fans::{half_direction, quarter_direction};
 pub use half::holds_half;
-pub use limits::{is_short_half, is_short_quarter, names_all_points, names_points};
+pub use limits::{is_short, is_short_half, is_short_quarter, names_all_points, names_points};
 pub use quarter::holds_quarter;

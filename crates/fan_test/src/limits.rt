@@ -13,8 +13,8 @@ use bounded_coords::Cloud2;
 /// The greatest magnitude of a direction's coordinate.
 const LIMIT: u128 = 400_000;
 
-/// Whether the direction is within the limit.
-fn is_short(d: Dir) -> bool
+/// Whether the direction's coordinates are within the limit.
+pub fn is_short(d: Dir) -> bool
     ensures { IsTrue result ↔ IsShort (vector_of d) }
 {
     d.x.unsigned_abs() <= LIMIT && d.y.unsigned_abs() <= LIMIT

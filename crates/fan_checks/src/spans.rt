@@ -1,0 +1,74 @@
+//! Normals, their bounds, and points inside them.
+ghost use Rattle.std.specs.Prelude.{◌≡◌, ◌↔◌, ◌≢◌, ◌^◌, IsTrue, All};
+ghost use Rattle.bounds_model.specs.Plane.{origin, dot};
+ghost use Rattle.integers.specs.Size.{Size};
+ghost use Rattle.bounds_model.specs.Strip.{IsInSpan, extent as extent_of};
+ghost use Rattle.bounds_model.specs.StripAnswer.{IsShortSpan};
+ghost use Rattle.bounded_coords.specs.Clouds.{points_of};
+ghost use Rattle.answers.specs.Answers.{vector_of, span_of};
+ghost use Rattle.fan_checks.specs.Limits.{HasNormalLimits};
+
+use answers::{Dir, Span};
+use bounded_coords::Cloud2;
+use directions::along;
+use fan_test::is_short;
+
+/// The greatest magnitude of a bound.
+const SPAN_LIMIT: u128 = 1 << 40;
+
+/// Whether a normal and its bounds are within their limits.
+pub(crate) fn is_normal_within_limits(normal: Dir, span: Span) -> bool
+    ensures { IsTrue result ↔ HasNormalLimits (vector_of normal) (span_of span) }
+{
+    if !is_short(normal) {
+        return false;
+    }
+    if !is_short_span(span) {
+        return false;
+    }
+    is_some(normal)
+}
+
+/// Whether the bounds are within the limit.
+fn is_short_span(span: Span) -> bool
+    ensures { IsTrue result ↔ IsShortSpan (span_of span) }
+{
+    span.lo.unsigned_abs() <= SPAN_LIMIT && span.hi.unsigned_abs() <= SPAN_LIMIT
+}
+
+/// Whether the direction is not 0.
+fn is_some(d: Dir) -> bool
+    ensures { IsTrue result ↔ (vector_of d ≢ origin) }
+{
+    d.x != 0 || d.y != 0
+}
+
+/// Whether all points are between the bounds along the normal.
+pub(crate) fn are_in_span(cloud: Cloud2<'_>, normal: Dir, span: Span) -> bool
+    requires { HasNormalLimits (vector_of normal) (span_of span) }
+    ensures { IsTrue result ↔ All (λ p. IsInSpan (span_of span) (dot (vector_of normal) p)) (points_of cloud.entry) }
+{
+    for i in 0..cloud.len() {
+        if !is_in_span(span, along(normal, cloud.at(i))) {
+            return false;
+        }
+    }
+    true
+}
+
+/// Whether the number is between the bounds.
+fn is_in_span(span: Span, z: i64) -> bool
+    ensures { IsTrue result ↔ IsInSpan (span_of span) z }
+{
+    let z = i128::from(z);
+    span.lo <= z && z <= span.hi
+}
+
+/// How far the bounds are apart, below 0 where they are exchanged.
+pub(crate) fn extent(span: Span) -> i128
+    requires { IsShortSpan (span_of span) }
+    ensures value { result ≡ extent_of (span_of span) }
+    ensures size { Size (2 ^ 41) result }
+{
+    span.hi - span.lo
+}
