@@ -1,7 +1,7 @@
 //! Products of directions and points.
 ghost use Rattle.std.specs.Prelude.{◌≡◌, ◌<◌, ◌≤◌, ◌-ℤ◌, ◌≤ℤ◌, pos, length};
 ghost use Rattle.integers.specs.Size.{Size};
-ghost use Rattle.bounds_model.specs.Plane.{dot, vector, cross as cross_of, squared_length as squared_length_of, turn as turn_of};
+ghost use Rattle.bounds_model.specs.Plane.{dot, vector, cross as cross_of, squared_length as squared_length_of, turn as turn_of, quarter_turn as quarter_turn_of};
 ghost use Rattle.bounds_model.specs.Fans.{IsShort, reach as reach_of};
 ghost use Rattle.bounded_coords.specs.Clouds.{points_of};
 ghost use Rattle.answers.specs.Answers.{vector_of};
@@ -68,4 +68,13 @@ pub fn squared_length(d: Dir) -> u128
 {
     let (x, y) = (d.x.unsigned_abs(), d.y.unsigned_abs());
     x * x + y * y
+}
+
+/// The direction turned left by a right angle.
+pub fn quarter_turn(d: Dir) -> Dir
+    requires { IsShort (vector_of d) }
+    ensures value { vector_of result ≡ quarter_turn_of (vector_of d) }
+    ensures short { IsShort (vector_of result) }
+{
+    Dir { x: -d.y, y: d.x }
 }

@@ -1,3 +1,6 @@
 pub mod Lists
 pub mod FanLoops
 pub mod Widths
+pub mod FanPlaces
+pub mod StripPassing
+pub mod RectanglePassing

@@ -6,7 +6,9 @@
 #![tactic(auto)]
 
 mod fans;
+mod rectangles;
 mod spans;
 mod strips;
 
+pub use rectangles::check_rectangle;
 pub use strips::check_strip;

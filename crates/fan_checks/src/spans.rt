@@ -1,8 +1,11 @@
 //! Normals, their bounds, and points inside them.
-ghost use Rattle.std.specs.Prelude.{◌≡◌, ◌↔◌, ◌≢◌, ◌^◌, IsTrue, All};
+ghost use Rattle.std.specs.Prelude.{◌≡◌, ◌↔◌, ◌≢◌, ◌^◌, ◌≤◌, ◌*ℤ◌, ◌≤ℤ◌, pos, IsTrue, All};
+ghost use Rattle.bounds_model.specs.Fractions.{SameValue};
+ghost use Rattle.bounds_model.specs.Places.{IsFraction};
 ghost use Rattle.bounds_model.specs.Plane.{origin, dot};
 ghost use Rattle.integers.specs.Size.{Size};
 ghost use Rattle.bounds_model.specs.Strip.{IsInSpan, extent as extent_of};
+ghost use Rattle.bounds_model.specs.Fans.{IsShort};
 ghost use Rattle.bounds_model.specs.StripAnswer.{IsShortSpan};
 ghost use Rattle.bounded_coords.specs.Clouds.{points_of};
 ghost use Rattle.answers.specs.Answers.{vector_of, span_of};
@@ -11,6 +14,7 @@ ghost use Rattle.fan_checks.specs.Limits.{HasNormalLimits};
 use answers::{Dir, Span};
 use bounded_coords::Cloud2;
 use directions::along;
+use exact_fractions::Frac;
 use fan_test::is_short;
 
 /// The greatest magnitude of a bound.
@@ -30,7 +34,7 @@ pub(crate) fn is_normal_within_limits(normal: Dir, span: Span) -> bool
 }
 
 /// Whether the bounds are within the limit.
-fn is_short_span(span: Span) -> bool
+pub(crate) fn is_short_span(span: Span) -> bool
     ensures { IsTrue result ↔ IsShortSpan (span_of span) }
 {
     span.lo.unsigned_abs() <= SPAN_LIMIT && span.hi.unsigned_abs() <= SPAN_LIMIT
@@ -45,7 +49,7 @@ fn is_some(d: Dir) -> bool
 
 /// Whether all points are between the bounds along the normal.
 pub(crate) fn are_in_span(cloud: Cloud2<'_>, normal: Dir, span: Span) -> bool
-    requires { HasNormalLimits (vector_of normal) (span_of span) }
+    requires { IsShort (vector_of normal) }
     ensures { IsTrue result ↔ All (λ p. IsInSpan (span_of span) (dot (vector_of normal) p)) (points_of cloud.entry) }
 {
     for i in 0..cloud.len() {
@@ -71,4 +75,33 @@ pub(crate) fn extent(span: Span) -> i128
     ensures size { Size (2 ^ 41) result }
 {
     span.hi - span.lo
+}
+
+/// The product of two extents.
+fn area(first: Span, second: Span) -> i128
+    requires first { IsShortSpan (span_of first) }
+    requires second { IsShortSpan (span_of second) }
+    ensures value { result ≡ extent_of (span_of first) *ℤ extent_of (span_of second) }
+    ensures size { Size (2 ^ 82) result }
+{
+    extent(first) * extent(second)
+}
+
+/// Whether the size is the product of two extents, over a denominator.
+pub(crate) fn is_product(size: &Frac, first: Span, second: Span, denominator: u128) -> bool
+    requires first { IsShortSpan (span_of first) }
+    requires second { IsShortSpan (span_of second) }
+    requires some { 1 ≤ denominator }
+    requires limit { denominator ≤ 2 ^ 40 }
+    ensures value { IsTrue result ↔ SameValue size.now (record { n = extent_of (span_of first) *ℤ extent_of (span_of second); d = pos denominator }) }
+    ensures lowest { IsFraction size.now }
+    ensures numerator { IsTrue result → size.now.n ≤ℤ pos (2 ^ 82) }
+    ensures denominator { IsTrue result → size.now.d ≤ℤ pos denominator }
+{
+    let area = area(first, second);
+    let ratio = size.is_ratio(area.unsigned_abs(), denominator);
+    if area < 0 {
+        return false;
+    }
+    ratio
 }

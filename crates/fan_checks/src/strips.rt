@@ -1,6 +1,7 @@
 //! Strips, and fans which show that none is narrower.
 ghost use Rattle.std.specs.Prelude.{◌↔◌, ◌^◌, ◌<◌, ◌≤ℤ◌, pos, length, IsTrue};
 ghost use Rattle.bounds_model.specs.Fractions.{SameValue};
+ghost use Rattle.bounds_model.specs.Places.{IsFraction};
 ghost use Rattle.bounds_model.specs.Strip.{strip_size};
 ghost use Rattle.bounds_model.specs.StripAnswer as model;
 ghost use Rattle.bounds_model.specs.StripAnswer.{IsNotThinner};
@@ -50,6 +51,7 @@ pub fn check_strip(cloud: Cloud2<'_>, a: &StripAnswer) -> bool
 fn has_size(a: &StripAnswer) -> bool
     requires { HasNormalLimits (vector_of a.now.direction) (span_of a.now.bounds) }
     ensures value { IsTrue result ↔ SameValue a.now.size (strip_size (model.strip_of (strip_of a.now))) }
+    ensures lowest { IsFraction a.now.size }
     ensures numerator { IsTrue result → a.now.size.n ≤ℤ pos (2 ^ 82) }
     ensures denominator { IsTrue result → a.now.size.d ≤ℤ pos (2 ^ 39) }
 {

@@ -9,4 +9,4 @@ pub returns-clause-numerator : goal.returns-clause-numerator
 returns-clause-numerator c same =
     let fits : FitsSigned w128 c.extent.result = size_fits_in w128 c.extent.ensures.size tt in
     let is : c.unsigned_abs-width.result ≡ nat_abs c.extent.result = simp to_z-of_z at c.unsigned_abs-width.ensures.value in
-    square_within is c.extent.ensures.size.abs (c.is_ratio.ensures.within same).0
+    square_within c.extent.result is c.extent.ensures.size.abs (c.is_ratio.ensures.within same).0

@@ -32,7 +32,7 @@ returns-then-not-is_not_narrower c =
     let IsNot = IsNotThinner (points_of c.args.cloud) c.args.size.now in (
       λ same. absurd (clash same refl),
       λ all. absurd (clash (c.is_not_narrower.ensures.1 (subst (λ d. IsNot d (half_cone_of c.at-cone.result)) (half_first c.args.fan.now c.loop-i.i c.at-cone.result c.at-cone.ensures)
-      (numbered_at (λ k cone. IsNot (point_at (half_directions fan) k) cone × IsNot (point_at (half_directions fan) (k + 1)) cone) half_cone_of c.args.fan.now.cones c.loop-i.i c.at-cone.result c.at-cone.ensures all).0)) c.if-not-is_not_narrower.true),
+          (numbered_at (λ k cone. IsNot (point_at (half_directions fan) k) cone × IsNot (point_at (half_directions fan) (k + 1)) cone) half_cone_of c.args.fan.now.cones c.loop-i.i c.at-cone.result c.at-cone.ensures all).0)) c.if-not-is_not_narrower.true),
     )
 
 pub returns-then-not-is_not_narrower-2 : goal.returns-then-not-is_not_narrower-2
@@ -41,7 +41,7 @@ returns-then-not-is_not_narrower-2 c =
     let IsNot = IsNotThinner (points_of c.args.cloud) c.args.size.now in (
       λ same. absurd (clash same refl),
       λ all. absurd (clash (c.is_not_narrower-in-loop-i.ensures.1 (subst (λ d. IsNot d (half_cone_of c.at-cone.result)) (sym c.half_direction.ensures)
-      (numbered_at (λ k cone. IsNot (point_at (half_directions fan) k) cone × IsNot (point_at (half_directions fan) (k + 1)) cone) half_cone_of c.args.fan.now.cones c.loop-i.i c.at-cone.result c.at-cone.ensures all).1)) c.if-not-is_not_narrower-2.true),
+          (numbered_at (λ k cone. IsNot (point_at (half_directions fan) k) cone × IsNot (point_at (half_directions fan) (k + 1)) cone) half_cone_of c.args.fan.now.cones c.loop-i.i c.at-cone.result c.at-cone.ensures all).1)) c.if-not-is_not_narrower-2.true),
     )
 
 pub loop-i-preserved : goal.loop-i-preserved
