@@ -29,7 +29,7 @@ both_judged true false false q x y = refl
 both_judged false p t q x y = refl
 
 -- several values
-abbrev judged_values : (fields : List Field) → Values fields → Judged (Values fields)
+abbrev pub judged_values : (fields : List Field) → Values fields → Judged (Values fields)
 judged_values fields values = judged_by (are_small fields values) (are_in_place fields values) values
 
 -- the fields behind the first
@@ -43,7 +43,7 @@ first_and_rest field fields v None = refl
 first_and_rest field fields v (Some vs) = ap (λ (j : Judged (Values (field ∷ fields))). Some j) (both_judged (is_small field v) (is_in_place field v) (are_small fields vs) (are_in_place fields vs) v vs)
 
 -- fields are judged one by one as they are together
-fields_judged : (fields : List Field) (words : List (List ℕ)) → fields_at fields words ≡ steps.◌>>=◌ {B = Judged (Values fields)} (values_of fields words) (λ vs. Some (judged_values fields vs))
+pub fields_judged : (fields : List Field) (words : List (List ℕ)) → fields_at fields words ≡ steps.◌>>=◌ {B = Judged (Values fields)} (values_of fields words) (λ vs. Some (judged_values fields vs))
 fields_judged [] [] = refl
 fields_judged [] (word ∷ words) = refl
 fields_judged (field ∷ fields) words = by_first (λ rest. fields_judged fields rest) (value_of field words)

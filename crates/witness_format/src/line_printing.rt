@@ -48,7 +48,7 @@ pub(crate) fn push_line<T: Line>(text: &mut Vec<u8>, value: &T) -> Result<(), Al
 }
 
 /// A word and a number of lines.
-fn push_count(text: &mut Vec<u8>, word: &[u8], count: usize) -> Result<(), AllocError>
+pub(crate) fn push_count(text: &mut Vec<u8>, word: &[u8], count: usize) -> Result<(), AllocError>
     ensures { OnOk result (text.new.items ≡ text.old.items ++ count_bytes word.now count) }
 {
     push(text, word)?;
