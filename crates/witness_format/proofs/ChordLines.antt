@@ -1,18 +1,22 @@
 -- Cones and chords in two lists, and their lines.
-use Rattle.std.proofs.Common.{◌≡◌, ◌∙◌, refl, sym, ap, ℕ, zero, suc, ◌+◌, ◌<◌, List, [], ◌∷◌, ◌++◌, length, map, drop, get_or, arith}
+use Rattle.std.proofs.Common.{◌≡◌, ◌∙◌, refl, sym, ap, ℕ, zero, suc, ◌+◌, ◌<◌, List, [], ◌∷◌, ◌++◌, length, map, drop, get_or, append_assoc, codes, arith}
 use Rattle.std.specs.Prelude.{zip}
 use Rattle.std.specs.List.{flat_map}
-use Rattle.std.proofs.lemmas.List.{length-append, drop_more}
+use Rattle.std.proofs.lemmas.List.{length-append, length-map, drop_more}
+use Rattle.std.proofs.lemmas.Slice.Zip.{length-zip}
 use Rattle.bounds_model.specs.AnswerText.LineFormats.{untitled}
-use Rattle.bounds_model.specs.AnswerText.Kinds.{chorded_fields}
-use Rattle.bounds_model.specs.AnswerText.Written.{format_line}
+use Rattle.bounds_model.specs.AnswerText.Kinds.{fan, chorded_fields, last_fields}
+use Rattle.bounds_model.specs.AnswerText.Written.{format_line, part_bytes}
 use Rattle.bounds_model.specs.Answers.{parallelogram}
 use Rattle.bounds_model.specs.AnswerText.Kinds.{parallelogram_kind}
 use Rattle.answers.specs.Answers.{parallelogram_of}
+use Rattle.answers.specs.declared.fans.Dir.{Dir}
 use Rattle.answers.specs.declared.fans.HalfCone.{HalfCone}
 use Rattle.answers.specs.declared.parallelograms.Chord.{Chord}
 use Rattle.answers.specs.declared.parallelograms.ParaAnswer.{ParaAnswer}
 use Rattle.witness_format.specs.Bodies.{side_values, chorded_values, chorded_end_values, last_chord}
+use Rattle.witness_format.specs.Printed.{count_bytes}
+use Rattle.witness_format.proofs.PrintedWords.{one_behind}
 use Rattle.witness_format.proofs.SaidAnswers.{parallelogram_is}
 
 -- two lists of one length, each with an element more
@@ -60,3 +64,14 @@ read_parallelogram_is a chords k pushed amount =
     let last : last_chord a.chords ≡ k = ap last_chord pushed ∙ last_pushed chords k in
     (λ i. parallelogram_kind.answer a.size (side_values a.first a.first_span, (side_values a.second a.second_span, (map chorded_values (sym pairs i), (chorded_end_values a.fan.last (sym last i), tt)))))
     ∙ parallelogram_is a (omega (arith, amount, ap length pushed, length-append chords (k ∷ [])))
+
+-- the lines of a fan with chords, written one behind the other
+pub chords_printed : (one two three four : List ℕ) (cones : List HalfCone) (chords : List Chord) (dir : Dir) (k : Chord) → length chords ≡ length cones + 1 → two ≡ one ++ count_bytes (codes "fan") (length cones + 1)
+    → three ≡ two ++ chord_lines cones chords → four ≡ three ++ format_line (untitled last_fields) (chorded_end_values dir (get_or chords (length cones) k))
+    → four ≡ one ++ (part_bytes (fan chorded_fields) [] (map chorded_values (zip cones chords)) ++ format_line (untitled last_fields) (chorded_end_values dir (last_chord chords)))
+chords_printed one two three four cones chords dir k amount first second third =
+    let count : length (map chorded_values (zip cones chords)) ≡ length cones = omega (arith, length-map (zip cones chords) chorded_values, length-zip cones chords, amount) in
+    let last = ap (λ (l : Chord). format_line (untitled last_fields) (chorded_end_values dir l)) (last_is chords (length cones) k amount) in
+    let lines : two ≡ one ++ count_bytes (codes "fan") (length (map chorded_values (zip cones chords)) + 1) = first ∙ ap (λ (n : ℕ). one ++ count_bytes (codes "fan") (n + 1)) (sym count) in
+    let fan_written = one_behind one two three (count_bytes (codes "fan") (length (map chorded_values (zip cones chords)) + 1)) (chord_lines cones chords) lines second in
+    third ∙ (λ i. fan_written i ++ last i) ∙ append_assoc one (part_bytes (fan chorded_fields) [] (map chorded_values (zip cones chords))) (format_line (untitled last_fields) (chorded_end_values dir (last_chord chords)))

@@ -22,9 +22,10 @@ use Rattle.witness_format.specs.declared.fault.ReadFault.TheVariants.{BadAnswer,
 use Rattle.witness_format.specs.declared.judging.Flaw.{Flaw}
 use Rattle.witness_format.specs.declared.judging.Flaw.TheVariants.{PastLimit, OutOfPlace}
 use Rattle.witness_format.specs.Judging.{Judged, judged_by, both, seen, judged_field, field_at, fields_at}
-use Rattle.witness_format.specs.Outcomes.{Finds, RefusesOr}
+use Rattle.witness_format.specs.Lines.{decided, next_words}
+use Rattle.witness_format.specs.Outcomes.{Finds, RefusesOr, ReadsOr, Reads}
 use Rattle.witness_format.specs.Rows.{rows_from, row_behind, rows_behind, put_behind, worse_of, naturals_behind}
-use Rattle.witness_format.proofs.LineReadings.{fields_judged, judged_values}
+use Rattle.witness_format.proofs.LineReadings.{fields_judged, judged_values, line_by_words, finds_is, decided_seen, reads_then}
 
 -- ---- widths
 
@@ -248,3 +249,31 @@ pub number_flawed : (numbers : List ℤ) (so_far : Judged (Unit {0})) (flaw : Fl
 number_flawed numbers (Ok u) flaw = refl
 number_flawed numbers (Err PastLimit) flaw = refl
 number_flawed numbers (Err OutOfPlace) flaw = refl
+
+-- ---- a row
+
+-- what the words say, with the numbers behind those before
+by_said : (front : List ℤ) (width number : ℕ) (after : Unread) (s : Option (Judged (Values (naturals width ∷ []))))
+    → ◌>>=◌ {B = List ℤ × Unread} (◌>>=◌ {B = Values (naturals width ∷ []) × Unread} (decided number s) (λ v. Ok (v, after))) (λ row. Ok (front ++ row.0.0, row.1)) ≡ ◌>>=◌ {B = List ℤ × Unread} (decided number (option_map (seen (λ (v : Values (naturals width ∷ [])). front ++ v.0)) s)) (λ zs. Ok (zs, after))
+by_said front width number after None = refl
+by_said front width number after (Some (Ok v)) = refl
+by_said front width number after (Some (Err PastLimit)) = refl
+by_said front width number after (Some (Err OutOfPlace)) = refl
+
+-- where memory may be wanting, what reads without it reads too
+reads_weaker : {X Y : Type 0} (view : X → Y) (result : Result X ReadFault) (read : Result Y Refusal) → Reads view result read → ReadsOr (Unit {0}) view result read
+reads_weaker view (Ok x) read reads = reads
+reads_weaker view (Err (BadAnswer line)) read reads = reads
+reads_weaker view (Err (BigNumber line)) read reads = reads
+reads_weaker view (Err OutOfMemory) read reads = tt
+
+-- a row whose words say this
+pub row_reads : (front next : List ℤ) (width : ℕ) (text : Unread) (words : List (List ℕ)) (after : Unread) (says : Option (Judged (Unit {0}))) (result : Result (Unit {0}) ReadFault) → next_words text ≡ Ok (words, after)
+    → Finds (seen (λ (u : Unit {0}). next)) says (naturals_behind (Ok front) width words) → Reads (λ x. x) result (decided text.number says) → ReadsOr (Unit {0}) (λ u. (next, after)) result (row_behind front width text)
+row_reads front next width text words after says result line finds reads =
+    let row : row_behind front width text ≡ ◌>>=◌ {B = List ℤ × Unread} (decided text.number says) (λ u. Ok (next, after)) =
+    ap (λ (r : Result (Values (naturals width ∷ []) × Unread) Refusal). ◌>>=◌ {B = List ℤ × Unread} r (λ row. Ok (front ++ row.0.0, row.1))) (line_by_words (row_format width) text words after line)
+    ∙ by_said front width text.number after (fields_at (naturals width ∷ []) words)
+    ∙ ap (λ (s : Option (Judged (List ℤ))). ◌>>=◌ {B = List ℤ × Unread} (decided text.number s) (λ zs. Ok (zs, after))) (sym (row_says front width words) ∙ finds_is (seen (λ (u : Unit {0}). next)) says (naturals_behind (Ok front) width words) finds)
+    ∙ decided_seen (λ (u : Unit {0}). next) text.number says after in
+    reads_weaker (λ u. (next, after)) result (row_behind front width text) (subst (λ r. Reads (λ (u : Unit {0}). (next, after)) result r) (sym row) (reads_then (λ u. (next, after)) result (decided text.number says) reads))

@@ -42,5 +42,6 @@ pub use answers::{
     StripAnswer, Weighted, WeightedPair, size,
 };
 pub use fault::ReadFault;
+pub use line_printing::{push_natural, push_size};
 pub use printing::{AnswerBytes, print};
 pub use reading::read;

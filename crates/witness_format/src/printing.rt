@@ -181,17 +181,24 @@ fn push_annulus(text: &mut Vec<u8>, a: &AnnulusAnswer) -> Result<(), AllocError>
 fn push_empty(text: &mut Vec<u8>, a: &EmptyAnswer) -> Result<(), AllocError>
     ensures { OnOk result (text.new.items ≡ text.old.items ++ body_bytes empty_kind.body [] (empty_body a.now)) }
 {
-    let edges = Edges {
-        left: a.l,
-        bottom: a.b,
-        right: a.r,
-        top: a.t,
-    };
+    let edges = edges(a);
     push_titled(text, b"rectangle", &edges)?;
     push_titled(text, b"left", &a.left)?;
     push_titled(text, b"bottom", &a.bottom)?;
     push_titled(text, b"right", &a.right)?;
     push_titled(text, b"top", &a.top)
+}
+
+/// The sides of the rectangle.
+fn edges(a: &EmptyAnswer) -> Edges
+    ensures { result ≡ record { left = a.now.l; bottom = a.now.b; right = a.now.r; top = a.now.t } }
+{
+    Edges {
+        left: a.l,
+        bottom: a.b,
+        right: a.r,
+        top: a.t,
+    }
 }
 
 fn push_kgon(text: &mut Vec<u8>, a: &KgonAnswer) -> Result<(), AllocError>

@@ -24,9 +24,9 @@ returns c =
     let corners-counts = counts_after corners-part (map corner_values corners) [] in
     let chosen-counts = counts_after chosen-part (map place_values positions) corners-counts in
     let layers-counts = counts_after layers-part layers chosen-counts in
-    let longest : c.saturating_sub.result ≡ length corners - 1 = omega (arith, c.saturating_sub.ensures, c.len.ensures.count) in
+    let longest : c.saturating_sub-longest.result ≡ length corners - 1 = omega (arith, c.saturating_sub-longest.ensures, c.len.ensures.count) in
     let amount = ap (λ r. r >>= λ n. Ok (n.0.0, n.1)) c.in_ok-layers.ensures.count in
-    let numbers = ap (λ ws. rows_at ws four) (longest_row corners c.saturating_sub.result layers longest) ∙ c.in_ok-potentials.ensures in
+    let numbers = ap (λ ws. rows_at ws four) (longest_row corners c.saturating_sub-longest.result layers longest) ∙ c.in_ok-potentials.ensures in
     body_read kgon_kind c.args.size one _ five _
     (part_read corners-part (chosen-part ∷ layers-part ∷ rows potential_widths ∷ []) [] one (map corner_values corners) two _ five c.in_ok-corners.ensures.lines
     (part_read chosen-part (layers-part ∷ rows potential_widths ∷ []) corners-counts two (map place_values positions) three _ five c.in_ok-chosen.ensures
