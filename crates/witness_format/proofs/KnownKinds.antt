@@ -77,12 +77,12 @@ one_name a b e = some_is a b (sym (named_is a) ∙ ap named e ∙ named_is b)
 
 -- an element of a list that is not the first is behind it
 contains_behind : (first : AnswerKind) (some : List AnswerKind) (kind : AnswerKind) → Contains (first ∷ some) kind → (first ≡ kind → ⊥) → Contains some kind
-contains_behind first some kind (zero, (lt, e)) other = absurd (other e)
-contains_behind first some kind (suc k, (lt, e)) other = (k, (omega arith, e))
+contains_behind first some kind (zero, lt, e) other = absurd (other e)
+contains_behind first some kind (suc k, lt, e) other = (k, omega arith, e)
 
 -- a kind of a list is found by its name
 found_by_name : (some : List AnswerKind) (kind : AnswerKind) → Contains some kind → find (λ k. bytes_eq k.name (format_of kind).name) (map format_of some) ≡ Some (format_of kind)
-found_by_name [] kind (k, (lt, e)) = absurd (omega arith)
+found_by_name [] kind (k, lt, e) = absurd (omega arith)
 found_by_name (first ∷ some) kind has =
     by_test (bytes_eq (format_of first).name (format_of kind).name) refl (λ other. found_by_name some kind (contains_behind first some kind has other))
   where

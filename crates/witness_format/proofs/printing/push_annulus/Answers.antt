@@ -1,4 +1,4 @@
-use Rattle.std.proofs.Common.{◌≡◌, rules, codes, map, [], ◌∷◌, ◌++◌}
+use Rattle.std.proofs.Common.{◌≡◌, ◌∙◌, ap, codes, map, [], ◌∷◌, ◌++◌}
 use Rattle.std.proofs.lemmas.Result.{on_ok_weaker}
 use Rattle.bounds_model.specs.AnswerText.Fields.{plane_ratio, fraction}
 use Rattle.bounds_model.specs.AnswerText.LineFormats.{titled}
@@ -16,7 +16,7 @@ returns c =
     let three = format_line (titled (codes "outer") (fraction ∷ [])) (a.outer, tt) in
     let four = part_bytes (pairs 3) [] (map pair_values a.pairs.items) in
     on_ok_weaker c.push_counted.result (λ e.
-    let last : c.push_counted.new.text.items ≡ c.push_titled-3.new.text.items ++ four = search (rules, e, c.as_slice.ensures) in
+    let last : c.push_counted.new.text.items ≡ c.push_titled-3.new.text.items ++ four = e ∙ ap (λ xs. c.push_titled-3.new.text.items ++ part_bytes (pairs 3) [] (map pair_values xs)) c.as_slice.ensures.value in
     one_behind c.args.text.now.items c.push_titled.new.text.items c.push_counted.new.text.items one (two ++ (three ++ (four ++ []))) c.in_ok-push_titled.ensures
     (one_behind c.push_titled.new.text.items c.push_titled-2.new.text.items c.push_counted.new.text.items two (three ++ (four ++ [])) c.in_ok-push_titled-2.ensures
     (one_behind c.push_titled-2.new.text.items c.push_titled-3.new.text.items c.push_counted.new.text.items three (four ++ []) c.in_ok-push_titled-3.ensures

@@ -17,7 +17,7 @@ returns c =
     let three = format_line (titled (codes "bottom") (blocker ∷ [])) (blocker_of a.bottom, tt) in
     let four = format_line (titled (codes "right") (blocker ∷ [])) (blocker_of a.right, tt) in
     let five = format_line (titled (codes "top") (blocker ∷ [])) (blocker_of a.top, tt) in
-    on_ok_weaker c.push_titled-5.result (λ e. one_behind c.args.text.now.items c.push_titled.new.text.items c.push_titled-5.new.text.items one (two ++ (three ++ (four ++ (five ++ [])))) (c.in_ok-push_titled.ensures ∙ ap (λ (x : Edges). c.args.text.now.items ++ format_line (titled (codes "rectangle") side_fields) (x.left, (x.bottom, (x.right, (x.top, tt))))) c.edges.ensures)
+    on_ok_weaker c.push_titled-5.result (λ e. one_behind c.args.text.now.items c.push_titled.new.text.items c.push_titled-5.new.text.items one (two ++ (three ++ (four ++ (five ++ [])))) (c.in_ok-push_titled.ensures ∙ ap (λ (x : Edges). c.args.text.now.items ++ format_line (titled (codes "rectangle") side_fields) (x.left, (x.bottom, (x.right, (x.top, tt))))) c.edges-edges.ensures)
     (one_behind c.push_titled.new.text.items c.push_titled-2.new.text.items c.push_titled-5.new.text.items two (three ++ (four ++ (five ++ []))) c.in_ok-push_titled-2.ensures
     (one_behind c.push_titled-2.new.text.items c.push_titled-3.new.text.items c.push_titled-5.new.text.items three (four ++ (five ++ [])) c.in_ok-push_titled-3.ensures
     (one_behind c.push_titled-3.new.text.items c.push_titled-4.new.text.items c.push_titled-5.new.text.items four (five ++ []) c.in_ok-push_titled-4.ensures
