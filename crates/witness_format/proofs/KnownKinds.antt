@@ -80,6 +80,11 @@ contains_behind : (first : AnswerKind) (some : List AnswerKind) (kind : AnswerKi
 contains_behind first some kind (zero, lt, e) other = absurd (other e)
 contains_behind first some kind (suc k, lt, e) other = (k, omega arith, e)
 
+-- a test has one outcome
+not_both : (test : Bool) → test ≡ false → test ≡ true → ⊥
+not_both true no yes = absurd cc
+not_both false no yes = absurd cc
+
 -- a kind of a list is found by its name
 found_by_name : (some : List AnswerKind) (kind : AnswerKind) → Contains some kind → find (λ k. bytes_eq k.name (format_of kind).name) (map format_of some) ≡ Some (format_of kind)
 found_by_name [] kind (k, lt, e) = absurd (omega arith)
@@ -89,7 +94,7 @@ found_by_name (first ∷ some) kind has =
     by_test : (t : Bool) → bytes_eq (format_of first).name (format_of kind).name ≡ t → ((first ≡ kind → ⊥) → find (λ k. bytes_eq k.name (format_of kind).name) (map format_of some) ≡ Some (format_of kind))
         → cond t (Some (format_of first)) (find (λ k. bytes_eq k.name (format_of kind).name) (map format_of some)) ≡ Some (format_of kind)
     by_test true same rest = ap (λ (k : AnswerKind). Some (format_of k)) (one_name first kind ((bytes_eq-Decides (format_of first).name (format_of kind).name).0 same))
-    by_test false differ rest = rest (λ same. (bytes_eq-Decides (format_of first).name (format_of kind).name).1 differ (ap (λ (k : AnswerKind). (format_of k).name) same))
+    by_test false differ rest = rest (λ same. not_both (bytes_eq (format_of first).name (format_of kind).name) differ ((bytes_eq-Decides (format_of first).name (format_of kind).name).1 (ap (λ (k : AnswerKind). (format_of k).name) same)))
 
 -- ---- the first line
 
