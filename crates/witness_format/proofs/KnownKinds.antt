@@ -82,8 +82,8 @@ contains_behind first some kind (suc k, lt, e) other = (k, omega arith, e)
 
 -- a test has one outcome
 not_both : (test : Bool) → test ≡ false → test ≡ true → ⊥
-not_both true no yes = absurd cc
-not_both false no yes = absurd cc
+not_both true e f = absurd cc
+not_both false e f = absurd cc
 
 -- a kind of a list is found by its name
 found_by_name : (some : List AnswerKind) (kind : AnswerKind) → Contains some kind → find (λ k. bytes_eq k.name (format_of kind).name) (map format_of some) ≡ Some (format_of kind)
