@@ -161,8 +161,10 @@ lines_refused fault fields front count i text total lt refused so_far = by_fault
   where
     left : count - i ≡ suc (count - (i + 1))
     left = omega (arith, lt)
+
     all_of : (refusal : Refusal) → line_at (untitled fields) text ≡ Err refusal → total ≡ Err refusal
     all_of refusal e = sym so_far ∙ ap (λ (k : ℕ). with_front front (lines_at k (untitled fields) text)) left ∙ line_refused fields front (count - (i + 1)) text refusal e
+
     by_fault : (f : ReadFault) → Refuses f (line_at (untitled fields) text) → RefusesOr (Unit {0}) f total
     by_fault (BadAnswer line) e = all_of (bad_answer line) e
     by_fault (BigNumber line) e = all_of (big_number line) e

@@ -199,11 +199,13 @@ row_says front count words =
     by_tests true true zs e = refl
     by_tests true false zs e = absurd cc
     by_tests false p zs e = refl
+
     by_end : (zs : List ℤ) (p : is_in_place (naturals count) zs ≡ true) (v : Option (Values []))
         → steps.◌>>=◌ {B = Judged (List ℤ)} v (λ w. Some (judged_by (true && list_all within zs) true (front ++ zs)))
         ≡ option_map (seen (λ (u : Values (naturals count ∷ [])). front ++ u.0)) (steps.◌>>=◌ {B = Judged (Values (naturals count ∷ []))} (steps.◌>>=◌ {B = Values (naturals count ∷ [])} v (λ others. Some (zs, others))) (λ vs. Some (judged_values (naturals count ∷ []) vs)))
     by_end zs p None = refl
     by_end zs p (Some v) = ap (λ (j : Judged (List ℤ)). Some j) (by_tests (list_all within zs) (is_in_place (naturals count) zs) zs p)
+
     by_read : (r : Option (List ℤ × List (List ℕ))) → ((x : List ℤ × List (List ℕ)) → r ≡ Some x → (length x.0 ≡ count) × (list_all (λ z. int_le (pos 0) z) x.0 ≡ true))
         → all_taken true front r
         ≡ option_map (seen (λ (v : Values (naturals count ∷ [])). front ++ v.0)) (steps.◌>>=◌ {B = Judged (Values (naturals count ∷ []))} (steps.◌>>=◌ {B = Values (naturals count ∷ [])} r (λ first. steps.◌>>=◌ {B = Values (naturals count ∷ [])} (values_of [] first.1) (λ others. Some (first.0, others)))) (λ vs. Some (judged_values (naturals count ∷ []) vs)))

@@ -148,15 +148,30 @@ fn refused_texts(rt: HostRuntime) {
         (b"answer 1 centres\nsize 1/0\n", 2),
         (b"answer 1 circle\nsize 1/1\ncenter 1 1 0\n", 3),
         (b"answer 1 circle\nsize 1/1\ncenter 1 1 1\nsupports 4\n", 4),
-        (b"answer 1 circle\nsize 1/1\ncenter 1 1 1\nsupports 1\n0 01\n", 5),
-        (b"answer 1 circle\nsize 1/1\ncenter 1 1 1\nsupports 1\n10000 1\n", 5),
+        (
+            b"answer 1 circle\nsize 1/1\ncenter 1 1 1\nsupports 1\n0 01\n",
+            5,
+        ),
+        (
+            b"answer 1 circle\nsize 1/1\ncenter 1 1 1\nsupports 1\n10000 1\n",
+            5,
+        ),
     ] {
         is_refused(&rt, alloc, text, ReadFault::BadAnswer(line));
     }
     for (text, line) in [
-        (b"answer 1 centres\nsize 85070591730234615865843651857942052865/1\n".as_slice(), 2),
-        (b"answer 1 centres\nsize -1/85070591730234615865843651857942052865\n", 2),
-        (b"answer 1 circle\nsize 1/1\ncenter 2 4 85070591730234615865843651857942052865\n", 3),
+        (
+            b"answer 1 centres\nsize 85070591730234615865843651857942052865/1\n".as_slice(),
+            2,
+        ),
+        (
+            b"answer 1 centres\nsize -1/85070591730234615865843651857942052865\n",
+            2,
+        ),
+        (
+            b"answer 1 circle\nsize 1/1\ncenter 2 4 85070591730234615865843651857942052865\n",
+            3,
+        ),
     ] {
         is_refused(&rt, alloc, text, ReadFault::BigNumber(line));
     }
