@@ -18,3 +18,4 @@ pub mod Cone
 pub mod Circles
 pub mod Cramer
 pub mod Lists
+pub mod Narrowing
