@@ -4,7 +4,6 @@ use answers::{Answer, BallAnswer2, BallAnswer3, CentresAnswer, Weighted};
 use arrayvec::ArrayVec;
 use bounded_coords::{Ask, Cloud2, Cloud3, Point2, Point3, Sets};
 use exact_fractions::{Frac, Homog2, Homog3};
-use std::HostRuntime;
 
 fn circle_at_the_origin(size: Frac, weight: u128) -> BallAnswer2 {
     let mut supports = ArrayVec::new();
