@@ -1,0 +1,3 @@
+pub mod Numerals
+pub mod Boxes
+pub mod Parsed
