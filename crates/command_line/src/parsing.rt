@@ -1,11 +1,13 @@
 //! The command as `clap` sees it, and what it finds in the words.
-ghost use Rattle.std.specs.Prelude.{◌≡◌, IfOk, false, map};
+ghost use Rattle.std.specs.Prelude.{◌≡◌, ◌==◌, IfOk, IfErr, false, [], ◌∷◌, length, map};
 ghost use Rattle.clap.specs.Words.{app_of, rule_of, found_of, rows_of, kind_of};
 ghost use Rattle.command_line.specs.Faults.{Finds, fault_by_kind};
 ghost use Rattle.command_line.specs.Parsing.{bounds_command, command_rule, files_rule, option_rule, brief_rule, given_in, found_rows, says_true};
+ghost use Rattle.command_line.specs.declared.fault.UsageFault.TheVariants.{FileCount};
+ghost use Rattle.command_line.specs.Tasks.{text_of};
 ghost use Rattle.command_line.specs.Given.{meant_given, text_within};
 
-use crate::UsageFault;
+use crate::{Name, UsageFault};
 use clap::error::ErrorKind;
 use clap::{Arg, ArgAction, ArgMatches, Command};
 use std::alloc::{AllocError, Global};
@@ -41,6 +43,39 @@ impl<'a, 'm> Given<'a, 'm> {
             seed: matches.get_str("seed"),
             count: matches.get_str("count"),
             brief: is_set(matches.get_str("brief")),
+        }
+    }
+
+    /// The file, where one is named and no other.
+    pub(crate) fn one_file(&self) -> Result<Name<'a>, UsageFault>
+        ensures name { IfOk result (λ name. (meant_given self.now).files ≡ text_of name ∷ []) }
+        ensures count { IfErr result (λ fault. (fault ≡ FileCount) × ((length (meant_given self.now).files == 1) ≡ false)) }
+    {
+        match self.files {
+            Some([file]) => Ok(Name::new(file)),
+            _ => Err(UsageFault::FileCount),
+        }
+    }
+
+    /// The two files, where two are named.
+    pub(crate) fn two_files(&self) -> Result<(Name<'a>, Name<'a>), UsageFault>
+        ensures names { IfOk result (λ names. (meant_given self.now).files ≡ text_of names.0 ∷ text_of names.1 ∷ []) }
+        ensures count { IfErr result (λ fault. (fault ≡ FileCount) × ((length (meant_given self.now).files == 2) ≡ false)) }
+    {
+        match self.files {
+            Some([first, second]) => Ok((Name::new(first), Name::new(second))),
+            _ => Err(UsageFault::FileCount),
+        }
+    }
+
+    /// Refuses a file.
+    pub(crate) fn no_file(&self) -> Result<(), UsageFault>
+        ensures none { IfOk result (λ _. (meant_given self.now).files ≡ []) }
+        ensures count { IfErr result (λ fault. (fault ≡ FileCount) × ((length (meant_given self.now).files == 0) ≡ false)) }
+    {
+        match self.files {
+            None | Some([]) => Ok(()),
+            _ => Err(UsageFault::FileCount),
         }
     }
 }

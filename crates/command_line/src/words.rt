@@ -12,7 +12,7 @@ ghost use Rattle.command_line.specs.Words.{task_of, judged, judged_as};
 use crate::kind::{Kind, kind_named};
 use crate::options::{ask, form, kind, number, unneeded, unneeded_flag};
 use crate::parsing::{Given, parse};
-use crate::{Name, Opt, Task, UsageFault};
+use crate::{Opt, Task, UsageFault};
 use std::alloc::Global;
 
 /// The task of the words after the program's name, or the first fault of them. The words are a command and its files, and options
@@ -49,9 +49,7 @@ fn solve<'a>(kind: Kind, given: &Given<'a, '_>) -> Result<Task<'a>, UsageFault>
     ensures task { Judges meant_task result (judged_as (solving kind) (meant_given given.now)) }
     ensures able { IfOk result CanBeDone }
 {
-    let Some([file]) = given.files else {
-        return Err(UsageFault::FileCount);
-    };
+    let file = given.one_file()?;
     unneeded(Opt::Kind, given.kind)?;
     let form = form(given.form)?;
     let ask = ask(kind, given)?;
@@ -61,7 +59,7 @@ fn solve<'a>(kind: Kind, given: &Given<'a, '_>) -> Result<Task<'a>, UsageFault>
         ask,
         form,
         brief: given.brief,
-        file: Name::new(file),
+        file,
     })
 }
 
@@ -69,9 +67,7 @@ fn check<'a>(given: &Given<'a, '_>) -> Result<Task<'a>, UsageFault>
     ensures task { Judges meant_task result (judged_as checking (meant_given given.now)) }
     ensures able { IfOk result CanBeDone }
 {
-    let Some([points, answer]) = given.files else {
-        return Err(UsageFault::FileCount);
-    };
+    let (points, answer) = given.two_files()?;
     let kind = kind(given.kind)?;
     let form = form(given.form)?;
     let ask = ask(kind, given)?;
@@ -81,8 +77,8 @@ fn check<'a>(given: &Given<'a, '_>) -> Result<Task<'a>, UsageFault>
     Ok(Task::Check {
         ask,
         form,
-        points: Name::new(points),
-        answer: Name::new(answer),
+        points,
+        answer,
     })
 }
 
@@ -90,9 +86,7 @@ fn demo<'a>(given: &Given<'a, '_>) -> Result<Task<'a>, UsageFault>
     ensures task { Judges meant_task result (judged_as demonstrating (meant_given given.now)) }
     ensures able { IfOk result CanBeDone }
 {
-    if let Some([_, ..]) = given.files {
-        return Err(UsageFault::FileCount);
-    }
+    given.no_file()?;
     let kind = kind(given.kind)?;
     unneeded(Opt::Form, given.form)?;
     let ask = ask(kind, given)?;
