@@ -1,5 +1,5 @@
 -- Numbers with commas between them, as a box.
-use Rattle.std.proofs.Common.{◌≡◌, ◌∙◌, refl, ap, sym, cond, ℕ, zero, suc, ◌+◌, ◌<◌, ◌≤◌, Bool, true, false, List, [], ◌∷◌, length, drop, Option, Some, None, Bor, arith, ℤ, pos, negsuc, ◌<ℤ◌, rules}
+use Rattle.std.proofs.Common.{◌≡◌, ◌∙◌, refl, ap, cond, ℕ, zero, suc, ◌+◌, ◌<◌, Bool, true, false, List, [], ◌∷◌, length, Option, Some, None, Bor, arith, ℤ, pos, negsuc, ◌<ℤ◌, rules}
 use Rattle.std.specs.Prelude.{if◌then◌else◌, ◌==◌, nat_le, int_lt, unsigned_abs, ◌&&◌, ◌↔◌, IsSome, IfSome, MatchOption, Decides}
 use Rattle.std.specs.List.{position_or_len}
 use Rattle.std.proofs.lemmas.Bool.Decides.{nat_tests}
@@ -114,7 +114,7 @@ frame_written-three text rest rest' reste reste' e =
 -- what a cut at the first comma gives
 pub parted_at : (text : List ℕ) (r : Option (Bor (List ℕ) × Bor (List ℕ)))
     → MatchOption r (position_or_len (λ b. b == 44) text ≡ length text)
-        (λ p. (position_or_len (λ b. b == 44) text < length text) × (p.0.now ≡ before_comma text) × (p.1.now ≡ after_comma text))
+    (λ p. (position_or_len (λ b. b == 44) text < length text) × (p.0.now ≡ before_comma text) × (p.1.now ≡ after_comma text))
     → MatchOption r (after_comma text ≡ []) (λ p. (p.0.now ≡ before_comma text) × (p.1.now ≡ after_comma text))
 parted_at text None h = drop_all (position_or_len (λ b. b == 44) text + 1) text (omega (arith, h))
 parted_at text (Some p) h = (h.1, h.2)

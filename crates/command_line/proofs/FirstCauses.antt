@@ -1,5 +1,5 @@
 -- The first cause in a list of options.
-use Rattle.std.proofs.Common.{◌≡◌, ◌∙◌, refl, ap, true, ℕ, map, Result, List, [], ◌∷◌, length, Option, Some, None, Ok, Err}
+use Rattle.std.proofs.Common.{◌≡◌, ◌∙◌, refl, ap, true, ℕ, map, Result, List, [], ◌∷◌, length, Option, Some, None, Err}
 use Rattle.std.specs.Prelude.{◌==◌, IsErrAnd}
 use Rattle.std.proofs.lemmas.Result.{err_from_is_err_and}
 use Rattle.bounds_model.specs.ErrorLines.{Cause, kind_option, form_option, p_option, k_option, box_option, seed_option, count_option, brief_option}
@@ -42,7 +42,7 @@ ask_refused command given kind cause count asked no_kind no_form some =
     let others : List (Option Cause) = map (fault_at command given) (seed_option ∷ count_option ∷ brief_option ∷ []) in
     let three : List (Option Cause) = three_at command (asked_kind command given) given others in
     let whole : first_cause (map (fault_at command given) options) ≡ Some cause = skipped (fault_at command given kind_option) (fault_at command given form_option ∷ three) no_kind
-        ∙ skipped (fault_at command given form_option) three no_form ∙ three_refused command (asked_kind command given) given others kind cause asked some in
+    ∙ skipped (fault_at command given form_option) three no_form ∙ three_refused command (asked_kind command given) given others kind cause asked some in
     rw (count, whole) refl
 
 -- the same of the code's result

@@ -1,5 +1,5 @@
 -- What a parse says of the words.
-use Rattle.std.proofs.Common.{◌≡◌, ◌∙◌, refl, sym, ap, subst, inl, inr, true, false, Bool, ℕ, List, [], ◌∷◌, Option, Some, None, Result, Ok, Err}
+use Rattle.std.proofs.Common.{◌≡◌, ◌∙◌, refl, sym, ap, subst, inl, inr, true, Bool, ℕ, List, [], ◌∷◌, Option, Some, None, Err}
 use Rattle.std.specs.Prelude.{codes, option_map, unwrap_or}
 use Rattle.std.specs.Borrow.{Bor}
 use Rattle.clap.specs.Words.{App, Row, HasMatchesOf, rows_of, found_of, fault_of, first_of, first_value, raw_values, matched_of, is_simple, is_simple_and_free, HasKind, IsAmong, Kinds, kind_of}
@@ -9,7 +9,6 @@ use Rattle.clap.specs.declared.error.Error.{Error}
 use Rattle.clap.specs.declared.error.kind.ErrorKind.{ErrorKind}
 use Rattle.clap.specs.declared.error.kind.ErrorKind.TheVariants as kind
 use Rattle.clap.specs.declared.parser.matches.ArgMatches.{ArgMatches}
-use Rattle.command_line.specs.declared.fault.UsageFault.{UsageFault}
 use Rattle.command_line.specs.Faults.{Finds, fault_by_kind}
 use Rattle.command_line.specs.Parsing.{bounds_command, faults_in, matches_in, found_with, found_rows, Given, given_in, says_true}
 
@@ -71,7 +70,16 @@ word_found f text word other is e none =
 
 abbrev given_by : (command : List ℕ) (files : List (List ℕ)) (kind form p k box seed count : Option (List ℕ)) (brief : Bool) → Given
 given_by command files kind form p k box seed count brief = record {
-  command = command; files = files; kind = kind; form = form; p = p; k = k; box = box; seed = seed; count = count; brief = brief
+  command = command;
+  files = files;
+  kind = kind;
+  form = form;
+  p = p;
+  k = k;
+  box = box;
+  seed = seed;
+  count = count;
+  brief = brief;
 }
 
 same_given : (command command' : List ℕ) (files files' : List (List ℕ)) (kind kind' form form' p p' k k' box box' seed seed' count count' : Option (List ℕ)) (brief brief' : Bool)

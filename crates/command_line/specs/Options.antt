@@ -1,6 +1,5 @@
 -- The options of the commands: which command uses which, and with which values.
-use Rattle.std.specs.Prelude.{ℕ, Bool, true, false, List, [], ◌∷◌, is_some, codes, if◌then◌else◌}
-use Rattle.std.specs.Str.{bytes_eq}
+use Rattle.std.specs.Prelude.{ℕ, Bool, true, false, List, [], ◌∷◌, is_some, if◌then◌else◌}
 use Rattle.std.specs.declared.option.Option.{Option}
 use Rattle.std.specs.declared.option.Option.TheVariants.{Some, None}
 use Rattle.bounds_model.specs.ErrorLines.{OptionName, kind_option, form_option, p_option, k_option, box_option, seed_option, count_option, brief_option, Cause, missing_option, unneeded_option, bad_value}

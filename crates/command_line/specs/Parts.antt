@@ -1,5 +1,5 @@
 -- Parts of the table of options, for the functions that judge them.
-use Rattle.std.specs.Prelude.{List, [], ◌∷◌}
+use Rattle.std.specs.Prelude.{[], ◌∷◌}
 use Rattle.std.specs.declared.option.Option.{Option}
 use Rattle.std.specs.declared.option.Option.TheVariants.{Some}
 use Rattle.bounds_model.specs.ErrorLines.{p_option, k_option, box_option, Cause}

@@ -1,5 +1,5 @@
 -- The tasks of the code, in the words of the definitions.
-use Rattle.std.specs.Prelude.{◌≡◌, ◌^◌, ◌<◌, ◌≤◌, ⊤, ℕ, List}
+use Rattle.std.specs.Prelude.{◌^◌, ◌<◌, ◌≤◌, ⊤, ℕ, List}
 use Rattle.bounded_coords.specs.declared.ask.Ask.{Ask}
 use Rattle.bounded_coords.specs.Asked.{asked}
 use Rattle.bounds_model.specs.Asks.{IsValid}

@@ -1,8 +1,7 @@
-use Rattle.std.proofs.Common.{◌≡◌, ◌∙◌, ap, ap₂, refl, rules, codes, true, false}
+use Rattle.std.proofs.Common.{◌≡◌, ◌∙◌, ap, ap₂, codes, true}
 use Rattle.std.proofs.lemmas.Result.{IfOk-weaker}
-use Rattle.clap.specs.Words.{App, Rule, app_of, rule_of, new_app, with_rule}
-use Rattle.clap.specs.Simple.{Shape, app_of_fields, on_top}
-use Rattle.command_line.specs.Parsing.{bounds_command}
+use Rattle.clap.specs.Words.{App, app_of, new_app, with_rule}
+use Rattle.clap.specs.Simple.{app_of_fields, on_top}
 use Rattle.command_line.proofs.parsing.command.Goals as goal
 
 abbrev unnamed : App → App
@@ -14,7 +13,7 @@ unhelped = on_top (λ s. record s { disable_help_flag = true })
 pub returns : goal.returns
 returns c =
     let plain : app_of c.disable_help_flag.result ≡ unhelped (unnamed (new_app (codes "bounds"))) =
-        ap app_of_fields c.disable_help_flag.ensures ∙ ap unhelped (ap app_of_fields c.no_binary_name.ensures ∙ ap unnamed c.new.ensures.app) in
+    ap app_of_fields c.disable_help_flag.ensures ∙ ap unhelped (ap app_of_fields c.no_binary_name.ensures ∙ ap unnamed c.new.ensures.app) in
     let app-0 = c.in_ok-arg.ensures.shape c.word.ensures.local ∙ ap₂ with_rule plain c.word.ensures.rule in
     let app-1 = c.in_ok-arg-2.ensures.shape c.files.ensures.local ∙ ap₂ with_rule app-0 c.files.ensures.rule in
     let app-2 = c.in_ok-arg-3.ensures.shape c.option.ensures.local ∙ ap₂ with_rule app-1 c.option.ensures.rule in

@@ -1,4 +1,4 @@
-use Rattle.std.proofs.Common.{◌≡◌, sym, subst, map, Err}
+use Rattle.std.proofs.Common.{sym, subst, map, Err}
 use Rattle.clap.specs.Words.{app_of, rows_of, found_of}
 use Rattle.clap.specs.declared.parser.matches.ArgMatches.{ArgMatches}
 use Rattle.command_line.specs.declared.fault.UsageFault.{UsageFault}

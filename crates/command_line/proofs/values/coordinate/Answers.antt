@@ -1,6 +1,5 @@
 use Rattle.std.proofs.Common.{◌≡◌, ◌∙◌, sym, ap, None, ◌∷◌, arith}
 use Rattle.std.proofs.lemmas.Str.Pattern.{strip_prefix_char}
-use Rattle.std.specs.Prelude.{Some}
 use Rattle.command_line.specs.Values.{number_within, coordinate}
 use Rattle.command_line.proofs.Boxes.{coordinate-no_minus, coordinate-no_plain, minus_word, plain_word}
 use Rattle.command_line.proofs.values.coordinate.Goals as goal

@@ -1,5 +1,5 @@
 use Rattle.std.proofs.Common.{◌≡◌, ◌∙◌, sym, ap, refl, Option, None, Some, ℤ, rules, SFits, w64, to_z-of_z}
-use Rattle.command_line.specs.Values.{coordinate, frame_written}
+use Rattle.command_line.specs.Values.{coordinate}
 use Rattle.command_line.proofs.Boxes.{box_of, box_of-no_bottom, box_of-no_right, box_of-no_top, frame_written-parts, frame_written-one, frame_written-two, frame_written-three}
 use Rattle.command_line.proofs.values.frame_written.Goals as goal
 

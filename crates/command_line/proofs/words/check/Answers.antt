@@ -1,4 +1,3 @@
-use Rattle.std.proofs.Common.{refl}
 use Rattle.command_line.specs.Given.{meant_given}
 use Rattle.command_line.specs.Options.{checking}
 use Rattle.command_line.proofs.FirstCauses.{ask_exit, two_names}

@@ -1,4 +1,3 @@
-use Rattle.std.proofs.Common.{refl}
 use Rattle.command_line.specs.Given.{meant_given}
 use Rattle.command_line.specs.Options.{demonstrating}
 use Rattle.command_line.proofs.FirstCauses.{ask_exit, no_names}

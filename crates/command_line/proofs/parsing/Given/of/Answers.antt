@@ -1,6 +1,5 @@
 use Rattle.std.proofs.Common.{refl}
 use Rattle.clap.specs.Words.{found_of}
-use Rattle.command_line.specs.Given.{text_within}
 use Rattle.command_line.proofs.Parsed.{word_found, given_found}
 use Rattle.command_line.proofs.parsing.Given.of.Goals as goal
 
