@@ -14,20 +14,20 @@ pub start-bottom-requires-clause-start : goal.start-bottom-requires-clause-start
 start-bottom-requires-clause-start g c = starts_left (points_in c.args.corners.now) (corners_in c.args.corners.now) c.args.corners.now.hull.around (hull_listed (points_in c.args.corners.now) (numbers_in c.args.corners.now) c.args.corners.now.hull)
 
 pub returns-clause-holds : goal.returns-clause-holds
-returns-clause-holds g c = quarter_holds (points_in c.args.corners.now) (corners_in c.args.corners.now) (quarter_fan_of (record { cones = c.in_ok-cones.cones; last = record { x = pos 0; y = pos 1 } })) (c.in_ok-cones.ensures tt).path refl
+returns-clause-holds g c = quarter_holds (points_in c.args.corners.now) (corners_in c.args.corners.now) (quarter_fan_of (record { cones = c.in_ok-cones.cones; last = record { x = pos 0; y = pos 1 } })) c.in_ok-cones.ensures.path refl
 
 pub returns-clause-plain : goal.returns-clause-plain
 returns-clause-plain g c = quarter_plain (points_in c.args.corners.now) (corners_in c.args.corners.now) (quarter_fan_of (record { cones = c.in_ok-cones.cones; last = record { x = pos 0; y = pos 1 } }))
-    c.args.corners.now.hull.around (hull_listed (points_in c.args.corners.now) (numbers_in c.args.corners.now) c.args.corners.now.hull) (c.in_ok-cones.ensures tt).path refl
+    c.args.corners.now.hull.around (hull_listed (points_in c.args.corners.now) (numbers_in c.args.corners.now) c.args.corners.now.hull) c.in_ok-cones.ensures.path refl
 
 pub returns-clause-few : goal.returns-clause-few
 returns-clause-few g c = few_quarter (corners_in c.args.corners.now) (quarter_directions (quarter_fan_of (record { cones = c.in_ok-cones.cones; last = record { x = pos 0; y = pos 1 } })))
-    (path_turns (λ cone. cone.direction) (IsQuarterSupport (points_in c.args.corners.now)) (IsQuarterDirection (corners_in c.args.corners.now)) (map quarter_cone_of c.in_ok-cones.cones.items) north north (c.in_ok-cones.ensures tt).path refl)
+    (path_turns (λ cone. cone.direction) (IsQuarterSupport (points_in c.args.corners.now)) (IsQuarterDirection (corners_in c.args.corners.now)) (map quarter_cone_of c.in_ok-cones.cones.items) north north c.in_ok-cones.ensures.path refl)
     (quarter_plain (points_in c.args.corners.now) (corners_in c.args.corners.now) (quarter_fan_of (record { cones = c.in_ok-cones.cones; last = record { x = pos 0; y = pos 1 } }))
-    c.args.corners.now.hull.around (hull_listed (points_in c.args.corners.now) (numbers_in c.args.corners.now) c.args.corners.now.hull) (c.in_ok-cones.ensures tt).path refl)
+    c.args.corners.now.hull.around (hull_listed (points_in c.args.corners.now) (numbers_in c.args.corners.now) c.args.corners.now.hull) c.in_ok-cones.ensures.path refl)
 
 pub returns-clause-short : goal.returns-clause-short
-returns-clause-short g c = quarter_short (points_in c.args.corners.now) (corners_in c.args.corners.now) (quarter_fan_of (record { cones = c.in_ok-cones.cones; last = record { x = pos 0; y = pos 1 } })) (c.in_ok-cones.ensures tt).path
+returns-clause-short g c = quarter_short (points_in c.args.corners.now) (corners_in c.args.corners.now) (quarter_fan_of (record { cones = c.in_ok-cones.cones; last = record { x = pos 0; y = pos 1 } })) c.in_ok-cones.ensures.path
 
 pub returns-clause-numbers : goal.returns-clause-numbers
-returns-clause-numbers g c = quarter_names (points_in c.args.corners.now) (corners_in c.args.corners.now) (quarter_fan_of (record { cones = c.in_ok-cones.cones; last = record { x = pos 0; y = pos 1 } })) (c.in_ok-cones.ensures tt).path
+returns-clause-numbers g c = quarter_names (points_in c.args.corners.now) (corners_in c.args.corners.now) (quarter_fan_of (record { cones = c.in_ok-cones.cones; last = record { x = pos 0; y = pos 1 } })) c.in_ok-cones.ensures.path
