@@ -4,22 +4,10 @@ use Rattle.std.proofs.lemmas.Int.{ints}
 use Rattle.bounds_model.specs.Plane.{PlanePoint, PlaneRatio}
 use Rattle.bounds_model.specs.Space.{SpacePoint, SpaceRatio, point_at, plus, times, vector, weighted_sum, flat, flat_ratio}
 use Rattle.bounds_model.specs.BallAnswer.{Weighted, weight_sum, first_support, pull, supported_size, supported_centre}
+use Rattle.exact_fractions.proofs.UniqueForms.{space_ratio_by}
 use Rattle.ball_sums.specs.declared.sums.Sums.{Sums}
 use Rattle.ball_sums.specs.Sums.{AreSumsFrom}
 use Rattle.ball_sums.specs.Means.{mean_size, plane_mean, space_mean}
-
--- ---- equal numbers
-
--- points over denominators with equal numbers are equal
-pub plane_ratio_by : {x y w a b c : ℤ} → x ≡ a → y ≡ b → w ≡ c → (let p : PlaneRatio = record { x = x; y = y; w = w } in p) ≡ (let q : PlaneRatio = record { x = a; y = b; w = c } in q)
-plane_ratio_by {x} {y} {w} {a} {b} {c} h k l =
-    let first : (let p : PlaneRatio = record { x = x; y = y; w = w } in p) ≡ (let q : PlaneRatio = record { x = a; y = y; w = w } in q) = ap (λ v. record { x = v; y = y; w = w }) h in
-    first ∙ ap₂ (λ v u. record { x = a; y = v; w = u }) k l
-
-pub space_ratio_by : {x y z w a b c d : ℤ} → x ≡ a → y ≡ b → z ≡ c → w ≡ d → (let p : SpaceRatio = record { x = x; y = y; z = z; w = w } in p) ≡ (let q : SpaceRatio = record { x = a; y = b; z = c; w = d } in q)
-space_ratio_by {x} {y} {z} {w} {a} {b} {c} {d} h k l m =
-    let first : (let p : SpaceRatio = record { x = x; y = y; z = z; w = w } in p) ≡ (let q : SpaceRatio = record { x = a; y = b; z = z; w = w } in q) = ap₂ (λ v u. record { x = v; y = u; z = z; w = w }) h k in
-    first ∙ ap₂ (λ v u. record { x = a; y = b; z = v; w = u }) l m
 
 -- ---- the size
 

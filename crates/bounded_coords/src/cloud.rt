@@ -62,17 +62,13 @@ impl<'a, P> Cloud<'a, P> {
     pub fn counted(self) -> Counted<'a, P>
         ensures { counted_points result ≡ points_of self.entry }
     {
-        Counted {
-            points: self.points,
-        }
+        Counted { cloud: self }
     }
 }
 
 /// A cloud whose points are reached by counted steps alone.
 pub struct Counted<'a, P> {
-    points: &'a [P],
-    ghost not_empty: { 1 ≤ length points.now },
-    ghost limited: { length points.now ≤ 10000 },
+    cloud: Cloud<'a, P>,
 }
 
 impl<'a, P> Clone for Counted<'a, P> {
@@ -96,7 +92,7 @@ impl<'a, P> Counted<'a, P> {
         ensures not_empty { 1 ≤ result }
         ensures limited { result ≤ 10000 }
     {
-        self.points.len() as u32
+        self.cloud.len()
     }
 
     /// The point of this number, at one step.
@@ -106,6 +102,6 @@ impl<'a, P> Counted<'a, P> {
         ensures step { steps.new ≡ steps.old + 1 }
     {
         steps.tick();
-        &self.points[i as usize]
+        self.cloud.at(i)
     }
 }

@@ -9,3 +9,4 @@ pub mod LineFormats
 pub mod Formats
 pub mod Kinds
 pub mod Reading
+pub mod Written

@@ -3,7 +3,7 @@ ghost use Rattle.std.specs.Prelude.{◌≡◌, ◌+◌, ◌<◌, ◌≤◌, max,
 ghost use Rattle.bounds_model.specs.Asks.{Suits, IsValid};
 ghost use Rattle.bounds_model.specs.ErrorLines.{points_file, answer_file};
 ghost use Rattle.bounded_coords.specs.Asked.{asked};
-ghost use Rattle.witness_format.specs.Answers.{answer_of};
+ghost use Rattle.answers.specs.Answers.{answer_of};
 ghost use Rattle.bnd_io.specs.Files.{Continues, bytes_of};
 ghost use Rattle.bounds_tool.specs.Judging.{points_in, answer_in, limit_of};
 ghost use Rattle.bounds_tool.specs.Causes.{meant, meant_file};
@@ -14,7 +14,8 @@ use bnd_io::{FileBytes, Files, LoadFault, load};
 use bounded_coords::Ask;
 use point_text::{Form, OwnedSets, TextFault, parse};
 use std::alloc::Global;
-use witness_format::{Answer, ReadFault, read};
+use answers::Answer;
+use witness_format::{ReadFault, read};
 
 /// The most bytes of a file.
 fn limit(file: InputFile) -> u32

@@ -3,7 +3,7 @@ ghost use Rattle.std.specs.Prelude.{◌≡◌, ℕ, ◌+◌, ◌*◌, ◌≤◌,
 ghost use Rattle.bounds_model.specs.Asks.{Suits, ask_centres};
 ghost use Rattle.bounds_model.specs.Answers.{Passes, IsBest};
 ghost use Rattle.bounded_coords.specs.Asked.{asked, lent};
-ghost use Rattle.witness_format.specs.Answers.{answer_of};
+ghost use Rattle.answers.specs.Answers.{answer_of};
 ghost use Rattle.witness_check.specs.Kinds.{IsBuilt};
 ghost use Rattle.bounds_tool.specs.Solving.{point_count};
 
@@ -13,7 +13,7 @@ use optimality::answer::passing_answers_are_best;
 use p_centres::centres;
 use std::alloc::Global;
 use std::sync::ledger::Ledger;
-use witness_format::Answer;
+use answers::Answer;
 
 /// Why a question has no answer. Only that of a k-gon may have none.
 #[derive(Clone, Copy, Debug, PartialEq, Eq)]

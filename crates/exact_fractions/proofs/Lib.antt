@@ -1,3 +1,4 @@
 pub mod Halving
 pub mod Quotients
 pub mod LowestForms
+pub mod UniqueForms

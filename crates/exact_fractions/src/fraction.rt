@@ -1,5 +1,5 @@
 //! Fractions that are not below 0.
-ghost use Rattle.std.specs.Prelude.{◌≡◌, ◌^◌, ◌<◌, ◌≤◌, ◌*ℤ◌, ◌≤ℤ◌, ◌<ℤ◌, ◌↔◌, pos};
+ghost use Rattle.std.specs.Prelude.{◌≡◌, ◌^◌, ◌<◌, ◌≤◌, ◌*ℤ◌, ◌≤ℤ◌, ◌<ℤ◌, ◌↔◌, pos, IsTrue};
 ghost use Rattle.bounds_model.specs.Fractions.{Fraction, SameValue};
 ghost use Rattle.bounds_model.specs.Places.{IsFraction};
 ghost use Rattle.exact_fractions.specs.Order.{IsBelow};
@@ -65,6 +65,18 @@ impl Frac {
         ensures lowest { IsFraction self.now }
     {
         self.den
+    }
+
+    /// Whether the fraction is n/d.
+    pub fn is_ratio(&self, n: u128, d: u128) -> bool
+        requires some { 0 < d }
+        requires numerator { n ≤ 2 ^ 126 }
+        requires denominator { d ≤ 2 ^ 126 }
+        ensures value { IsTrue result ↔ SameValue self.now (record { n = pos n; d = pos d }) }
+        ensures within { IsTrue result → (self.now.n ≤ℤ pos n) × (self.now.d ≤ℤ pos d) }
+    {
+        let ratio = Frac::new(n, d);
+        self.num() == ratio.num() && self.den() == ratio.den()
     }
 
     /// The order of the values, where both cross products are below 2^127.

@@ -1,5 +1,5 @@
 //! Points of the plane whose coordinates are fractions over one denominator.
-ghost use Rattle.std.specs.Prelude.{◌≡◌, ◌≤ℤ◌, pos};
+ghost use Rattle.std.specs.Prelude.{◌≡◌, ◌↔◌, ◌≤ℤ◌, pos, IsTrue};
 ghost use Rattle.bounds_model.specs.Space.{SamePlace, flat_ratio};
 ghost use Rattle.bounds_model.specs.Places.{IsNumber, IsPlaneRatio};
 
@@ -55,6 +55,18 @@ impl Homog2 {
             y: quotient(y, divisor),
             w: quotient(w, divisor),
         }
+    }
+
+    /// Whether the point is (x/w, y/w).
+    pub fn is_at(&self, x: i128, y: i128, w: i128) -> bool
+        requires x { IsNumber x }
+        requires y { IsNumber y }
+        requires w { IsNumber w }
+        requires some { pos 1 ≤ℤ w }
+        ensures { IsTrue result ↔ SamePlace (flat_ratio self.now) (flat_ratio (record { x = x; y = y; w = w })) }
+    {
+        let place = Homog2::new(x, y, w);
+        self.w() == place.w() && *self == place
     }
 
     /// The numerator of the first coordinate.

@@ -1,5 +1,5 @@
 //! Points of space whose coordinates are fractions over one denominator.
-ghost use Rattle.std.specs.Prelude.{◌≡◌, ◌≤ℤ◌, pos};
+ghost use Rattle.std.specs.Prelude.{◌≡◌, ◌≤ℤ◌, pos, ◌↔◌, IsTrue};
 ghost use Rattle.bounds_model.specs.Space.{SamePlace};
 ghost use Rattle.bounds_model.specs.Places.{IsNumber, IsSpaceRatio};
 
@@ -50,6 +50,19 @@ impl Homog3 {
             z: quotient(z, divisor),
             w: quotient(w, divisor),
         }
+    }
+
+    /// Whether the point is (x/w, y/w, z/w).
+    pub fn is_at(&self, x: i128, y: i128, z: i128, w: i128) -> bool
+        requires x { IsNumber x }
+        requires y { IsNumber y }
+        requires z { IsNumber z }
+        requires w { IsNumber w }
+        requires some { pos 1 ≤ℤ w }
+        ensures { IsTrue result ↔ SamePlace self.now (record { x = x; y = y; z = z; w = w }) }
+    {
+        let place = Homog3::new(x, y, z, w);
+        self.w() == place.w() && *self == place
     }
 
     /// The numerator of the first coordinate.

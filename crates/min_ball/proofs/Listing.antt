@@ -5,8 +5,8 @@ use Rattle.std.proofs.lemmas.List.{length-map, map_push, take_more}
 use Rattle.bounds_model.specs.BallAnswer.{Weighted}
 use Rattle.corral.specs.declared.holding.Held.{Held}
 use Rattle.corral.specs.declared.items.Id.{Id}
-use Rattle.witness_format.specs.declared.answer.Weighted as format
-use Rattle.witness_format.specs.Answers.{weighted_of}
+use Rattle.answers.specs.declared.balls.Weighted as format
+use Rattle.answers.specs.Answers.{weighted_of}
 use Rattle.min_ball.specs.Balls.{weighted_point}
 use Rattle.min_ball.proofs.SupportSums.{past_the_end}
 

@@ -2,7 +2,7 @@
 ghost use Rattle.std.specs.Prelude.{◌≡◌, ◌≤◌, length, map};
 ghost use Rattle.bounds_model.specs.BallAnswer.{PassesCircle, PassesSphere};
 ghost use Rattle.corral.specs.Supported.{supports_of};
-ghost use Rattle.witness_format.specs.Answers.{weighted_of, circle_of, sphere_of};
+ghost use Rattle.answers.specs.Answers.{weighted_of, circle_of, sphere_of};
 ghost use Rattle.min_ball.specs.Balls.{listed};
 
 use crate::Ball;
@@ -10,7 +10,7 @@ use crate::sums::sums_over;
 use arrayvec::ArrayVec;
 use corral::Support;
 use kernel_laws::{Kernel, Plane, Space};
-use witness_format::{BallAnswer2, BallAnswer3, Weighted};
+use answers::{BallAnswer2, BallAnswer3, Weighted};
 
 impl<'a> Ball<'a, Plane> {
     ghost use Rattle.min_ball.specs.SmallestBalls.{points_in, support_of, size_of};

@@ -4,7 +4,7 @@
 use crate::{circle, sphere};
 use bounded_coords::{Point2, Point3, Points2, Points3};
 use std::test::Fail;
-use witness_format::Weighted;
+use answers::Weighted;
 
 /// Points of the plane, the squared radius, the centre, and the supports with their weights; these are left out where others
 /// would do as well.

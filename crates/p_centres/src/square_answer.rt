@@ -2,13 +2,13 @@
 ghost use Rattle.std.specs.Prelude.{◌≡◌, ◌≤◌, ◌+ℤ◌, ◌*ℤ◌, pos, map};
 ghost use Rattle.bounds_model.specs.Numbers.{IsWithin};
 ghost use Rattle.bounds_model.specs.Plane.{plane_limit};
-ghost use Rattle.witness_format.specs.Answers.{leaf_of, centres_of};
+ghost use Rattle.answers.specs.Answers.{leaf_of, centres_of};
 ghost use Rattle.p_centres.specs.Squares.{half_of, fraction_of, leaves_of, answer_of};
 
 use crate::one_centre::OneCentre;
 use arrayvec::ArrayVec;
 use exact_fractions::{Frac, Homog2};
-use witness_format::{CentresAnswer, Leaf};
+use answers::{CentresAnswer, Leaf};
 
 /// A radius `n`/`d` in lowest terms.
 #[derive(Clone, Copy)]

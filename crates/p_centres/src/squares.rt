@@ -2,13 +2,13 @@
 ghost use Rattle.std.specs.Prelude.{◌≡◌, ◌+◌, ◌*◌, ◌≤◌, length};
 ghost use Rattle.bounds_model.specs.CentresAnswer.{PassesCentres};
 ghost use Rattle.bounded_coords.specs.Clouds.{counted_points};
-ghost use Rattle.witness_format.specs.Answers.{centres_of};
+ghost use Rattle.answers.specs.Answers.{centres_of};
 
 use crate::one_centre::one;
 use crate::square_answer::answer;
 use bounded_coords::{Counted, Point2, Steps};
 use std::sync::ledger::Ledger;
-use witness_format::CentresAnswer;
+use answers::CentresAnswer;
 
 /// The least size of `p` squares that cover all points, with such squares, and leaves which show that no smaller ones do:
 /// CGAL's `rectangular_p_center_2`. One square is what is built. It reads each point once and takes no memory.

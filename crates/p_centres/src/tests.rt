@@ -6,7 +6,7 @@ use bounded_coords::{Cloud2, Point2, Points2, Steps};
 use std::marker::Brand;
 use std::sync::ledger::{Blank, Ledger};
 use std::test::Fail;
-use witness_format::CentresAnswer;
+use answers::CentresAnswer;
 
 fn answer_counted<L: Ledger>(cloud: Cloud2<'_>, blank: Blank) -> CentresAnswer
     requires name { blank.name ≡ L.name }

@@ -1,13 +1,183 @@
-//! A run over files and sinks in memory.
-ghost use Rattle.std.specs.Prelude.{◌≡◌, ◌<◌, ◌≤◌};
+//! Runs of the top call.
+ghost use Rattle.std.specs.Prelude.{◌≡◌, ◌<◌, ◌≤◌, IsFalse, IfOk, Ok};
 
-use bnd_io::{Files, MemFiles, MemSink, Sink};
-use bounded_coords::Steps;
+use crate::row::{Cut, NamedFile, Over, Row, Table};
+use anyhow::Result;
+use bnd_io::{Files, MemFiles, MemSink, RealFiles, RealSink, Sink, SureFiles, SureSink};
+use bounded_coords::{OutOfMemory, Steps};
 use bounds_tool::{Status, run};
-use std::alloc::Global;
+use std::alloc::{AllocError, Global};
+use std::fs;
 use std::marker::Brand;
 use std::sync::ledger::{Blank, Ledger};
-use std::test::Fail;
+
+// The files that take what a run over the files of the system writes.
+const OUT: &str = "out.txt";
+
+const ERR: &str = "err.txt";
+
+/// How a run ended, and what it wrote.
+#[derive(Drop)]
+pub(crate) struct Ending {
+    pub(crate) status: u8,
+    pub(crate) out: Vec<u8>,
+    pub(crate) err: Vec<u8>,
+}
+
+impl Ending {
+    fn new(alloc: Global, status: Status, out: &[u8], err: &[u8]) -> Result<Ending> {
+        let mut ending = Ending {
+            status: status.number(),
+            out: Vec::new(alloc),
+            err: Vec::new(alloc),
+        };
+        ending.out.extend_from_slice(out)?;
+        ending.err.extend_from_slice(err)?;
+        Ok(ending)
+    }
+}
+
+/// Runs words over the files of the table and of the row. The file that is cut has this length, and pieces have this size.
+pub(crate) fn run_row(
+    rt: &HostRuntime,
+    table: &Table,
+    row: &Row,
+    words: &[&str],
+    length: usize,
+    piece: u32,
+) -> Result<Ending>
+    requires { 1 ≤ piece }
+{
+    match row.over {
+        Over::Memory => run_in_memory(rt.alloc(), table, row, words, length, piece),
+        Over::Sure => {
+            let mut files = SureFiles::new(rt.alloc());
+            add_surely(&mut files, table, row)?;
+            run_to_end(rt.alloc(), words, &mut files)
+        }
+        Over::Real => run_really(rt, words),
+    }
+}
+
+/// Runs words over the files of the table and of the row and one more, none of which fails.
+pub(crate) fn run_beside(
+    alloc: Global,
+    table: &Table,
+    row: &Row,
+    words: &[&str],
+    name: &str,
+    bytes: &[u8],
+) -> Result<Ending> {
+    let mut files = SureFiles::new(alloc);
+    add_surely(&mut files, table, row)?;
+    stored(files.add(name, bytes))?;
+    run_to_end(alloc, words, &mut files)
+}
+
+fn run_in_memory(
+    alloc: Global,
+    table: &Table,
+    row: &Row,
+    words: &[&str],
+    length: usize,
+    piece: u32,
+) -> Result<Ending>
+    requires { 1 ≤ piece }
+{
+    let mut files = MemFiles::new(alloc, piece);
+    add_cut(&mut files, table.shared.files.as_slice(), &row.cut, length)?;
+    add_cut(&mut files, row.files.as_slice(), &row.cut, length)?;
+    for call in &row.failing.files {
+        stored(files.fail_at(*call))?;
+    }
+    let mut out = sink(alloc, piece, row.failing.out.as_slice())?;
+    let mut err = sink(alloc, piece, row.failing.err.as_slice())?;
+    let status = run_over(alloc, words, &mut files, &mut out, &mut err);
+    Ending::new(alloc, status, out.as_slice(), err.as_slice())
+}
+
+fn sink(alloc: Global, piece: u32, failing: &[u32]) -> Result<MemSink, AllocError>
+    requires { 1 ≤ piece }
+{
+    let mut sink = stored(MemSink::new(alloc, piece))?;
+    for call in failing {
+        stored(sink.fail_at(*call))?;
+    }
+    Ok(sink)
+}
+
+fn add_cut(
+    files: &mut MemFiles,
+    added: &[NamedFile],
+    cut: &Cut,
+    length: usize,
+) -> Result<(), AllocError>
+    requires { IsFalse files.old.files.is_open }
+    ensures { IsFalse files.new.files.is_open }
+{
+    for file in added {
+        let bytes = file.bytes.as_slice();
+        let length = if cut.name == file.name {
+            length.min(bytes.len())
+        } else {
+            bytes.len()
+        };
+        stored(files.add(file.name.as_str(), &bytes[..length]))?;
+    }
+    Ok(())
+}
+
+fn add_surely(files: &mut SureFiles, table: &Table, row: &Row) -> Result<(), AllocError>
+    requires { IsFalse files.old.is_open }
+    ensures { IsFalse files.new.is_open }
+{
+    for file in table.shared.files.iter().chain(row.files.iter()) {
+        stored(files.add(file.name.as_str(), file.bytes.as_slice()))?;
+    }
+    Ok(())
+}
+
+/// Runs words over these files, with sinks that never fail.
+fn run_to_end<F: Files>(alloc: Global, words: &[&str], files: &mut F) -> Result<Ending> {
+    let mut out = stored(SureSink::new(alloc))?;
+    let mut err = stored(SureSink::new(alloc))?;
+    let status = run_over(alloc, words, files, &mut out, &mut err);
+    Ending::new(alloc, status, out.as_slice(), err.as_slice())
+}
+
+/// Runs words over the files of the system, with two of them as sinks.
+fn run_really(rt: &HostRuntime, words: &[&str]) -> Result<Ending> {
+    let mut files = RealFiles::new(*rt);
+    let mut out = RealSink::new(fs::create(rt, OUT)?);
+    let mut err = RealSink::new(fs::create(rt, ERR)?);
+    let status = run_over(rt.alloc(), words, &mut files, &mut out, &mut err);
+    Ok(Ending {
+        status: status.number(),
+        out: fs::read(rt, OUT)?,
+        err: fs::read(rt, ERR)?,
+    })
+}
+
+// The same with the error that std gives for want of memory.
+fn stored<T>(outcome: Result<T, OutOfMemory>) -> Result<T, AllocError>
+    ensures { IfOk result (λ value. outcome ≡ Ok value) }
+{
+    match outcome {
+        Ok(value) => Ok(value),
+        Err(OutOfMemory) => Err(AllocError),
+    }
+}
+
+/// Runs words with a counter of their own.
+fn run_over<F: Files, O: Sink>(
+    alloc: Global,
+    words: &[&str],
+    files: &mut F,
+    out: &mut O,
+    err: &mut O,
+) -> Status {
+    run_counted::<F, O, Brand>(alloc, words, files, out, err, Blank::new(1))
+}
 
 fn run_counted<F: Files, O: Sink, L: Ledger>(
     alloc: Global,
@@ -23,49 +193,4 @@ fn run_counted<F: Files, O: Sink, L: Ledger>(
 {
     let mut steps = Steps::<L>::new(blank);
     run(alloc, words, files, out, err, &mut steps)
-}
-
-/// Runs a command with a ledger of its own.
-pub(crate) fn run_over<F: Files, O: Sink>(
-    alloc: Global,
-    words: &[&str],
-    files: &mut F,
-    out: &mut O,
-    err: &mut O,
-) -> Status {
-    run_counted::<F, O, Brand>(alloc, words, files, out, err, Blank::new(1))
-}
-
-/// Runs a command on the file `a` and the file `b`, and gives the status, the output and the error line. Reads and writes go
-/// in pieces of this many bytes.
-pub(crate) fn run_on(
-    alloc: Global,
-    words: &[&str],
-    a: &[u8],
-    b: &[u8],
-    piece: u32,
-) -> Result<(Status, MemSink, MemSink), Fail>
-    requires { 1 ≤ piece }
-{
-    let mut files = MemFiles::new(alloc, piece);
-    files.add("a", a)?;
-    files.add("b", b)?;
-    let mut out = MemSink::new(alloc, piece)?;
-    let mut err = MemSink::new(alloc, piece)?;
-    let status = run_over(alloc, words, &mut files, &mut out, &mut err);
-    Ok((status, out, err))
-}
-
-/// Whether a command answers these points with a text that begins with these lines, and `check` says yes to it.
-pub(crate) fn is_answered(
-    alloc: Global,
-    words: &[&str],
-    check: &[&str],
-    points: &[u8],
-    lines: &[u8],
-) -> Result<bool, Fail> {
-    let (solved, answer, _) = run_on(alloc, words, points, b"", 16)?;
-    let (checked, verdict, _) = run_on(alloc, check, points, answer.as_slice(), 16)?;
-    let is_done = solved == Status::Done && checked == Status::Done;
-    Ok(is_done && answer.as_slice().starts_with(lines) && verdict.as_slice() == b"yes\n".as_slice())
 }

@@ -5,8 +5,8 @@ use Rattle.std.specs.Prelude.{Contains}
 use Rattle.std.proofs.lemmas.List.{get_or_default}
 use Rattle.bounds_model.specs.Plane.{PlanePoint, point_at, origin}
 use Rattle.bounds_model.specs.CentresAnswer.{AreFar, AreLeaves, IsLeaf}
-use Rattle.witness_format.specs.Answers.{leaf_of}
-use Rattle.witness_format.specs.declared.answer.Leaf.{Leaf}
+use Rattle.answers.specs.Answers.{leaf_of}
+use Rattle.answers.specs.declared.centres.Leaf.{Leaf}
 use Rattle.witness_check.specs.CentresLimits.{NamesPoints}
 
 -- a point that has a number is one of the points

@@ -1,7 +1,6 @@
 pub mod BallPassing
 pub mod CentresPassing
 pub mod Leaves
-pub mod LowestPlaces
 pub mod Narrowing
 pub mod Passing
 pub mod SupportWeights

@@ -8,8 +8,8 @@ use Rattle.integers.proofs.Sums.{total-one_more}
 use Rattle.bounds_model.specs.BallAnswer.{weight_sum}
 use Rattle.kernel_laws.specs.Limits.{ball_limit}
 use Rattle.ball_sums.proofs.Weights.{weights_of_some}
-use Rattle.witness_format.specs.declared.answer.Weighted.{Weighted}
-use Rattle.witness_format.specs.Answers.{weighted_of}
+use Rattle.answers.specs.declared.balls.Weighted.{Weighted}
+use Rattle.answers.specs.Answers.{weighted_of}
 use Rattle.witness_check.specs.HeldBalls.{HasBallLimits}
 use Rattle.witness_check.proofs.Passing.{All-unmap}
 

@@ -9,8 +9,8 @@ use Rattle.bounds_model.specs.BallAnswer as model
 use Rattle.bounds_model.specs.BallAnswer.{weight_sum, first_support, pull, IsOnBall, IsNotOutside}
 use Rattle.kernel_laws.specs.Vectors.{sum_of}
 use Rattle.kernel_laws.specs.Signs.{height}
-use Rattle.witness_format.specs.declared.answer.Weighted.{Weighted}
-use Rattle.witness_format.specs.Answers.{weighted_of}
+use Rattle.answers.specs.declared.balls.Weighted.{Weighted}
+use Rattle.answers.specs.Answers.{weighted_of}
 use Rattle.witness_check.proofs.Passing.{All-unmap}
 use Rattle.ball_sums.specs.declared.sums.Sums.{Sums}
 use Rattle.witness_check.specs.HeldBalls.{IsHeld}

@@ -7,13 +7,13 @@ ghost use Rattle.bounds_model.specs.Answers.{Passes, IsBest, centres};
 ghost use Rattle.bounds_model.specs.Centres.{IsNear};
 ghost use Rattle.bounds_model.specs.CentresAnswer.{AreFar, AreLeaves, side as side_of};
 ghost use Rattle.bounded_coords.specs.Clouds.{points_of};
-ghost use Rattle.witness_format.specs.Answers.{leaf_of, centres_of};
+ghost use Rattle.answers.specs.Answers.{leaf_of, centres_of};
 ghost use Rattle.witness_check.specs.CentresLimits.{IsSmallRadius, IsSmallCentre, NamesPoints, IsWithinLimits};
 
 use bounded_coords::{Cloud2, Point2};
 use exact_fractions::{Frac, Homog2};
 use optimality::answer::passing_answers_are_best;
-use witness_format::{CentresAnswer, Leaf};
+use answers::{CentresAnswer, Leaf};
 
 /// The greatest numerator of a radius, and the greatest magnitude of a centre's numerators.
 const LIMIT: u128 = 1_000_000;

@@ -7,7 +7,7 @@ use Rattle.std.proofs.lemmas.Int.{ints}
 use Rattle.std.proofs.lemmas.Bool.Decides.{nat_tests}
 use Rattle.bounds_model.specs.Places.{number_limit}
 use Rattle.bounds_model.specs.AnswerText.Numerals.{whole_number}
-use Rattle.bounds_model.specs.AnswerText.Fields.{fraction, plane_ratio, space_ratio, is_in_place}
+use Rattle.bounds_model.specs.AnswerText.Fields.{number, fraction, plane_ratio, space_ratio, is_in_place}
 use Rattle.text_laws.proofs.AnswerTexts.NumberLaws.{both_true}
 use Rattle.witness_format.specs.Clamps.{clamped_size, clamped}
 use Rattle.witness_format.specs.Judging.{judged_by, judged_field, field_at}
@@ -51,6 +51,10 @@ by_limit false false place v w same one = refl
 by_limit true false place v w same one = absurd cc
 by_limit false true place v w same one = absurd cc
 
+-- a clamped number
+pub number-clamped : (z : ℤ) → judged_field number (clamped z) ≡ judged_field number z
+number-clamped z = by_limit _ _ (is_in_place number) (clamped z) z (λ i. within-clamped z i && true) (λ small. clamped-same z (both_true (within z) true small).0)
+
 -- the clamped numbers of a fraction
 pub fraction-clamped : (n d : ℤ) → judged_field fraction (record { n = clamped n; d = clamped d }) ≡ judged_field fraction (record { n = n; d = d })
 fraction-clamped n d =
@@ -84,6 +88,10 @@ space_ratio-clamped x y z w =
 
 -- ---- fields by their clamped numbers
 
+-- a whole number that is known
+number_known : (word : List ℕ) (rest : List (List ℕ)) (n : ℤ) → whole_number word ≡ Some n → field_at number (word ∷ rest) ≡ Some (judged_field number n, rest)
+number_known word rest n p = rw p refl
+
 -- a fraction whose numbers are known
 fraction_numbers : (word : List ℕ) (rest : List (List ℕ)) (n d : ℤ) → whole_number (before_first (λ b. b == 47) word) ≡ Some n → whole_number (after_first (λ b. b == 47) word) ≡ Some d
     → field_at fraction (word ∷ rest) ≡ Some (judged_field fraction (record { n = n; d = d }), rest)
@@ -98,6 +106,12 @@ plane_ratio_numbers a b c rest x y w p q r = rw (p, q, r) refl
 space_ratio_numbers : (a b c d : List ℕ) (rest : List (List ℕ)) (x y z w : ℤ) → whole_number a ≡ Some x → whole_number b ≡ Some y → whole_number c ≡ Some z → whole_number d ≡ Some w
     → field_at space_ratio (a ∷ b ∷ c ∷ d ∷ rest) ≡ Some (judged_field space_ratio (record { x = x; y = y; z = z; w = w }), rest)
 space_ratio_numbers a b c d rest x y z w p q r s = rw (p, q, r, s) refl
+
+-- a whole number
+pub number_at : (word : List ℕ) (words rest : List (List ℕ)) (n : ℤ) → words ≡ word ∷ rest → Some n ≡ option_map clamped (whole_number word) → field_at number words ≡ Some (judged_field number n, rest)
+number_at word words rest n is read =
+    let found = number_found (whole_number word) n read in
+    ap (field_at number) is ∙ (number_known word rest found.0 found.2 ∙ (ap (λ j. Some (j, rest)) (sym (number-clamped found.0)) ∙ (λ i. Some (judged_field number (sym found.1 i), rest))))
 
 -- a fraction
 pub fraction_at : (word : List ℕ) (words rest : List (List ℕ)) (n d : ℤ) → words ≡ word ∷ rest → Some n ≡ option_map clamped (whole_number (before_first (λ b. b == 47) word))

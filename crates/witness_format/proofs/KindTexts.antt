@@ -1,25 +1,26 @@
 -- A text is read as an answer of the kind that its first line names, and what is spelled is found.
-use Rattle.std.proofs.Common.{◌≡◌, ◌∙◌, refl, sym, ap, subst, ℕ, List, [], ◌∷◌, map, Option, Some, None, Result, Ok, Err}
-use Rattle.std.specs.Prelude.{IfOk, IsOkAnd}
+use Rattle.std.proofs.Common.{◌≡◌, ◌∙◌, refl, sym, ap, subst, ℕ, List, [], ◌∷◌, Option, Some, None, Result, Ok, Err}
+use Rattle.std.specs.Prelude.{IfOk}
 use Rattle.std.proofs.lemmas.List.{append-nil}
 use Rattle.bounds_model.specs.Fractions.{Fraction}
 use Rattle.bounds_model.specs.Answers.{Answer, circle, sphere, rectangle, parallelogram, strip, annulus, empty, kgon, distance, centres}
 use Rattle.bounds_model.specs.AnswerText.LineFormats.{Values}
 use Rattle.bounds_model.specs.AnswerText.Formats.{Refusal, ◌>>=◌, Unread, line_at, Part, PartValue, counts_after, part_at, Body, body_at}
-use Rattle.bounds_model.specs.AnswerText.Kinds.{Kind, first_format, size_format, circle_kind, sphere_kind, centres_kind}
+use Rattle.bounds_model.specs.AnswerText.Kinds.{Kind, first_format, size_format, circle_kind, sphere_kind, strip_kind, centres_kind}
 use Rattle.bounds_model.specs.AnswerText.Reading.{answer_of, kind_of, all_lines, reading_of}
 use Rattle.bounds_model.specs.AnswerText.Spelling.{spelling, Spells}
-use Rattle.text_laws.proofs.AnswerTexts.FormLaws.{format_line}
+use Rattle.bounds_model.specs.AnswerText.Written.{format_line}
 use Rattle.text_laws.proofs.AnswerTexts.AnswerLaws.{Written, known_again}
 use Rattle.text_laws.proofs.AnswerTexts.BallKinds.{circle_law, circle_written, kind-circle_written, sphere_law, sphere_written, kind-sphere_written}
+use Rattle.text_laws.proofs.AnswerTexts.FanKinds.{strip_law, strip_written, kind-strip_written}
 use Rattle.text_laws.proofs.AnswerTexts.PairKinds.{centres_law, centres_written, kind-centres_written}
 use Rattle.text_laws.proofs.AnswerTexts.TextLaws.{known_back}
-use Rattle.witness_format.specs.declared.answer.Answer as code
+use Rattle.answers.specs.declared.answer.Answer as code
 use Rattle.witness_format.specs.declared.fault.ReadFault.{ReadFault}
 use Rattle.witness_format.specs.declared.fault.ReadFault.TheVariants.{BadAnswer, BigNumber, OutOfMemory}
-use Rattle.witness_format.specs.Answers as seen
+use Rattle.answers.specs.Answers as seen
 use Rattle.witness_format.specs.Kinds.{known_kinds, IsKnown, behind, body_of, closed, answer_by}
-use Rattle.witness_format.specs.Outcomes.{Reads}
+use Rattle.witness_format.specs.Outcomes.{ReadsOr, IsFound}
 
 -- ---- part by part
 
@@ -34,16 +35,6 @@ part_read part parts counts text value after others end first rest =
 pub body_read : (kind : Kind) (size : Fraction) (text : Unread) (body : Body kind.body) (end : Unread) (answer : Answer) → body_at kind.body [] text ≡ Ok (body, end) → kind.answer size body ≡ answer → body_of kind size text ≡ Ok (answer, end)
 body_read kind size text body end answer read is =
     ap (λ (r : Result (Body kind.body × Unread) Refusal). ◌>>=◌ {B = Answer × Unread} r (λ b. Ok (kind.answer size b.0, b.1))) read ∙ ap (λ (a : Answer). Ok (a, end)) is
-
--- values of the code as the fields of their lines, and these as values of the model
-pub made_of : {X V Y : Type 0} (values : X → V) (make : V → Y) (meaning : X → Y) → ((x : X) → make (values x) ≡ meaning x) → (xs : List X) → map make (map values xs) ≡ map meaning xs
-made_of values make meaning same [] = refl
-made_of values make meaning same (x ∷ xs) = λ i. same x i ∷ made_of values make meaning same xs i
-
--- values that are those of the model
-pub made_same : {X V : Type 0} (values : X → V) (make : V → X) → ((x : X) → make (values x) ≡ x) → (xs : List X) → map make (map values xs) ≡ xs
-made_same values make same [] = refl
-made_same values make same (x ∷ xs) = λ i. same x i ∷ made_same values make same xs i
 
 -- ---- all lines
 
@@ -72,15 +63,15 @@ by_kind None text = refl
 by_kind (Some kind) text = by_first kind (line_at (first_format kind.name) text)
 
 -- what is read line by line is the reading
-pub reads_text : (known : List Kind) (bytes : List ℕ) (result : Result code.Answer ReadFault) → Reads seen.answer_of result (answer_by known (all_lines bytes)) → Reads seen.answer_of result (reading_of known bytes)
-reads_text known bytes result reads = subst (Reads seen.answer_of result) (by_kind (kind_of known (all_lines bytes)) (all_lines bytes)) reads
+pub reads_text : (wants : Type 0) (known : List Kind) (bytes : List ℕ) (result : Result code.Answer ReadFault) → ReadsOr wants seen.answer_of result (answer_by known (all_lines bytes)) → ReadsOr wants seen.answer_of result (reading_of known bytes)
+reads_text wants known bytes result reads = subst (ReadsOr wants seen.answer_of result) (by_kind (kind_of known (all_lines bytes)) (all_lines bytes)) reads
 
 -- ---- what is read is spelled, and what is spelled is read
 
 -- an answer that was read is spelled by the text
-pub found_is_spelled : (bytes : List ℕ) (result : Result code.Answer ReadFault) → Reads seen.answer_of result (reading_of known_kinds bytes) → IfOk result (λ answer. Spells bytes (seen.answer_of answer))
-found_is_spelled bytes (Ok answer) found = known_back known_kinds bytes (seen.answer_of answer) (circle_law, (sphere_law, (centres_law, tt))) found
-found_is_spelled bytes (Err fault) found = tt
+pub found_is_spelled : (wants : Type 0) (bytes : List ℕ) (result : Result code.Answer ReadFault) → ReadsOr wants seen.answer_of result (reading_of known_kinds bytes) → IfOk result (λ answer. Spells bytes (seen.answer_of answer))
+found_is_spelled wants bytes (Ok answer) found = known_back known_kinds bytes (seen.answer_of answer) (circle_law, (sphere_law, (strip_law, (centres_law, tt)))) found
+found_is_spelled wants bytes (Err fault) found = tt
 
 -- the first line of an answer of such a kind names it
 abbrev Named : Kind → Type 0
@@ -97,7 +88,7 @@ written (sphere a) known bytes spells = (sphere_written a spells.places, named_i
 written (centres a) known bytes spells = (centres_written a spells.places, named_is (centres_written a spells.places).kind centres_kind (kind-centres_written a spells.places) (λ lines. refl))
 written (rectangle a) known bytes spells = absurd known
 written (parallelogram a) known bytes spells = absurd known
-written (strip a) known bytes spells = absurd known
+written (strip a) known bytes spells = (strip_written a spells.places, named_is (strip_written a spells.places).kind strip_kind (kind-strip_written a spells.places) (λ lines. refl))
 written (annulus a) known bytes spells = absurd known
 written (empty a) known bytes spells = absurd known
 written (kgon a) known bytes spells = absurd known
@@ -111,13 +102,13 @@ spelled_reads bytes a known spells =
     ap (λ (x : List ℕ). reading_of known_kinds x) (spells.spelled ∙ sym (append-nil (spelling a))) ∙ again.1
 
 -- what was found is what reads so
-found_is : (result : Result code.Answer ReadFault) (answer : Answer) → Reads seen.answer_of result (Ok answer) → IsOkAnd result (λ found. seen.answer_of found ≡ answer)
-found_is (Ok found) answer reads = cc
-found_is (Err (BadAnswer line)) answer reads = absurd cc
-found_is (Err (BigNumber line)) answer reads = absurd cc
-found_is (Err OutOfMemory) answer reads = absurd reads
+found_is : (wants : Type 0) (result : Result code.Answer ReadFault) (answer : Answer) → ReadsOr wants seen.answer_of result (Ok answer) → IsFound wants result (λ found. seen.answer_of found ≡ answer)
+found_is wants (Ok found) answer reads = cc
+found_is wants (Err (BadAnswer line)) answer reads = absurd cc
+found_is wants (Err (BigNumber line)) answer reads = absurd cc
+found_is wants (Err OutOfMemory) answer reads = reads
 
 -- an answer that is spelled is found
-pub spelled_is_found : (bytes : List ℕ) (result : Result code.Answer ReadFault) → Reads seen.answer_of result (reading_of known_kinds bytes) → (a : Answer) → IsKnown a → Spells bytes a
-    → IsOkAnd result (λ found. seen.answer_of found ≡ a)
-spelled_is_found bytes result reads a known spells = found_is result a (subst (λ r. Reads seen.answer_of result r) (spelled_reads bytes a known spells) reads)
+pub spelled_is_found : (wants : Type 0) (bytes : List ℕ) (result : Result code.Answer ReadFault) → ReadsOr wants seen.answer_of result (reading_of known_kinds bytes) → (a : Answer) → IsKnown a → Spells bytes a
+    → IsFound wants result (λ found. seen.answer_of found ≡ a)
+spelled_is_found wants bytes result reads a known spells = found_is wants result a (subst (λ r. ReadsOr wants seen.answer_of result r) (spelled_reads bytes a known spells) reads)

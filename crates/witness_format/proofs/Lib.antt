@@ -5,4 +5,6 @@ pub mod FieldJudgements
 pub mod LineCuts
 pub mod FirstLines
 pub mod LineReadings
+pub mod PrintedWords
+pub mod SaidAnswers
 pub mod KindTexts

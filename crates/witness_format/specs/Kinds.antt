@@ -1,28 +1,30 @@
 -- The kinds of answers that are read, and how an answer of a kind is read behind its first line.
-use Rattle.std.specs.Prelude.{ℕ, List, [], ◌∷◌, find, is_some, Option, Some, None, Result, Ok, Err}
+use Rattle.std.specs.Prelude.{ℕ, Bool, false, true, ◌||◌, nat_lt, List, [], ◌∷◌, find, is_some, Option, Some, None, Result, Ok, Err}
 use Rattle.bounds_model.specs.Fractions.{Fraction}
-use Rattle.bounds_model.specs.Answers.{Answer, circle, sphere, centres}
-use Rattle.bounds_model.specs.AnswerText.Formats.{Refusal, bad_answer, ◌>>=◌, Unread, line_at, body_at}
-use Rattle.bounds_model.specs.AnswerText.Kinds.{Kind, first_format, size_format, last_format, circle_kind, sphere_kind, centres_kind}
+use Rattle.bounds_model.specs.Answers.{Answer, circle, sphere, strip, centres}
+use Rattle.bounds_model.specs.AnswerText.Formats.{Refusal, bad_answer, ◌>>=◌, Unread, line_at, Part, line, counted, count, rows, body_at}
+use Rattle.bounds_model.specs.AnswerText.Kinds.{Kind, first_format, size_format, last_format, circle_kind, sphere_kind, strip_kind, centres_kind}
 use Rattle.bounds_model.specs.AnswerText.Reading.{ended, kind_of}
 use Rattle.witness_format.specs.declared.kinds.AnswerKind.{AnswerKind}
-use Rattle.witness_format.specs.declared.kinds.AnswerKind.TheVariants.{Circle, Sphere, Centres}
+use Rattle.witness_format.specs.declared.kinds.AnswerKind.TheVariants.{Circle, Sphere, Strip, Centres}
 use Rattle.witness_format.specs.Judging.{said}
 
 -- the format of a kind
 abbrev pub format_of : AnswerKind → Kind
 format_of Circle = circle_kind
 format_of Sphere = sphere_kind
+format_of Strip = strip_kind
 format_of Centres = centres_kind
 
--- circles, spheres and centres
+-- circles, spheres, strips and centres
 abbrev pub known_kinds : List Kind
-known_kinds = circle_kind ∷ sphere_kind ∷ centres_kind ∷ []
+known_kinds = circle_kind ∷ sphere_kind ∷ strip_kind ∷ centres_kind ∷ []
 
 -- the answer is of one of these kinds
 abbrev pub IsKnown : Answer → Type 0
 IsKnown (circle a) = Unit {0}
 IsKnown (sphere a) = Unit {0}
+IsKnown (strip a) = Unit {0}
 IsKnown (centres a) = Unit {0}
 IsKnown answer = ⊥
 
@@ -40,6 +42,32 @@ behind (Some kind) unread = line_at (first_format kind.name) unread >>= λ first
 -- the one of these kinds that the first line names, and the lines behind it; a line that names none is refused
 abbrev pub first_kind : List Kind → Unread → Result (Kind × Unread) Refusal
 first_kind known unread = behind (kind_of known unread) unread
+
+-- there is a list that an answer does not hold in itself: one of more than 16 lines, or rows of numbers
+abbrev pub has_list : List Part → Bool
+has_list [] = false
+has_list (line format ∷ parts) = has_list parts
+has_list (counted c less fields ∷ parts) = nat_lt 16 c.high || has_list parts
+has_list (count c ∷ parts) = has_list parts
+has_list (rows widths ∷ parts) = true
+
+-- memory may be wanting where this is so
+abbrev pub WantsIf : Bool → Type 0
+WantsIf true = Unit {0}
+WantsIf false = ⊥
+
+-- memory may be wanting for answers of a kind with such a list, and for no others
+abbrev pub MayWant : Kind → Type 0
+MayWant kind = WantsIf (has_list kind.body)
+
+-- the first line was read, and names such a kind
+abbrev pub NamedMayWant : Result (Kind × Unread) Refusal → Type 0
+NamedMayWant (Ok named) = MayWant named.0
+NamedMayWant (Err refusal) = ⊥
+
+-- the first line of a text names such a kind
+abbrev pub TextMayWant : List Kind → Unread → Type 0
+TextMayWant known unread = NamedMayWant (first_kind known unread)
 
 -- ---- the other lines
 

@@ -8,6 +8,6 @@ pub enum ReadFault {
     BadAnswer(u32),
     /// A number on the line of this number is past the limit.
     BigNumber(u32),
-    /// Memory was refused. An answer on centres holds its parts in itself, so that this does not come for it.
+    /// Memory was refused. This comes only for a kind whose answers hold a list outside themselves.
     OutOfMemory,
 }

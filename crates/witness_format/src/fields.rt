@@ -62,6 +62,24 @@ fn judged_natural(n: u128) -> Judged<u128>
     }
 }
 
+/// A whole number.
+pub(crate) fn number(words: Words<'_>) -> Option<(Judged<i128>, Words<'_>)>
+    ensures { Finds (λ x. (x.0, words_left x.1)) result (field_at model.number (words_left words.entry)) }
+{
+    let (word, others) = words.next()?;
+    let n = whole_number(word)?;
+    Some((judged_number(n), others))
+}
+
+fn judged_number(n: i128) -> Judged<i128>
+    ensures { result ≡ judged_field model.number n }
+{
+    if n.unsigned_abs() > LIMIT {
+        return Err(Flaw::PastLimit);
+    }
+    Ok(n)
+}
+
 /// A fraction in lowest terms that is not below 0.
 pub(crate) fn fraction(words: Words<'_>) -> Option<(Judged<Frac>, Words<'_>)>
     ensures { Finds (λ x. (x.0, words_left x.1)) result (field_at model.fraction (words_left words.entry)) }

@@ -9,6 +9,7 @@ ghost use Rattle.witness_format.specs.Outcomes.{Finds};
 pub(crate) enum AnswerKind {
     Circle,
     Sphere,
+    Strip,
     Centres,
 }
 
@@ -19,6 +20,7 @@ pub(crate) fn kind_of(name: &[u8]) -> Option<AnswerKind>
     match name {
         b"circle" => Some(AnswerKind::Circle),
         b"sphere" => Some(AnswerKind::Sphere),
+        b"strip" => Some(AnswerKind::Strip),
         b"centres" => Some(AnswerKind::Centres),
         _ => None,
     }

@@ -1,35 +1,41 @@
-//! Answers: their types, and their text both ways.
+//! The text of answers, both ways. Their types are those of the crate `answers`.
 //!
-//! - `answer`: an answer of each kind, and its size
 //! - `printing`: the one text of an answer
 //! - `reading`: a text as an answer, or why it is refused
 //! - `kinds`: the kinds by their names
-//! - `line_reading`: the lines of a text, read one by one
-//! - `text_line` and `line_value`: values that fill a line, as they are printed and as they are read
+//! - `line_reading` and `line_printing`: the lines of a text, read and written one by one
+//! - `line`: values that fill a line, each said once as its fields
+//! - `field_list` and `field_value`: fields that come one after the other, and one field, both ways
 //! - `lines` and `words`: a text cut into lines, and a line into words
 //! - `numerals`: the numbers that words write
-//! - `fields`: the fields of a line
+//! - `fields`: the fields of a line, as they are read
 //! - `judging`: the order of causes on one line
 //! - `fault`: why a text is refused
 #![tactic(auto)]
 
-mod answer;
 mod fault;
+mod field_list;
+mod field_value;
 mod fields;
 mod judging;
 mod kinds;
+mod line;
+mod line_printing;
 mod line_reading;
-mod line_value;
 mod lines;
 mod numerals;
 mod printing;
 mod reading;
 #[cfg(test)]
 mod tests;
-mod text_line;
 mod words;
 
-pub use answer::{Answer, BallAnswer2, BallAnswer3, CentresAnswer, Leaf, Weighted, size};
+pub use answers::{
+    AnnulusAnswer, Answer, AnswerList, BallAnswer2, BallAnswer3, Blocker, CentresAnswer, Chord,
+    Chords, Dir, Dir3, DistanceAnswer, EmptyAnswer, HalfCone, HalfCones, HalfFan, KgonAnswer, Leaf,
+    Numbers, ParaAnswer, Potentials, QuarterCone, QuarterCones, QuarterFan, RectAnswer, Span,
+    StripAnswer, Weighted, WeightedPair, size,
+};
 pub use fault::ReadFault;
 pub use printing::{AnswerBytes, print};
 pub use reading::read;

@@ -1,19 +1,23 @@
 //! The lines of an answer text, read one by one.
-ghost use Rattle.std.specs.Prelude.{◌<◌, ◌≤◌, ◌^◌, [], map, IfSome, IfOk};
+ghost use Rattle.std.specs.Prelude.{◌≡◌, ◌<◌, ◌≤◌, ◌^◌, [], ◌∷◌, ◌++◌, length, map, IfSome, IfOk, IfErr, OnOk};
 ghost use Rattle.bounds_model.specs.AnswerText.LineFormats.{titled, untitled};
 ghost use Rattle.bounds_model.specs.AnswerText.Formats.{Count, count_format, counted, line_at, lines_at, part_at};
-ghost use Rattle.witness_format.specs.Judging.{seen, said};
+ghost use Rattle.witness_format.specs.declared.fault.ReadFault.TheVariants.{OutOfMemory};
+ghost use Rattle.witness_format.specs.Judging.{seen, said, fields_at};
 ghost use Rattle.witness_format.specs.Kinds.{format_of, known_kinds, named_by, first_kind};
 ghost use Rattle.witness_format.specs.Lines.{words_left, lines_left};
-ghost use Rattle.witness_format.specs.Outcomes.{Finds, Reads};
+ghost use Rattle.witness_format.specs.Outcomes.{Finds, Reads, ReadsOr};
 
+use crate::field_list::FieldList;
 use crate::judging::{Judged, decide};
 use crate::kinds::{AnswerKind, kind_of};
-use crate::line_value::LineValue;
+use crate::line::Line;
 use crate::lines::Unread;
 use crate::words::Words;
 use crate::{ReadFault, fields};
+use answers::AnswerList;
 use arrayvec::ArrayVec;
+use std::alloc::Global;
 
 // ---- one line
 
@@ -41,27 +45,38 @@ fn kind_named(words: Words<'_>) -> Option<AnswerKind>
 }
 
 /// A line of a word and a value.
-pub(crate) fn read_titled<T: LineValue>(text: &mut Unread<'_>, word: &[u8]) -> Result<T, ReadFault>
-    ensures { Reads (λ value. (T.values value, lines_left text.new)) result (line_at (titled word.now T.fields) (lines_left text.old)) }
+pub(crate) fn read_titled<T: Line>(text: &mut Unread<'_>, word: &[u8]) -> Result<T, ReadFault>
+    ensures { Reads (λ value. (T.Fields.values (T.parts value), lines_left text.new)) result (line_at (titled word.now T.Fields.fields) (lines_left text.old)) }
 {
     let number = text.number;
     let words = text.next_line()?;
     decide(number, titled_words(words, word))
 }
 
-fn titled_words<T: LineValue>(words: Words<'_>, word: &[u8]) -> Option<Judged<T>>
-    ensures { Finds (seen T.values) result (said (titled word.now T.fields) (words_left words.entry)) }
+fn titled_words<T: Line>(words: Words<'_>, word: &[u8]) -> Option<Judged<T>>
+    ensures { Finds (seen (λ v. T.Fields.values (T.parts v))) result (said (titled word.now T.Fields.fields) (words_left words.entry)) }
 {
-    T::read(words.after(word)?)
+    value_of(words.after(word)?)
+}
+
+/// A value whose fields take all these words.
+fn value_of<T: Line>(words: Words<'_>) -> Option<Judged<T>>
+    ensures { Finds (seen (λ v. T.Fields.values (T.parts v))) result (fields_at T.Fields.fields (words_left words.entry)) }
+{
+    match T::Fields::read(words) {
+        None => None,
+        Some(Err(flaw)) => Some(Err(flaw)),
+        Some(Ok(fields)) => Some(Ok(T::of(fields))),
+    }
 }
 
 /// A line of a value alone.
-fn read_line<T: LineValue>(text: &mut Unread<'_>) -> Result<T, ReadFault>
-    ensures { Reads (λ value. (T.values value, lines_left text.new)) result (line_at (untitled T.fields) (lines_left text.old)) }
+pub(crate) fn read_line<T: Line>(text: &mut Unread<'_>) -> Result<T, ReadFault>
+    ensures { Reads (λ value. (T.Fields.values (T.parts value), lines_left text.new)) result (line_at (untitled T.Fields.fields) (lines_left text.old)) }
 {
     let number = text.number;
     let words = text.next_line()?;
-    decide(number, T::read(words))
+    decide(number, value_of(words))
 }
 
 /// A word and a number from `low` to `high`.
@@ -89,27 +104,27 @@ fn count_words(words: Words<'_>, word: &[u8], low: u32, high: u32) -> Option<Jud
 // ---- several lines
 
 /// The line of a count, and as many lines, from `low` to `CAP`.
-pub(crate) fn read_counted<T: LineValue + Default, const CAP: usize>(
+pub(crate) fn read_counted<T: Line + Default, const CAP: usize>(
     text: &mut Unread<'_>,
     word: &[u8],
     low: u32,
 ) -> Result<ArrayVec<T, CAP>, ReadFault>
     requires { CAP < 2 ^ 32 }
-    ensures { Reads (λ values. (map T.values values.items, lines_left text.new)) result
-        (part_at (counted (record { word = word.now; low = low; high = CAP }) 0 T.fields) [] (lines_left text.old)) }
+    ensures { Reads (λ values. (map (λ v. T.Fields.values (T.parts v)) values.items, lines_left text.new)) result
+        (part_at (counted (record { word = word.now; low = low; high = CAP }) 0 T.Fields.fields) [] (lines_left text.old)) }
 {
     let count = read_count(text, word, low, CAP as u32)?;
     read_lines(text, count)
 }
 
 /// So many lines.
-fn read_lines<T: LineValue + Default, const CAP: usize>(
+fn read_lines<T: Line + Default, const CAP: usize>(
     text: &mut Unread<'_>,
     count: u32,
 ) -> Result<ArrayVec<T, CAP>, ReadFault>
     requires { count ≤ CAP }
-    ensures { Reads (λ values. (map T.values values.items, lines_left text.new)) result
-        (lines_at count (untitled T.fields) (lines_left text.old)) }
+    ensures { Reads (λ values. (map (λ v. T.Fields.values (T.parts v)) values.items, lines_left text.new)) result
+        (lines_at count (untitled T.Fields.fields) (lines_left text.old)) }
 {
     let mut values = ArrayVec::new();
     for _ in 0..count {
@@ -117,4 +132,51 @@ fn read_lines<T: LineValue + Default, const CAP: usize>(
         values.push(value);
     }
     Ok(values)
+}
+
+/// The line of a count from `low` to `high`, and as many lines, less a few, as a list.
+pub(crate) fn read_listed<T: Line>(
+    alloc: Global,
+    text: &mut Unread<'_>,
+    word: &[u8],
+    low: u32,
+    high: u32,
+    less: u32,
+) -> Result<AnswerList<T>, ReadFault>
+    requires { high ≤ 1000000 }
+    ensures { ReadsOr (Unit {0}) (λ values. (map (λ v. T.Fields.values (T.parts v)) values, lines_left text.new)) result
+        (part_at (counted (record { word = word.now; low = low; high = high }) less T.Fields.fields) [] (lines_left text.old)) }
+{
+    let count = read_count(text, word, low, high)?;
+    read_list(alloc, text, count.saturating_sub(less))
+}
+
+/// So many lines, as a list.
+fn read_list<T: Line>(
+    alloc: Global,
+    text: &mut Unread<'_>,
+    count: u32,
+) -> Result<AnswerList<T>, ReadFault>
+    requires { count ≤ 1000000 }
+    ensures { ReadsOr (Unit {0}) (λ values. (map (λ v. T.Fields.values (T.parts v)) values, lines_left text.new)) result
+        (lines_at count (untitled T.Fields.fields) (lines_left text.old)) }
+{
+    let mut values = AnswerList::new(alloc);
+    for _ in 0..count {
+        let value = read_line(text)?;
+        add(&mut values, value)?;
+    }
+    Ok(values)
+}
+
+/// Adds a value that was read.
+fn add<T: Copy>(values: &mut AnswerList<T>, value: T) -> Result<(), ReadFault>
+    requires { length values.old < 1000000 }
+    ensures added { OnOk result (values.new ≡ values.old ++ value ∷ []) }
+    ensures fault { IfErr result (λ fault. fault ≡ OutOfMemory) }
+{
+    match values.push(value) {
+        Ok(()) => Ok(()),
+        Err(_) => Err(ReadFault::OutOfMemory),
+    }
 }

@@ -1,18 +1,15 @@
 //! The one text of an answer, line by line.
-ghost use Rattle.std.specs.Prelude.{◌≡◌, ℕ, List, ◌++◌, length, decimal, codes, IfOk, OnOk};
-ghost use Rattle.std.specs.Fmt.{signed_decimal};
-ghost use Rattle.std.specs.List.{flat_map};
+ghost use Rattle.std.specs.Prelude.{◌≡◌, ℕ, List, [], ◌++◌, IfOk, OnOk};
 ghost use Rattle.bounds_model.specs.Answers.{HasPlaces};
-ghost use Rattle.bounds_model.specs.AnswerText.SpelledParts.{fraction_text, pair_text, plane_ratio_text, first_line, size_line, count_line, plane_ratio_line, last_line};
-ghost use Rattle.bounds_model.specs.AnswerText.SpelledCentres.{centres_spelling};
-ghost use Rattle.bounds_model.specs.AnswerText.Spelling.{Spells, space_ratio_text, space_ratio_line, circle_spelling, sphere_spelling, spelling};
-ghost use Rattle.witness_format.specs.Answers.{circle_of, sphere_of, centres_of, answer_of};
+ghost use Rattle.bounds_model.specs.AnswerText.Kinds.{circle_kind, sphere_kind, strip_kind, centres_kind};
+ghost use Rattle.bounds_model.specs.AnswerText.Spelling.{Spells};
+ghost use Rattle.bounds_model.specs.AnswerText.Written.{body_bytes, kind_bytes};
+ghost use Rattle.answers.specs.Answers.{answer_of};
+ghost use Rattle.witness_format.specs.Bodies.{circle_body, sphere_body, strip_body, centres_body, said_of};
 
-use crate::text_line::TextLine;
-use crate::{Answer, BallAnswer2, BallAnswer3, CentresAnswer};
+use crate::line_printing::{push_counted, push_first, push_line, push_titled};
+use answers::{Answer, BallAnswer2, BallAnswer3, CentresAnswer, StripAnswer, size};
 use bounded_coords::OutOfMemory;
-use exact_fractions::{Frac, Homog2, Homog3};
-use itoa::Buffer;
 use std::alloc::{AllocError, Global};
 use std::marker::Model;
 
@@ -50,180 +47,68 @@ pub fn print(alloc: Global, answer: &Answer) -> Result<AnswerBytes, OutOfMemory>
 }
 
 fn answer_text(alloc: Global, answer: &Answer) -> Result<Vec<u8>, AllocError>
-    ensures { IfOk result (λ text. text.items ≡ spelling (answer_of answer.now)) }
+    ensures { IfOk result (λ text. let said = said_of answer.now in text.items ≡ kind_bytes said.kind said.size said.body) }
+{
+    let mut text = Vec::new(alloc);
+    push_first(&mut text, name(answer))?;
+    push_titled(&mut text, b"size", &size(answer))?;
+    push_body(&mut text, answer)?;
+    push_titled(&mut text, b"end", &())?;
+    Ok(text)
+}
+
+/// The name of the kind.
+fn name(answer: &Answer) -> &'static [u8]
+    ensures { result.now ≡ (said_of answer.now).kind.name }
 {
     match answer {
-        Answer::Circle(a) => circle_text(alloc, a),
-        Answer::Sphere(a) => sphere_text(alloc, a),
-        Answer::Centres(a) => centres_text(alloc, a),
+        Answer::Circle(_) => b"circle",
+        Answer::Sphere(_) => b"sphere",
+        Answer::Strip(_) => b"strip",
+        Answer::Centres(_) => b"centres",
     }
 }
 
-fn circle_text(alloc: Global, a: &BallAnswer2) -> Result<Vec<u8>, AllocError>
-    ensures { IfOk result (λ text. text.items ≡ circle_spelling (circle_of a.now)) }
+/// The lines between that of the size and the last one.
+fn push_body(text: &mut Vec<u8>, answer: &Answer) -> Result<(), AllocError>
+    ensures { OnOk result (let said = said_of answer.now in text.new.items ≡ text.old.items ++ body_bytes said.kind.body [] said.body) }
 {
-    let mut text = Vec::new(alloc);
-    push_first(&mut text, b"circle")?;
-    push_size(&mut text, &a.size)?;
-    push_plane_ratio_line(&mut text, b"center", &a.center)?;
-    push_counted(&mut text, b"supports", a.supports.as_slice())?;
-    push_last(&mut text)?;
-    Ok(text)
-}
-
-fn sphere_text(alloc: Global, a: &BallAnswer3) -> Result<Vec<u8>, AllocError>
-    ensures { IfOk result (λ text. text.items ≡ sphere_spelling (sphere_of a.now)) }
-{
-    let mut text = Vec::new(alloc);
-    push_first(&mut text, b"sphere")?;
-    push_size(&mut text, &a.size)?;
-    push_space_ratio_line(&mut text, b"center", &a.center)?;
-    push_counted(&mut text, b"supports", a.supports.as_slice())?;
-    push_last(&mut text)?;
-    Ok(text)
-}
-
-fn centres_text(alloc: Global, a: &CentresAnswer) -> Result<Vec<u8>, AllocError>
-    ensures { IfOk result (λ text. text.items ≡ centres_spelling (centres_of a.now)) }
-{
-    let mut text = Vec::new(alloc);
-    push_first(&mut text, b"centres")?;
-    push_size(&mut text, &a.size)?;
-    push_counted(&mut text, b"squares", a.squares.as_slice())?;
-    push_counted(&mut text, b"leaves", a.leaves.as_slice())?;
-    push_last(&mut text)?;
-    Ok(text)
-}
-
-// ---- lines
-
-/// The first line, which names the kind.
-#[tactic(auto, unfolding(bounds_model::specs::AnswerText::SpelledParts::first_line))]
-fn push_first(text: &mut Vec<u8>, kind: &[u8]) -> Result<(), AllocError>
-    ensures { OnOk result (text.new.items ≡ text.old.items ++ first_line kind.now) }
-{
-    push(text, b"answer 1 ")?;
-    push(text, kind)?;
-    push(text, b"\n")
-}
-
-/// The line of the size.
-#[tactic(auto, unfolding(bounds_model::specs::AnswerText::SpelledParts::size_line))]
-fn push_size(text: &mut Vec<u8>, size: &Frac) -> Result<(), AllocError>
-    ensures { OnOk result (text.new.items ≡ text.old.items ++ size_line size.now) }
-{
-    push(text, b"size ")?;
-    push_fraction(text, size)?;
-    push(text, b"\n")
-}
-
-/// A word, and x and y over w.
-#[tactic(auto, unfolding(bounds_model::specs::AnswerText::SpelledParts::plane_ratio_line))]
-fn push_plane_ratio_line(text: &mut Vec<u8>, word: &[u8], c: &Homog2) -> Result<(), AllocError>
-    ensures { OnOk result (text.new.items ≡ text.old.items ++ plane_ratio_line word.now c.now) }
-{
-    push(text, word)?;
-    push(text, b" ")?;
-    push_plane_ratio(text, c)?;
-    push(text, b"\n")
-}
-
-/// A word, and x, y and z over w.
-#[tactic(auto, unfolding(bounds_model::specs::AnswerText::Spelling::space_ratio_line))]
-fn push_space_ratio_line(text: &mut Vec<u8>, word: &[u8], c: &Homog3) -> Result<(), AllocError>
-    ensures { OnOk result (text.new.items ≡ text.old.items ++ space_ratio_line word.now c.now) }
-{
-    push(text, word)?;
-    push(text, b" ")?;
-    push_space_ratio(text, c)?;
-    push(text, b"\n")
-}
-
-/// A word and the number of lines that follow.
-#[tactic(auto, unfolding(bounds_model::specs::AnswerText::SpelledParts::count_line))]
-fn push_count(text: &mut Vec<u8>, word: &[u8], count: usize) -> Result<(), AllocError>
-    ensures { OnOk result (text.new.items ≡ text.old.items ++ count_line word.now count) }
-{
-    push(text, word)?;
-    push(text, b" ")?;
-    push_natural(text, count as u128)?;
-    push(text, b"\n")
-}
-
-/// A word and a number of lines, and these lines.
-fn push_counted<T: TextLine>(text: &mut Vec<u8>, word: &[u8], lines: &[T]) -> Result<(), AllocError>
-    ensures { OnOk result (text.new.items ≡ text.old.items ++ count_line word.now (length lines.now) ++ flat_map T.spelled lines.now) }
-{
-    push_count(text, word, lines.len())?;
-    for line in lines {
-        line.print(text)?;
+    match answer {
+        Answer::Circle(a) => push_circle(text, a),
+        Answer::Sphere(a) => push_sphere(text, a),
+        Answer::Strip(a) => push_strip(text, a),
+        Answer::Centres(a) => push_centres(text, a),
     }
-    Ok(())
 }
 
-/// The last line.
-#[tactic(auto, unfolding(bounds_model::specs::AnswerText::SpelledParts::last_line))]
-fn push_last(text: &mut Vec<u8>) -> Result<(), AllocError>
-    ensures { OnOk result (text.new.items ≡ text.old.items ++ last_line) }
+// ---- the kinds
+
+fn push_circle(text: &mut Vec<u8>, a: &BallAnswer2) -> Result<(), AllocError>
+    ensures { OnOk result (text.new.items ≡ text.old.items ++ body_bytes circle_kind.body [] (circle_body a.now)) }
 {
-    push(text, b"end\n")
+    push_titled(text, b"center", &a.center)?;
+    push_counted(text, b"supports", 0, a.supports.as_slice())
 }
 
-// ---- parts of lines
-
-/// These bytes.
-pub(crate) fn push(text: &mut Vec<u8>, piece: &[u8]) -> Result<(), AllocError>
-    ensures { OnOk result (text.new.items ≡ text.old.items ++ piece.now) }
+fn push_sphere(text: &mut Vec<u8>, a: &BallAnswer3) -> Result<(), AllocError>
+    ensures { OnOk result (text.new.items ≡ text.old.items ++ body_bytes sphere_kind.body [] (sphere_body a.now)) }
 {
-    text.extend_from_slice(piece)
+    push_titled(text, b"center", &a.center)?;
+    push_counted(text, b"supports", 0, a.supports.as_slice())
 }
 
-/// A number without a sign.
-pub(crate) fn push_natural(text: &mut Vec<u8>, n: u128) -> Result<(), AllocError>
-    ensures { OnOk result (text.new.items ≡ text.old.items ++ decimal n) }
+fn push_strip(text: &mut Vec<u8>, a: &StripAnswer) -> Result<(), AllocError>
+    ensures { OnOk result (text.new.items ≡ text.old.items ++ body_bytes strip_kind.body [] (strip_body a.now)) }
 {
-    text.extend_from_slice(Buffer::new().format(n).as_bytes())
+    push_titled(text, b"direction", &a.direction)?;
+    push_titled(text, b"bounds", &a.bounds)?;
+    push_counted(text, b"fan", 1, a.fan.cones.as_slice())?;
+    push_line(text, &a.fan.last)
 }
 
-/// A whole number.
-pub(crate) fn push_whole(text: &mut Vec<u8>, n: i128) -> Result<(), AllocError>
-    ensures { OnOk result (text.new.items ≡ text.old.items ++ signed_decimal n) }
+fn push_centres(text: &mut Vec<u8>, a: &CentresAnswer) -> Result<(), AllocError>
+    ensures { OnOk result (text.new.items ≡ text.old.items ++ body_bytes centres_kind.body [] (centres_body a.now)) }
 {
-    text.extend_from_slice(Buffer::new().format(n).as_bytes())
-}
-
-/// Numerator and denominator, parted by a slash.
-fn push_fraction(text: &mut Vec<u8>, a: &Frac) -> Result<(), AllocError>
-    ensures { OnOk result (text.new.items ≡ text.old.items ++ fraction_text a.now) }
-{
-    push_natural(text, a.num())?;
-    push(text, b"/")?;
-    push_natural(text, a.den())
-}
-
-/// Two whole numbers.
-fn push_pair(text: &mut Vec<u8>, a: i128, b: i128) -> Result<(), AllocError>
-    ensures { OnOk result (text.new.items ≡ text.old.items ++ pair_text a b) }
-{
-    push_whole(text, a)?;
-    push(text, b" ")?;
-    push_whole(text, b)
-}
-
-/// x and y over w.
-pub(crate) fn push_plane_ratio(text: &mut Vec<u8>, c: &Homog2) -> Result<(), AllocError>
-    ensures { OnOk result (text.new.items ≡ text.old.items ++ plane_ratio_text c.now) }
-{
-    push_pair(text, c.x(), c.y())?;
-    push(text, b" ")?;
-    push_whole(text, c.w())
-}
-
-/// x, y and z over w.
-fn push_space_ratio(text: &mut Vec<u8>, c: &Homog3) -> Result<(), AllocError>
-    ensures { OnOk result (text.new.items ≡ text.old.items ++ space_ratio_text c.now) }
-{
-    push_pair(text, c.x(), c.y())?;
-    push(text, b" ")?;
-    push_pair(text, c.z(), c.w())
+    push_counted(text, b"squares", 0, a.squares.as_slice())?;
+    push_counted(text, b"leaves", 0, a.leaves.as_slice())
 }

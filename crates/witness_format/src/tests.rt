@@ -1,5 +1,6 @@
 //! Texts with the answer or the refusal that they give.
-use crate::{Answer, ReadFault, print, read, size};
+use crate::{ReadFault, print, read};
+use answers::{Answer, size};
 use std::alloc::{AllocError, Global};
 use std::process::Abort;
 use std::test::Fail;
@@ -7,6 +8,10 @@ use std::test::Fail;
 /// Two squares for four points, and the leaves of the four corners.
 const TWO_SQUARES: &[u8] =
     b"answer 1 centres\nsize 1/1\nsquares 2\n1 1 1\n11 11 1\nleaves 4\n2 3\n0 3\n0 3\n0 2\nend\n";
+
+/// A strip around the four corners of a quadrangle, with a fan of four directions.
+const STRIP: &[u8] =
+    b"answer 1 strip\nsize 144/25\ndirection 3 4\nbounds 0 12\nfan 4\n1 0 1 0\n3 4 2 0\n0 1 2 1\n-1 0\nend\n";
 
 /// The text is read, and the answer has this text and this size.
 fn stands(rt: &impl Abort, alloc: Global, text: &[u8], numerator: u128, denominator: u128) {
@@ -68,6 +73,13 @@ fn texts_of_answers(rt: HostRuntime) {
             1,
             1,
         ),
+        // strips
+        (STRIP, 144, 25),
+        (
+            b"answer 1 strip\nsize 0/1\ndirection 0 -1\nbounds -7 -7\nfan 2\n1 0 9999 0\n-1 0\nend\n",
+            0,
+            1,
+        ),
         // centres
         (TWO_SQUARES, 1, 1),
         (
@@ -107,6 +119,25 @@ fn numbers_of_a_sphere(rt: HostRuntime) -> Result<(), Fail> {
             {
                 assert_eq!(rt; (support.point, support.weight), wanted);
             }
+            Ok(())
+        }
+        Ok(_) => panic!(rt; "of another kind"),
+        Err(fault) => panic!(rt; "refused: {fault:?}"),
+    }
+}
+
+#[test]
+fn numbers_of_a_strip(rt: HostRuntime) -> Result<(), Fail> {
+    match read(rt.alloc(), STRIP) {
+        Ok(Answer::Strip(a)) => {
+            assert!(rt; (a.direction.x, a.direction.y) == (3, 4));
+            assert!(rt; (a.bounds.lo, a.bounds.hi) == (0, 12));
+            assert_eq!(rt; a.fan.cones.len(), 3);
+            if a.fan.cones.len() == 3 {
+                let cone = a.fan.cones.at(1);
+                assert!(rt; (cone.dir.x, cone.dir.y, cone.hi, cone.lo) == (3, 4, 2, 0));
+            }
+            assert!(rt; (a.fan.last.x, a.fan.last.y) == (-1, 0));
             Ok(())
         }
         Ok(_) => panic!(rt; "of another kind"),
@@ -274,6 +305,31 @@ fn refused_texts(rt: HostRuntime) {
             b"answer 1 centres\nsize 1/1\nsquares 1\n1 1 1\nleaves 1\n0 -1\n",
             6,
         ),
+        // the fan
+        (
+            b"answer 1 strip\nsize 1/1\ndirection 0 1\nbounds 0 1\nfan 1\n",
+            5,
+        ),
+        (
+            b"answer 1 strip\nsize 1/1\ndirection 0 1\nbounds 0 1\nfan 10004\n",
+            5,
+        ),
+        (
+            b"answer 1 strip\nsize 1/1\ndirection 0 1\nbounds 0 1\nfan 2\n1 0 0\n",
+            6,
+        ),
+        (
+            b"answer 1 strip\nsize 1/1\ndirection 0 1\nbounds 0 1\nfan 2\n1 0 0 10000\n",
+            6,
+        ),
+        (
+            b"answer 1 strip\nsize 1/1\ndirection 0 1\nbounds 0 1\nfan 2\n1 0 0 1\n-1 0 0 1\n",
+            7,
+        ),
+        (
+            b"answer 1 strip\nsize 1/1\ndirection 0 1\nbounds 0 1\nfan 2\n1 0 0 1\nend\n",
+            7,
+        ),
         // the last line
         (
             b"answer 1 centres\nsize 1/1\nsquares 1\n1 1 1\nleaves 0\n",
@@ -333,6 +389,10 @@ fn refused_texts(rt: HostRuntime) {
         ),
         (
             b"answer 1 centres\nsize 1/1\nsquares 1\n1 1 1\nleaves 1\n10000 85070591730234615865843651857942052865\n",
+            6,
+        ),
+        (
+            b"answer 1 strip\nsize 1/1\ndirection 0 1\nbounds 0 1\nfan 2\n1 -85070591730234615865843651857942052865 0 10000\n",
             6,
         ),
     ] {

@@ -13,15 +13,12 @@ use Rattle.bounds_model.specs.AnswerText.Kinds.{Kind, kinds, first_format, size_
 use Rattle.bounds_model.specs.AnswerText.Reading.{ended, answer_at, kind_of, answer_of, all_lines, reading_of}
 use Rattle.bounds_model.specs.AnswerText.Spelling.{spelling}
 use Rattle.bounds_model.specs.Answers.{HasPlaces}
+use Rattle.bounds_model.specs.AnswerText.Written.{format_line, body_bytes, kind_bytes}
 use Rattle.text_laws.proofs.AnswerTexts.NumberLaws.{some_is}
 use Rattle.text_laws.proofs.AnswerTexts.ValueLaws.{Fits, none_fit}
-use Rattle.text_laws.proofs.AnswerTexts.FormLaws.{then_again, bind_ok, read_is, is_format, format_line, unread, format_lines, line_again, line_back}
-use Rattle.text_laws.proofs.AnswerTexts.BodyLaws.{body_bytes, BodyFits, AreParts, body_again, body_back}
+use Rattle.text_laws.proofs.AnswerTexts.FormLaws.{then_again, bind_ok, read_is, is_format, unread, format_lines, line_again, line_back}
+use Rattle.text_laws.proofs.AnswerTexts.BodyLaws.{BodyFits, AreParts, body_again, body_back}
 use Rattle.text_laws.proofs.AnswerTexts.LengthLaws.{line_bound, line_length, body_bound, body_length}
-
--- the text of a kind: the first line, the size, the body and the last line
-abbrev pub kind_bytes : (kind : Kind) → Fraction → Body kind.body → List ℕ
-kind_bytes kind size body = format_line (first_format kind.name) tt ++ (format_line size_format (size, tt) ++ (body_bytes kind.body [] body ++ format_line last_format tt))
 
 -- a kind with a name that is a word, and with a sound format
 pub record IsKind (kind : Kind) : Type 0 where

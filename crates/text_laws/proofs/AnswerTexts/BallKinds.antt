@@ -10,7 +10,8 @@ use Rattle.bounds_model.specs.AnswerText.LineFormats.{Values}
 use Rattle.bounds_model.specs.AnswerText.Formats.{Count, Body}
 use Rattle.bounds_model.specs.AnswerText.Kinds.{circle_kind, sphere_kind, weighted}
 use Rattle.bounds_model.specs.AnswerText.Spelling.{spelling, weighted_line}
-use Rattle.text_laws.proofs.AnswerTexts.AnswerLaws.{kind_bytes, KindLaw, Written}
+use Rattle.bounds_model.specs.AnswerText.Written.{kind_bytes}
+use Rattle.text_laws.proofs.AnswerTexts.AnswerLaws.{KindLaw, Written}
 use Rattle.text_laws.proofs.AnswerTexts.PlaceLaws.{line_places, line_fits}
 use Rattle.text_laws.proofs.AnswerTexts.ListPlaces.{all_places, all_fit, count_places, count_fits, map_back}
 use Rattle.text_laws.proofs.AnswerTexts.SpelledLaws.{first_is, size_is, last_is, plane_ratio_is, space_ratio_is, weighted_is, counted_are, made_length_all}

@@ -7,9 +7,10 @@ use Rattle.std.proofs.lemmas.List.{take_at, drop_at, take-append-drop}
 use Rattle.bounds_model.specs.AnswerText.Fields.{naturals, bounded}
 use Rattle.bounds_model.specs.AnswerText.LineFormats.{LineFormat, untitled, Values}
 use Rattle.bounds_model.specs.AnswerText.Formats.{Refusal, ◌>>=◌, Unread, line_at, lines_at, rows_at, count_format, Part, line, counted, count, rows, PartValue, counts_after, part_at, Body, body_at}
+use Rattle.bounds_model.specs.AnswerText.Written.{format_line, row_format, rows_bytes, part_bytes, body_bytes}
 use Rattle.text_laws.proofs.AnswerTexts.NumberLaws.{both_true}
 use Rattle.text_laws.proofs.AnswerTexts.ValueLaws.{Fits, first_fits}
-use Rattle.text_laws.proofs.AnswerTexts.FormLaws.{then_again, bind_ok, read_is, is_format, format_line, unread, line_again, line_back}
+use Rattle.text_laws.proofs.AnswerTexts.FormLaws.{then_again, bind_ok, read_is, is_format, unread, line_again, line_back}
 
 -- ---- lines of one format
 
@@ -50,15 +51,6 @@ lines_back format (suc amount) from vs to e =
     more v others = Ok (v ∷ others.0, others.1)
 
 -- ---- rows of numbers
-
--- the format of a row
-abbrev pub row_format : ℕ → LineFormat
-row_format width = untitled (naturals width ∷ [])
-
--- the bytes of rows of these widths
-abbrev pub rows_bytes : List ℕ → List ℤ → List ℕ
-rows_bytes [] zs = []
-rows_bytes (width ∷ widths) zs = format_line (row_format width) (take width zs, tt) ++ rows_bytes widths (drop width zs)
 
 -- the rows have these widths, and their numbers fit
 abbrev pub RowsFit : List ℕ → List ℤ → Type 0
@@ -111,13 +103,6 @@ rows_back (width ∷ widths) from zs to e =
         )
 
 -- ---- parts
-
--- the bytes of a part
-abbrev pub part_bytes : (part : Part) → List ℕ → PartValue part → List ℕ
-part_bytes (line format) counts values = format_line format values
-part_bytes (counted c less fields) counts vs = format_line (count_format c) (length vs + less, tt) ++ flat_map (format_line (untitled fields)) vs
-part_bytes (count c) counts n = format_line (count_format c) (n, tt)
-part_bytes (rows widths) counts zs = rows_bytes (widths counts) zs
 
 -- the numbers of a part are within the limit and in the ranges of their places
 abbrev pub PartFits : (part : Part) → List ℕ → PartValue part → Type 0
@@ -181,11 +166,6 @@ part_back (count c) counts from k to sound e =
 part_back (rows widths) counts from zs to sound e = rows_back (widths counts) from zs to e
 
 -- ---- bodies
-
--- the bytes of parts, one after the other
-abbrev pub body_bytes : (parts : List Part) → List ℕ → Body parts → List ℕ
-body_bytes [] counts body = []
-body_bytes (part ∷ parts) counts body = part_bytes part counts body.0 ++ body_bytes parts (counts_after part body.0 counts) body.1
 
 -- each part fits
 abbrev pub BodyFits : (parts : List Part) → List ℕ → Body parts → Type 0

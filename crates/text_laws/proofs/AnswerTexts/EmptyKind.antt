@@ -10,8 +10,8 @@ use Rattle.bounds_model.specs.AnswerText.LineFormats.{titled}
 use Rattle.bounds_model.specs.AnswerText.Formats.{Body}
 use Rattle.bounds_model.specs.AnswerText.Kinds.{empty_kind, side_fields}
 use Rattle.bounds_model.specs.AnswerText.Spelling.{spelling, blocker_line}
-use Rattle.text_laws.proofs.AnswerTexts.FormLaws.{format_line}
-use Rattle.text_laws.proofs.AnswerTexts.AnswerLaws.{kind_bytes, KindLaw, Written}
+use Rattle.bounds_model.specs.AnswerText.Written.{format_line, kind_bytes}
+use Rattle.text_laws.proofs.AnswerTexts.AnswerLaws.{KindLaw, Written}
 use Rattle.text_laws.proofs.AnswerTexts.PlaceLaws.{line_places, line_fits}
 use Rattle.text_laws.proofs.AnswerTexts.SpelledLaws.{first_is, size_is, last_is, four_is}
 

@@ -15,8 +15,8 @@ use Rattle.bounds_model.specs.AnswerText.LineFormats.{untitled, Values}
 use Rattle.bounds_model.specs.AnswerText.Formats.{Count, Body}
 use Rattle.bounds_model.specs.AnswerText.Kinds.{rectangle_kind, strip_kind, quarter_fields, quarter_cone, half_fields, half_cone}
 use Rattle.bounds_model.specs.AnswerText.Spelling.{spelling, quarter_line, half_line}
-use Rattle.text_laws.proofs.AnswerTexts.FormLaws.{format_line}
-use Rattle.text_laws.proofs.AnswerTexts.AnswerLaws.{kind_bytes, KindLaw, Written}
+use Rattle.bounds_model.specs.AnswerText.Written.{format_line, kind_bytes}
+use Rattle.text_laws.proofs.AnswerTexts.AnswerLaws.{KindLaw, Written}
 use Rattle.text_laws.proofs.AnswerTexts.PlaceLaws.{line_places, line_fits}
 use Rattle.text_laws.proofs.AnswerTexts.ListPlaces.{all_places, all_fit, count_places, count_fits, map_back}
 use Rattle.text_laws.proofs.AnswerTexts.SpelledLaws.{first_is, size_is, last_is, pair_is, direction_is, counted_are, made_length}
@@ -215,3 +215,8 @@ strip_written a places =
         ),
       );
     }
+
+-- its kind
+pub kind-strip_written : (a : StripAnswer) (places : StripPlaces a) → (strip_written a places).kind ≡ strip_kind
+unfolding strip_written
+kind-strip_written a places = refl

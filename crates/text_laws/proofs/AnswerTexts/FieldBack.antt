@@ -13,9 +13,10 @@ use Rattle.bounds_model.specs.AnswerText.Numerals.{◌>>=◌, natural_number, wh
 use Rattle.bounds_model.specs.AnswerText.Fields.{Field, number, natural, naturals, bounded, fraction, plane_ratio, space_ratio, blocker, Value, naturals_of, blocker_of, value_of, is_small}
 use Rattle.bounds_model.specs.AnswerText.SpelledParts.{fraction_text}
 use Rattle.bounds_model.specs.AnswerText.Spelling.{blocker_text}
+use Rattle.bounds_model.specs.AnswerText.Written.{field_words}
 use Rattle.text_laws.proofs.AnswerTexts.NumberLaws.{bind_some, some_is, natural_back}
 use Rattle.text_laws.proofs.AnswerTexts.WholeLaws.{whole_back, fraction_back}
-use Rattle.text_laws.proofs.AnswerTexts.FieldLaws.{field_words, within, first_within, rest_within, two_within, three_within, four_within}
+use Rattle.text_laws.proofs.AnswerTexts.FieldLaws.{within, first_within, rest_within, two_within, three_within, four_within}
 
 -- what is kept of a word that was read, and the words behind it
 abbrev kept : {A B : Type 0} → (A → B) → List (List ℕ) → A → Option (B × List (List ℕ))

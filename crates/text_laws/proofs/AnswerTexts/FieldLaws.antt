@@ -13,20 +13,10 @@ use Rattle.bounds_model.specs.AnswerText.Numerals.{◌>>=◌, is_numeral, natura
 use Rattle.bounds_model.specs.AnswerText.Fields.{Field, number, natural, naturals, bounded, fraction, plane_ratio, space_ratio, blocker, Value, naturals_of, blocker_of, value_of, is_small, is_in_place}
 use Rattle.bounds_model.specs.AnswerText.SpelledParts.{fraction_text}
 use Rattle.bounds_model.specs.AnswerText.Spelling.{blocker_text}
+use Rattle.bounds_model.specs.AnswerText.Written.{field_words}
 use Rattle.text_laws.proofs.AnswerTexts.NumberLaws.{step_again, both_true, is_word, numeral_begins, is_numeral-decimal, natural_again, is_word-decimal}
 use Rattle.text_laws.proofs.AnswerTexts.WholeLaws.{whole_again, is_word-signed, fraction_again, is_word-fraction}
 use Rattle.text_laws.proofs.AnswerTexts.LineLaws.{are_words}
-
--- the words of a field
-abbrev pub field_words : (field : Field) → Value field → List (List ℕ)
-field_words number z = signed_decimal z ∷ []
-field_words natural z = signed_decimal z ∷ []
-field_words (naturals count) zs = map signed_decimal zs
-field_words (bounded low high) n = decimal n ∷ []
-field_words fraction a = fraction_text a ∷ []
-field_words plane_ratio c = signed_decimal c.x ∷ signed_decimal c.y ∷ signed_decimal c.w ∷ []
-field_words space_ratio c = signed_decimal c.x ∷ signed_decimal c.y ∷ signed_decimal c.z ∷ signed_decimal c.w ∷ []
-field_words blocker b = blocker_text b ∷ []
 
 -- ---- numbers within the limit
 

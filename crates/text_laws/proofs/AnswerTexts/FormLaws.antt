@@ -11,10 +11,10 @@ use Rattle.bounds_model.specs.AnswerText.Lines.{lines_of, words_of}
 use Rattle.bounds_model.specs.AnswerText.Fields.{Field, number, natural, naturals, bounded, fraction, plane_ratio, space_ratio, blocker, Value, is_in_place}
 use Rattle.bounds_model.specs.AnswerText.LineFormats.{LineFormat, Values, after_words, values_of, form_of, are_small, are_in_place}
 use Rattle.bounds_model.specs.AnswerText.Formats.{Refusal, bad_answer, big_number, ◌>>=◌, judged, Unread, next_line, line_at}
+use Rattle.bounds_model.specs.AnswerText.Written.{field_words, values_words, line_bytes, line_words, format_line}
 use Rattle.text_laws.proofs.AnswerTexts.NumberLaws.{bind_some, some_is, step_again, both_true, is_word}
-use Rattle.text_laws.proofs.AnswerTexts.LineLaws.{line_bytes, are_words, lines_again, words_again, words_back}
-use Rattle.text_laws.proofs.AnswerTexts.FieldLaws.{field_words}
-use Rattle.text_laws.proofs.AnswerTexts.ValueLaws.{values_words, Fits, first_fits, values_are_words, values_again, values_back}
+use Rattle.text_laws.proofs.AnswerTexts.LineLaws.{are_words, lines_again, words_again, words_back}
+use Rattle.text_laws.proofs.AnswerTexts.ValueLaws.{Fits, first_fits, values_are_words, values_again, values_back}
 
 -- ---- tools
 
@@ -58,14 +58,6 @@ after_words_back (first ∷ expected) (word ∷ words) rest e =
     after_words_cases (bytes_eq first word) first word words expected rest refl (λ f. after_words_back expected words rest f) e
 
 -- ---- the form of a line
-
--- the words of a line
-abbrev pub line_words : (format : LineFormat) → Values format.fields → List (List ℕ)
-line_words format values = format.words ++ values_words format.fields values
-
--- the bytes of a line
-abbrev pub format_line : (format : LineFormat) → Values format.fields → List ℕ
-format_line format values = line_bytes (line_words format values)
 
 -- a field takes a word at least
 abbrev takes_word : Field → Bool

@@ -18,10 +18,9 @@ use Rattle.bounds_model.specs.AnswerText.Formats.{Count, Body}
 use Rattle.bounds_model.specs.AnswerText.Kinds.{kgon_kind, triangle}
 use Rattle.bounds_model.specs.AnswerText.SpelledParts.{index_line}
 use Rattle.bounds_model.specs.AnswerText.Spelling.{spelling, blank_numbers, potentials_line, layer_lines, potential_lines}
-use Rattle.text_laws.proofs.AnswerTexts.LineLaws.{line_bytes}
-use Rattle.text_laws.proofs.AnswerTexts.FormLaws.{format_line}
-use Rattle.text_laws.proofs.AnswerTexts.BodyLaws.{row_format, rows_bytes, RowsFit}
-use Rattle.text_laws.proofs.AnswerTexts.AnswerLaws.{kind_bytes, KindLaw, Written}
+use Rattle.bounds_model.specs.AnswerText.Written.{line_bytes, format_line, row_format, rows_bytes, kind_bytes}
+use Rattle.text_laws.proofs.AnswerTexts.BodyLaws.{RowsFit}
+use Rattle.text_laws.proofs.AnswerTexts.AnswerLaws.{KindLaw, Written}
 use Rattle.text_laws.proofs.AnswerTexts.PlaceLaws.{line_places, line_fits}
 use Rattle.text_laws.proofs.AnswerTexts.ListPlaces.{all_places, all_fit, count_places, count_fits, map_back}
 use Rattle.text_laws.proofs.AnswerTexts.SpelledLaws.{first_is, size_is, last_is, count_is, index_is, counted_are, made_length_all}

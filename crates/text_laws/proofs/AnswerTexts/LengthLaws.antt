@@ -13,12 +13,11 @@ use Rattle.bounds_model.specs.AnswerText.Fields.{Field, number, natural, natural
 use Rattle.bounds_model.specs.AnswerText.LineFormats.{LineFormat, untitled, Values}
 use Rattle.bounds_model.specs.AnswerText.Formats.{count_format, Part, line, counted, count, rows, PartValue, counts_after, Body}
 use Rattle.bounds_model.specs.AnswerText.Spelling.{blocker_text}
+use Rattle.bounds_model.specs.AnswerText.Written.{field_words, values_words, line_bytes, line_words, format_line, row_format, rows_bytes, part_bytes, body_bytes}
 use Rattle.text_laws.proofs.AnswerTexts.NumberLaws.{both_true}
-use Rattle.text_laws.proofs.AnswerTexts.LineLaws.{line_bytes}
-use Rattle.text_laws.proofs.AnswerTexts.FieldLaws.{field_words, within}
-use Rattle.text_laws.proofs.AnswerTexts.ValueLaws.{Fits, first_fits, rest_fits, values_words}
-use Rattle.text_laws.proofs.AnswerTexts.FormLaws.{line_words, format_line}
-use Rattle.text_laws.proofs.AnswerTexts.BodyLaws.{AllFit, row_format, rows_bytes, RowsFit, part_bytes, PartFits, body_bytes, BodyFits}
+use Rattle.text_laws.proofs.AnswerTexts.FieldLaws.{within}
+use Rattle.text_laws.proofs.AnswerTexts.ValueLaws.{Fits, first_fits, rest_fits}
+use Rattle.text_laws.proofs.AnswerTexts.BodyLaws.{AllFit, RowsFit, PartFits, BodyFits}
 use Rattle.text_laws.proofs.AnswerTexts.PlaceLaws.{line_places}
 
 -- the bytes of words, each with a byte behind it

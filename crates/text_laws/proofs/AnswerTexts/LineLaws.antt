@@ -6,13 +6,8 @@ use Rattle.std.proofs.lemmas.List.{append-nil}
 use Rattle.std.proofs.lemmas.Bool.{eqb-true}
 use Rattle.std.proofs.lemmas.Bool.Decides.{nat_tests}
 use Rattle.bounds_model.specs.AnswerText.Lines.{with_byte, lines_of, word_byte, words_of}
+use Rattle.bounds_model.specs.AnswerText.Written.{line_bytes}
 use Rattle.text_laws.proofs.AnswerTexts.NumberLaws.{some_is, both_true, not_true, is_word}
-
--- the words of a line, parted by blanks and ended by a line feed
-abbrev pub line_bytes : List (List ℕ) → List ℕ
-line_bytes [] = 10 ∷ []
-line_bytes (word ∷ []) = word ++ 10 ∷ []
-line_bytes (word ∷ next ∷ words) = word ++ 32 ∷ line_bytes (next ∷ words)
 
 -- each of them is a word
 abbrev pub are_words : List (List ℕ) → Bool

@@ -15,8 +15,8 @@ use Rattle.bounds_model.specs.AnswerText.Formats.{Count, Body}
 use Rattle.bounds_model.specs.AnswerText.Kinds.{annulus_kind, distance_kind, centres_kind, weighted_pair, leaf}
 use Rattle.bounds_model.specs.AnswerText.SpelledCentres.{square_line, leaf_line}
 use Rattle.bounds_model.specs.AnswerText.Spelling.{spelling, space_direction_line, weighted_pair_line}
-use Rattle.text_laws.proofs.AnswerTexts.FormLaws.{format_line}
-use Rattle.text_laws.proofs.AnswerTexts.AnswerLaws.{kind_bytes, KindLaw, Written}
+use Rattle.bounds_model.specs.AnswerText.Written.{format_line, kind_bytes}
+use Rattle.text_laws.proofs.AnswerTexts.AnswerLaws.{KindLaw, Written}
 use Rattle.text_laws.proofs.AnswerTexts.PlaceLaws.{line_places, line_fits}
 use Rattle.text_laws.proofs.AnswerTexts.ListPlaces.{all_places, all_fit, count_places, count_fits, map_back}
 use Rattle.text_laws.proofs.AnswerTexts.SpelledLaws.{first_is, size_is, last_is, fraction_is, plane_ratio_is, space_ratio_is, weighted_pair_is, counted_are, made_length_all}

@@ -16,9 +16,9 @@ use Rattle.bounds_model.specs.AnswerText.Formats.{count_format, Body}
 use Rattle.bounds_model.specs.AnswerText.Kinds.{parallelogram_kind, side_fields, chord_fields, chord, chorded_fields, chorded_cone, cone_chord, last_fields, last_vector, last_chord}
 use Rattle.bounds_model.specs.AnswerText.SpelledParts.{count_line}
 use Rattle.bounds_model.specs.AnswerText.Spelling.{spelling, chorded_line, last_chord_line, chorded_lines}
-use Rattle.text_laws.proofs.AnswerTexts.FormLaws.{format_line}
+use Rattle.bounds_model.specs.AnswerText.Written.{format_line, kind_bytes}
 use Rattle.text_laws.proofs.AnswerTexts.BodyLaws.{AllFit}
-use Rattle.text_laws.proofs.AnswerTexts.AnswerLaws.{kind_bytes, KindLaw, Written}
+use Rattle.text_laws.proofs.AnswerTexts.AnswerLaws.{KindLaw, Written}
 use Rattle.text_laws.proofs.AnswerTexts.PlaceLaws.{FieldPlaces, line_places, line_fits}
 use Rattle.text_laws.proofs.AnswerTexts.ListPlaces.{all_places, count_places}
 use Rattle.text_laws.proofs.AnswerTexts.SpelledLaws.{first_is, size_is, last_is, four_is, count_is, made_length}

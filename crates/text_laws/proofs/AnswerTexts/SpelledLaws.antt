@@ -11,7 +11,7 @@ use Rattle.bounds_model.specs.AnswerText.Formats.{Count, count_format}
 use Rattle.bounds_model.specs.AnswerText.Kinds.{first_format, size_format, last_format, weighted, weighted_pair}
 use Rattle.bounds_model.specs.AnswerText.SpelledParts.{first_line, size_line, count_line, pair_line, four_line, fraction_line, plane_ratio_line, direction_line, index_line, last_line}
 use Rattle.bounds_model.specs.AnswerText.Spelling.{space_ratio_line, weighted_line, weighted_pair_line}
-use Rattle.text_laws.proofs.AnswerTexts.FormLaws.{format_line}
+use Rattle.bounds_model.specs.AnswerText.Written.{format_line}
 
 -- the first line
 pub first_is : (name : List ℕ) → first_line name ≡ format_line (first_format name) tt

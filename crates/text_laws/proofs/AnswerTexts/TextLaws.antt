@@ -12,9 +12,10 @@ use Rattle.bounds_model.specs.AnswerText.Spelling.{spelling}
 use Rattle.text_laws.specs.Laws.{ReadsWhatIsSpelled, SpellsOne, BeginsNoOther, IsSpelledShort}
 use Rattle.bounds_model.specs.Answers.{HasPlaces}
 use Rattle.bounds_model.specs.AnswerText.Spelling.{Spells}
+use Rattle.bounds_model.specs.AnswerText.Written.{kind_bytes}
 use Rattle.text_laws.proofs.AnswerTexts.LineLaws.{concat-lines_of}
 use Rattle.text_laws.proofs.AnswerTexts.FormLaws.{read_is}
-use Rattle.text_laws.proofs.AnswerTexts.AnswerLaws.{kind_bytes, text_length, Found, answer_back, ended_back, KindLaw, Written, written_again, found_kind}
+use Rattle.text_laws.proofs.AnswerTexts.AnswerLaws.{text_length, Found, answer_back, ended_back, KindLaw, Written, written_again, found_kind}
 use Rattle.text_laws.proofs.AnswerTexts.BallKinds.{circle_law, circle_written, sphere_law, sphere_written}
 use Rattle.text_laws.proofs.AnswerTexts.PairKinds.{annulus_law, annulus_written, distance_law, distance_written, centres_law, centres_written}
 use Rattle.text_laws.proofs.AnswerTexts.FanKinds.{rectangle_law, rectangle_written, strip_law, strip_written}

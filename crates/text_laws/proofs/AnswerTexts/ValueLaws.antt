@@ -5,15 +5,11 @@ use Rattle.std.proofs.lemmas.List.Folds.{list_all-append}
 use Rattle.bounds_model.specs.AnswerText.Numerals as steps
 use Rattle.bounds_model.specs.AnswerText.Fields.{Field, Value, value_of, is_small, is_in_place}
 use Rattle.bounds_model.specs.AnswerText.LineFormats.{Values, values_of, are_small, are_in_place}
+use Rattle.bounds_model.specs.AnswerText.Written.{field_words, values_words}
 use Rattle.text_laws.proofs.AnswerTexts.NumberLaws.{bind_some, some_is, step_again, both_true, is_word}
 use Rattle.text_laws.proofs.AnswerTexts.LineLaws.{are_words}
-use Rattle.text_laws.proofs.AnswerTexts.FieldLaws.{field_words, field_words_are_words, value_again}
+use Rattle.text_laws.proofs.AnswerTexts.FieldLaws.{field_words_are_words, value_again}
 use Rattle.text_laws.proofs.AnswerTexts.FieldBack.{value_back}
-
--- the words of the fields
-abbrev pub values_words : (fields : List Field) → Values fields → List (List ℕ)
-values_words [] values = []
-values_words (field ∷ fields) values = field_words field values.0 ++ values_words fields values.1
 
 -- the numbers of a line are within the limit and in the ranges of their places
 pub record Fits (fields : List Field) (values : Values fields) : Type 0 where

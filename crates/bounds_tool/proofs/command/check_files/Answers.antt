@@ -2,7 +2,7 @@ use Rattle.std.proofs.Common.{◌≡◌, ◌↔◌, subst, IsTrue, Option, Ok, I
 use Rattle.bounds_model.specs.Answers.{Passes, IsBest}
 use Rattle.bounded_coords.specs.Asked.{asked}
 use Rattle.bnd_io.specs.Files.{Folder, bytes_of}
-use Rattle.witness_format.specs.Answers.{answer_of}
+use Rattle.answers.specs.Answers.{answer_of}
 use Rattle.bounds_tool.specs.Judging.{answer_in}
 use Rattle.bounds_tool.proofs.Works.{checked}
 use Rattle.bounds_tool.proofs.command.check_files.Goals as goal

@@ -1,7 +1,7 @@
 use Rattle.std.proofs.Common.{subst}
 use Rattle.bounds_model.specs.Answers.{Passes, IsBest}
 use Rattle.bounded_coords.specs.Asked.{asked}
-use Rattle.witness_format.specs.Answers.{answer_of}
+use Rattle.answers.specs.Answers.{answer_of}
 use Rattle.bounds_tool.proofs.PassingPlaces.{HasPlaces-passes}
 use Rattle.bounds_tool.proofs.Works.{solved}
 use Rattle.bounds_tool.proofs.command.solve_file.Goals as goal

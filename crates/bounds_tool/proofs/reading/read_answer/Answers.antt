@@ -1,8 +1,8 @@
 use Rattle.std.proofs.Common.{◌≡◌, ◌∙◌, sym, ap, subst, Err}
 use Rattle.bounds_model.specs.AnswerText.Formats.{bad_answer, big_number}
-use Rattle.bounds_model.specs.AnswerText.Reading.{reading_of}
-use Rattle.witness_format.specs.Kinds.{known_kinds}
-use Rattle.witness_format.specs.Outcomes.{Refuses}
+use Rattle.bounds_model.specs.AnswerText.Reading.{reading_of, all_lines}
+use Rattle.witness_format.specs.Kinds.{known_kinds, TextMayWant}
+use Rattle.witness_format.specs.Outcomes.{RefusesOr}
 use Rattle.bounds_tool.proofs.AnswerFiles.{answer_in-told}
 use Rattle.bounds_tool.proofs.reading.read_answer.Goals as goal
 
@@ -10,12 +10,12 @@ pub returns-in-Err-BadAnswer-clause-cause : goal.returns-in-Err-BadAnswer-clause
 returns-in-Err-BadAnswer-clause-cause g c =
     let bytes = c.in_ok-bytes.bytes in
     let judged = Err (bad_answer c.in-Err-BadAnswer.line) in
-    let reads : reading_of known_kinds bytes ≡ judged = ap (reading_of known_kinds) (sym c.as_slice.ensures) ∙ subst (λ fault. Refuses fault (reading_of known_kinds c.as_slice.result.now)) c.in-Err-BadAnswer.field-0-is c.in-Err-BadAnswer.ensures.reading in
+    let reads : reading_of known_kinds bytes ≡ judged = ap (reading_of known_kinds) (sym c.as_slice.ensures) ∙ subst (λ fault. RefusesOr (TextMayWant known_kinds (all_lines c.as_slice.result.now)) fault (reading_of known_kinds c.as_slice.result.now)) c.in-Err-BadAnswer.field-0-is c.in-Err-BadAnswer.ensures.reading in
     (tt, answer_in-told (g.F.Files.state c.args.files.now).told c.args.name.now bytes judged c.in_ok-bytes.ensures.bytes c.in_ok-bytes.ensures.within reads)
 
 pub returns-in-Err-BigNumber-clause-cause : goal.returns-in-Err-BigNumber-clause-cause
 returns-in-Err-BigNumber-clause-cause g c =
     let bytes = c.in_ok-bytes.bytes in
     let judged = Err (big_number c.in-Err-BigNumber.line) in
-    let reads : reading_of known_kinds bytes ≡ judged = ap (reading_of known_kinds) (sym c.as_slice.ensures) ∙ subst (λ fault. Refuses fault (reading_of known_kinds c.as_slice.result.now)) c.in-Err-BigNumber.field-0-is c.in-Err-BigNumber.ensures.reading in
+    let reads : reading_of known_kinds bytes ≡ judged = ap (reading_of known_kinds) (sym c.as_slice.ensures) ∙ subst (λ fault. RefusesOr (TextMayWant known_kinds (all_lines c.as_slice.result.now)) fault (reading_of known_kinds c.as_slice.result.now)) c.in-Err-BigNumber.field-0-is c.in-Err-BigNumber.ensures.reading in
     (tt, answer_in-told (g.F.Files.state c.args.files.now).told c.args.name.now bytes judged c.in_ok-bytes.ensures.bytes c.in_ok-bytes.ensures.within reads)

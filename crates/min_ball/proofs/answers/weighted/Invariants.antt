@@ -1,5 +1,5 @@
 use Rattle.std.proofs.Common.{◌≡◌, take, map}
-use Rattle.witness_format.specs.Answers.{weighted_of}
+use Rattle.answers.specs.Answers.{weighted_of}
 use Rattle.min_ball.specs.Balls.{listed}
 use Rattle.min_ball.proofs.answers.weighted.Given as goal
 

@@ -1,7 +1,7 @@
 use Rattle.std.proofs.Common.{sym, subst}
 use Rattle.bounds_model.specs.CentresAnswer.{PassesCentres}
 use Rattle.bounded_coords.specs.Clouds.{counted_points}
-use Rattle.witness_format.specs.Answers.{centres_of}
+use Rattle.answers.specs.Answers.{centres_of}
 use Rattle.p_centres.proofs.OneSquare.{square_passes}
 use Rattle.p_centres.proofs.squares.centres.Goals as goal
 

@@ -1,7 +1,7 @@
 use Rattle.std.specs.Prelude.{map, take, All}
 use Rattle.bounds_model.specs.BallAnswer.{IsOnBall}
 use Rattle.bounded_coords.specs.Clouds.{points_of}
-use Rattle.witness_format.specs.Answers.{weighted_of}
+use Rattle.answers.specs.Answers.{weighted_of}
 use Rattle.witness_check.proofs.balls.are_on_ball.Given as goal
 
 abbrev pub invariant-loop-s : goal.invariant-loop-s

@@ -5,8 +5,8 @@ use Rattle.bounds_model.specs.BallAnswer.{CircleAnswer, PassesCircle}
 use Rattle.bounds_model.specs.Asks.{ask_circle, plane}
 use Rattle.bounds_model.specs.Answers.{circle}
 use Rattle.bounded_coords.specs.Clouds.{points_of}
-use Rattle.witness_format.specs.Answers.{weighted_of, circle_of}
-use Rattle.witness_format.specs.declared.answer.Weighted.{Weighted}
+use Rattle.answers.specs.Answers.{weighted_of, circle_of}
+use Rattle.answers.specs.declared.balls.Weighted.{Weighted}
 use Rattle.witness_check.proofs.Supports.{some_supports, names_point, first_placed}
 use Rattle.witness_check.proofs.BallPassing.{circle_decided, circle_holds}
 use Rattle.witness_check.proofs.balls.check_circle.Goals as goal

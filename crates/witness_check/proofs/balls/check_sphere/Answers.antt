@@ -5,8 +5,8 @@ use Rattle.bounds_model.specs.BallAnswer.{SphereAnswer, PassesSphere, first_supp
 use Rattle.bounds_model.specs.Asks.{ask_sphere, space}
 use Rattle.bounds_model.specs.Answers.{sphere}
 use Rattle.bounded_coords.specs.Clouds.{points_of}
-use Rattle.witness_format.specs.Answers.{weighted_of, sphere_of}
-use Rattle.witness_format.specs.declared.answer.Weighted.{Weighted}
+use Rattle.answers.specs.Answers.{weighted_of, sphere_of}
+use Rattle.answers.specs.declared.balls.Weighted.{Weighted}
 use Rattle.witness_check.specs.HeldBalls.{HoldsBall, IsHeld}
 use Rattle.witness_check.proofs.Supports.{some_supports, names_point, first_placed}
 use Rattle.witness_check.proofs.BallPassing.{sphere_decided, sphere_holds, map_same}

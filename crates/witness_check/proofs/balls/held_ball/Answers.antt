@@ -2,7 +2,7 @@ use Rattle.std.proofs.Common.{sym, subst, map, le_trans}
 use Rattle.std.proofs.lemmas.List.{length-map}
 use Rattle.bounds_model.specs.Fractions.{SameValue}
 use Rattle.bounded_coords.specs.Clouds.{points_of}
-use Rattle.witness_format.specs.Answers.{weighted_of}
+use Rattle.answers.specs.Answers.{weighted_of}
 use Rattle.ball_sums.proofs.SumSizes.{weight_most, moment_most}
 use Rattle.ball_sums.proofs.Means.{mean_size_is}
 use Rattle.witness_check.specs.HeldBalls.{HasBallLimits}

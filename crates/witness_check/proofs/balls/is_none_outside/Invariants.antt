@@ -1,7 +1,7 @@
 use Rattle.std.specs.Prelude.{map, take, All}
 use Rattle.bounds_model.specs.BallAnswer.{IsNotOutside}
 use Rattle.bounded_coords.specs.Clouds.{points_of}
-use Rattle.witness_format.specs.Answers.{weighted_of}
+use Rattle.answers.specs.Answers.{weighted_of}
 use Rattle.witness_check.proofs.balls.is_none_outside.Given as goal
 
 abbrev pub invariant-loop-i : goal.invariant-loop-i

@@ -2,7 +2,7 @@ use Rattle.std.proofs.Common.{◌≡◌, sym, ◌∙◌, ap, ap₂, ℕ, ◌≤�
 use Rattle.std.proofs.lemmas.Int.{ints}
 use Rattle.std.proofs.lemmas.Bool.{eqb-true, eq-eqb}
 use Rattle.bounds_model.specs.Fractions.{Fraction}
-use Rattle.witness_check.proofs.LowestPlaces.{has_value}
+use Rattle.exact_fractions.proofs.UniqueForms.{has_value}
 use Rattle.witness_check.proofs.balls.is_size.Goals as goal
 
 positive : {t : ℕ} → 1 ≤ t → pos 0 <ℤ pos (2 * t)

@@ -1,6 +1,6 @@
 use Rattle.ball_sums.specs.Means.{space_mean}
 use Rattle.ball_sums.proofs.MachineMeans.{denominator_positive}
-use Rattle.witness_check.proofs.LowestPlaces.{has_space_place, space_ratio_same}
+use Rattle.exact_fractions.proofs.UniqueForms.{has_space_place, space_ratio_same}
 use Rattle.witness_check.proofs.balls.is_space_centre.Goals as goal
 
 pub returns : goal.returns

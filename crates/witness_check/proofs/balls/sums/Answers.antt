@@ -6,8 +6,8 @@ use Rattle.std.proofs.lemmas.List.Elements.{All-map, All-push}
 use Rattle.bounds_model.specs.Space.{vector}
 use Rattle.bounds_model.specs.BallAnswer.{first_support}
 use Rattle.bounded_coords.specs.Clouds.{points_of}
-use Rattle.witness_format.specs.Answers.{weighted_of}
-use Rattle.witness_format.specs.declared.answer.Weighted.{Weighted}
+use Rattle.answers.specs.Answers.{weighted_of}
+use Rattle.answers.specs.declared.balls.Weighted.{Weighted}
 use Rattle.ball_sums.specs.Sums.{AreSumsFrom}
 use Rattle.ball_sums.proofs.Weights.{some_weight}
 use Rattle.ball_sums.proofs.SupportSums.{sums_of_more}

@@ -1,7 +1,7 @@
 use Rattle.std.specs.Prelude.{map, take, All, pos, ◌≤ℤ◌}
 use Rattle.bounds_model.specs.BallAnswer.{first_support}
 use Rattle.bounded_coords.specs.Clouds.{points_of}
-use Rattle.witness_format.specs.Answers.{weighted_of}
+use Rattle.answers.specs.Answers.{weighted_of}
 use Rattle.ball_sums.specs.Sums.{IsInRange, AreSumsFrom}
 use Rattle.witness_check.proofs.balls.sums.Given as goal
 

@@ -1,6 +1,6 @@
 use Rattle.std.proofs.Common.{length, arith}
 use Rattle.bounded_coords.specs.Clouds.{points_of}
-use Rattle.witness_format.specs.Answers.{leaf_of}
+use Rattle.answers.specs.Answers.{leaf_of}
 use Rattle.witness_check.specs.CentresLimits.{NamesPoints}
 use Rattle.witness_check.proofs.Leaves.{one_leaf}
 use Rattle.witness_check.proofs.Passing.{All-unmap}

@@ -6,7 +6,7 @@ use Rattle.bounds_model.specs.Answers.{centres}
 use Rattle.bounds_model.specs.Centres.{IsNear}
 use Rattle.bounds_model.specs.CentresAnswer.{CentresAnswer, Leaf, PassesCentres, AreLeaves, side}
 use Rattle.bounded_coords.specs.Clouds.{points_of}
-use Rattle.witness_format.specs.Answers.{leaf_of, centres_of}
+use Rattle.answers.specs.Answers.{leaf_of, centres_of}
 use Rattle.witness_check.specs.CentresLimits.{IsWithinLimits}
 use Rattle.witness_check.proofs.Passing.{clash}
 use Rattle.witness_check.proofs.CentresPassing.{passes_within_limits}

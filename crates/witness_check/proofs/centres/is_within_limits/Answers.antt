@@ -3,8 +3,8 @@ use Rattle.std.proofs.lemmas.Bool.{eqb-true}
 use Rattle.std.proofs.lemmas.List.Elements.{All-map}
 use Rattle.bounds_model.specs.Plane.{PlanePoint}
 use Rattle.bounded_coords.specs.Clouds.{points_of}
-use Rattle.witness_format.specs.Answers.{leaf_of}
-use Rattle.witness_format.specs.declared.answer.Leaf.{Leaf}
+use Rattle.answers.specs.Answers.{leaf_of}
+use Rattle.answers.specs.declared.centres.Leaf.{Leaf}
 use Rattle.witness_check.specs.CentresLimits.{NamesPoints}
 use Rattle.witness_check.proofs.Passing.{All-unmap, clash}
 use Rattle.witness_check.proofs.centres.is_within_limits.Goals as goal

@@ -7,10 +7,10 @@ use Rattle.witness_format.proofs.line_reading.read_lines.Goals as goal
 
 pub loop-preserved : goal.loop-preserved
 loop-preserved g c =
-    let fields = g.T.LineValue.fields in
+    let fields = g.T.Fields.FieldList.fields in
     record {
       so_far = rw c.push.ensures.items
-          (one_more fields g.T.LineValue.values c.loop.values.items c.args.count c.loop.counter (lines_left c.loop.text) c.in_ok-value.value (lines_left c.read_line.new.text) (lines_at c.args.count (untitled fields) (lines_left c.args.text.now))
+          (one_more fields (λ v. g.T.Fields.FieldList.values (g.T.Line.parts v)) c.loop.values.items c.args.count c.loop.counter (lines_left c.loop.text) c.in_ok-value.value (lines_left c.read_line.new.text) (lines_at c.args.count (untitled fields) (lines_left c.args.text.now))
           c.loop-test.true c.in_ok-value.ensures c.loop.invariant.so_far);
       amount = omega (arith, c.push.ensures.len);
     }

@@ -7,6 +7,6 @@ use Rattle.witness_format.proofs.line_reading.read_lines.Given as goal
 
 abbrev pub invariant-loop : goal.invariant-loop
 invariant-loop g l = record {
-  so_far : with_front (map g.T.LineValue.values l.values.items) (lines_at (l.count - l.counter) (untitled g.T.LineValue.fields) (lines_left l.text)) ≡ lines_at l.count (untitled g.T.LineValue.fields) (lines_left l.fn.text);
+  so_far : with_front (map (λ v. g.T.Fields.FieldList.values (g.T.Line.parts v)) l.values.items) (lines_at (l.count - l.counter) (untitled g.T.Fields.FieldList.fields) (lines_left l.text)) ≡ lines_at l.count (untitled g.T.Fields.FieldList.fields) (lines_left l.fn.text);
   amount : length l.values.items ≡ l.counter;
 }

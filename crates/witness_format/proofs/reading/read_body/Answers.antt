@@ -8,3 +8,6 @@ returns-in-Sphere c = rw c.in-Sphere.is c.read_sphere.ensures
 
 pub returns-in-Centres : goal.returns-in-Centres
 returns-in-Centres c = rw c.in-Centres.is c.read_centres.ensures
+
+pub returns-in-Strip : goal.returns-in-Strip
+returns-in-Strip c = rw c.in-Strip.is c.read_strip.ensures

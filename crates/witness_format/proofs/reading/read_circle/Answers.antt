@@ -1,23 +1,20 @@
-use Rattle.std.proofs.Common.{ap, refl, pos, [], ◌∷◌, codes, List}
-use Rattle.bounds_model.specs.BallAnswer as balls
-use Rattle.bounds_model.specs.Answers.{circle}
+use Rattle.std.proofs.Common.{refl, [], ◌∷◌, codes}
 use Rattle.bounds_model.specs.AnswerText.Fields.{plane_ratio}
 use Rattle.bounds_model.specs.AnswerText.LineFormats.{titled}
 use Rattle.bounds_model.specs.AnswerText.Formats.{line}
-use Rattle.bounds_model.specs.AnswerText.Kinds.{circle_kind, supports, weighted}
-use Rattle.witness_format.specs.Answers.{weighted_of}
+use Rattle.bounds_model.specs.AnswerText.Kinds.{circle_kind, supports}
+use Rattle.answers.specs.declared.answer.Answer.TheVariants.{Circle}
 use Rattle.witness_format.specs.Lines.{lines_left}
-use Rattle.witness_format.proofs.KindTexts.{part_read, body_read, made_of}
+use Rattle.witness_format.proofs.KindTexts.{part_read, body_read}
+use Rattle.witness_format.proofs.SaidAnswers.{said_is}
 use Rattle.witness_format.proofs.reading.read_circle.Goals as goal
 
 pub returns : goal.returns
 returns c =
     let center = line (titled (codes "center") (plane_ratio ∷ [])) in
     let before = lines_left c.args.text.now in
-    let behind_center = lines_left c.read_titled.new.text in
+    let between = lines_left c.read_titled.new.text in
     let behind = lines_left c.read_counted.new.text in
     body_read circle_kind c.args.size before _ behind _
-    (part_read center (supports 3 ∷ []) [] before (c.in_ok-center.center, tt) behind_center _ behind c.in_ok-center.ensures
-    (part_read (supports 3) [] [] behind_center _ behind tt behind c.in_ok-supports.ensures refl))
-    (ap (λ (ss : List balls.Weighted). circle (record { size = c.args.size; centre = c.in_ok-center.center; supports = ss }))
-    (made_of (λ s. (s.point, (pos s.weight, tt))) weighted weighted_of (λ s. refl) c.in_ok-supports.supports.items))
+    (part_read center (supports 3 ∷ []) [] before (c.in_ok-center.center, tt) between _ behind c.in_ok-center.ensures (part_read (supports 3) [] [] between _ behind tt behind c.in_ok-supports.ensures refl))
+    (said_is (Circle (record { size = c.args.size; center = c.in_ok-center.center; supports = c.in_ok-supports.supports })))

@@ -3,7 +3,7 @@ use mir.Syntax.{w128}
 use Rattle.bounds_model.specs.Space.{SamePlace}
 use Rattle.ball_sums.proofs.SumSizes.{weight_most}
 use Rattle.ball_sums.proofs.MachineMeans.{entry, denominator}
-use Rattle.ball_sums.proofs.Means.{space_ratio_by}
+use Rattle.exact_fractions.proofs.UniqueForms.{space_ratio_by}
 use Rattle.ball_sums.proofs.sums.Sums.space_centre.Goals as goal
 
 pub returns-clause-place : goal.returns-clause-place

@@ -6,7 +6,7 @@ use Rattle.ball_sums.proofs.Weights.{some_weight}
 use Rattle.ball_sums.proofs.Means.{space_mean_is}
 use Rattle.corral.specs.Items.{first_points}
 use Rattle.corral.specs.Supported.{supports_of, items_of}
-use Rattle.witness_format.specs.Answers.{weighted_of}
+use Rattle.answers.specs.Answers.{weighted_of}
 use Rattle.min_ball.specs.Balls.{listed}
 use Rattle.min_ball.specs.SmallestBalls.{points_in, support_of}
 use Rattle.min_ball.proofs.SupportSums.{point_of_first}

@@ -1,0 +1,80 @@
+//! Values that stand in a line as fields, one after the other: nothing, or a field and more.
+ghost use Rattle.std.specs.Prelude.{◌≡◌, List, [], ◌∷◌, ◌++◌, OnOk};
+ghost use Rattle.bounds_model.specs.AnswerText.Fields.{Field};
+ghost use Rattle.bounds_model.specs.AnswerText.LineFormats.{Values};
+ghost use Rattle.bounds_model.specs.AnswerText.Written.{values_words};
+ghost use Rattle.witness_format.specs.Judging.{seen, fields_at};
+ghost use Rattle.witness_format.specs.Lines.{words_left};
+ghost use Rattle.witness_format.specs.Outcomes.{Finds};
+ghost use Rattle.witness_format.specs.Printed.{joined, behind_blanks};
+
+use crate::field_value::FieldValue;
+use crate::judging::{Judged, both};
+use crate::line_printing::push;
+use crate::words::Words;
+use std::alloc::AllocError;
+
+/// A value that is the fields of a line.
+pub(crate) trait FieldList: Copy {
+    /// The fields.
+    ghost fields: { List Field };
+
+    /// What they say of this value.
+    ghost values: { Self → Values fields };
+
+    /// Reads words that are to be these fields. None where they have another form.
+    fn read(words: Words<'_>) -> Option<Judged<Self>>
+        ensures { Finds (seen values) result (fields_at fields (words_left words.entry)) };
+
+    /// Writes the fields behind a text, the first without a blank before it.
+    fn print(&self, text: &mut Vec<u8>) -> Result<(), AllocError>
+        ensures { OnOk result (text.new.items ≡ text.old.items ++ joined (values_words fields (values self.now))) };
+
+    /// Writes the fields behind a text, each behind a blank.
+    fn print_behind(&self, text: &mut Vec<u8>) -> Result<(), AllocError>
+        ensures { OnOk result (text.new.items ≡ text.old.items ++ behind_blanks (values_words fields (values self.now))) };
+}
+
+/// No field at all.
+impl FieldList for () {
+    ghost fields = { [] };
+
+    ghost values = { λ _. tt };
+
+    fn read(words: Words<'_>) -> Option<Judged<()>> {
+        words.end()?;
+        Some(Ok(()))
+    }
+
+    fn print(&self, _text: &mut Vec<u8>) -> Result<(), AllocError> {
+        Ok(())
+    }
+
+    fn print_behind(&self, _text: &mut Vec<u8>) -> Result<(), AllocError> {
+        Ok(())
+    }
+}
+
+/// A field, and more fields.
+impl<A: FieldValue, B: FieldList> FieldList for (A, B) {
+    ghost fields = { A.field ∷ B.fields };
+
+    ghost values = { λ x. (A.value x.0, B.values x.1) };
+
+    fn read(words: Words<'_>) -> Option<Judged<(A, B)>> {
+        let (first, words) = A::read(words)?;
+        let others = B::read(words)?;
+        Some(both(first, others))
+    }
+
+    fn print(&self, text: &mut Vec<u8>) -> Result<(), AllocError> {
+        self.0.print(text)?;
+        self.1.print_behind(text)
+    }
+
+    fn print_behind(&self, text: &mut Vec<u8>) -> Result<(), AllocError> {
+        push(text, b" ")?;
+        self.0.print(text)?;
+        self.1.print_behind(text)
+    }
+}
