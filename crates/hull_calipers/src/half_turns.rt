@@ -2,24 +2,25 @@
 ghost use Rattle.std.specs.Prelude.{◌≡◌, ◌+◌, ◌*◌, ◌<◌, ◌≤◌, length, map, All, Contains, IfOk, OnOk};
 ghost use Rattle.bounds_model.specs.Fans.{HoldsHalf, half_directions, east, north, IsShort};
 ghost use Rattle.bounds_model.specs.PlainFans.{IsPlainHalf};
+ghost use Rattle.answers.specs.Answers.{half_cone_of, half_fan_of};
 ghost use Rattle.hull_calipers.specs.CornerLists.{corners_in, points_in};
 ghost use Rattle.hull_calipers.specs.Gripping.{turned, next_side, StartsAt, IsUpper};
-ghost use Rattle.hull_calipers.specs.Fans.{half_cone_of, half_fan_of, path, IsHalfPath, NamesHalf};
+ghost use Rattle.hull_calipers.specs.Fans.{path, IsHalfPath, NamesHalf};
 
-use crate::answers::{Dir, HalfCone, HalfFan};
 use crate::corner_list::Corners;
 use crate::directions::Direction;
 use crate::fans::{dir_from, number_at};
 use crate::grips::start;
 use crate::pairs::AntipodalPair;
 use crate::sides::Side;
+use answers::{Dir, HalfCone, HalfCones, HalfFan};
 use bounded_coords::{OutOfMemory, Steps};
 use std::alloc::Global;
 use std::sync::ledger::Ledger;
 
 /// Adds the cones of the quarter turn that begins at a side, with calipers at the corners where they start there.
 fn add_cones<L: Ledger>(
-    cones: &mut Vec<HalfCone>,
+    cones: &mut HalfCones,
     corners: &Corners<'_>,
     side: Side,
     high_at: u32,
@@ -31,11 +32,11 @@ fn add_cones<L: Ledger>(
     requires low { StartsAt (corners_in corners.now) (next_side (next_side side)) low_at }
     requires high_at { high_at < 400000 }
     requires low_at { low_at < 400000 }
-    requires path { IsHalfPath (points_in corners.now) (corners_in corners.now) (map half_cone_of cones.old.items) (turned side east) }
-    requires few { length cones.old.items < 100000 }
-    ensures path { OnOk result (IsHalfPath (points_in corners.now) (corners_in corners.now) (map half_cone_of cones.new.items) (turned side north)) }
-    ensures begun { OnOk result (Contains (path (λ cone. cone.direction) (map half_cone_of cones.new.items) (turned side north)) (turned side east)) }
-    ensures few { length cones.new.items ≤ length cones.old.items + 20001 }
+    requires path { IsHalfPath (points_in corners.now) (corners_in corners.now) (map half_cone_of cones.old) (turned side east) }
+    requires few { length cones.old < 100000 }
+    ensures path { OnOk result (IsHalfPath (points_in corners.now) (corners_in corners.now) (map half_cone_of cones.new) (turned side north)) }
+    ensures begun { OnOk result (Contains (path (λ cone. cone.direction) (map half_cone_of cones.new) (turned side north)) (turned side east)) }
+    ensures few { length cones.new ≤ length cones.old + 20001 }
     ensures steps { steps.new ≤ steps.old + 4 * length (corners_in corners.now) + 4 }
 {
     let mut pair = AntipodalPair::at(corners, side, high_at, low_at, steps);
@@ -46,9 +47,7 @@ fn add_cones<L: Ledger>(
             hi: number_at(corners, pair.high.position),
             lo: number_at(corners, pair.low.position),
         };
-        if cones.push(cone).is_err() {
-            return Err(OutOfMemory);
-        }
+        cones.push(cone)?;
         direction = pair.next().lowest();
         pair = pair.follow(corners, direction, steps);
     }
@@ -73,7 +72,7 @@ pub fn half_fan<L: Ledger>(
     let bottom = start(corners, Side::Left, 0, steps);
     let right = start(corners, Side::Bottom, bottom, steps);
     let top = start(corners, Side::Right, right, steps);
-    let mut cones = Vec::new(alloc);
+    let mut cones = HalfCones::new(alloc);
     add_cones(&mut cones, corners, Side::Right, right, 0, steps)?;
     add_cones(&mut cones, corners, Side::Top, top, bottom, steps)?;
     Ok(HalfFan {

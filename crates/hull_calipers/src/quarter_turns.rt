@@ -2,18 +2,19 @@
 ghost use Rattle.std.specs.Prelude.{◌≡◌, ◌+◌, ◌*◌, ◌<◌, ◌≤◌, length, map, All, IfOk};
 ghost use Rattle.bounds_model.specs.Fans.{HoldsQuarter, quarter_directions, IsShort, north};
 ghost use Rattle.bounds_model.specs.PlainFans.{IsPlainQuarter};
+ghost use Rattle.answers.specs.Answers.{quarter_cone_of, quarter_fan_of};
 ghost use Rattle.hull_calipers.specs.CornerLists.{corners_in, points_in};
 ghost use Rattle.hull_calipers.specs.Gripping.{StartsAt};
-ghost use Rattle.hull_calipers.specs.Fans.{quarter_cone_of, quarter_fan_of, IsQuarterPath, NamesQuarter};
+ghost use Rattle.hull_calipers.specs.Fans.{IsQuarterPath, NamesQuarter};
 ghost use Rattle.hull_calipers.specs.declared.sides.Side.TheVariants.{Right, Top, Left, Bottom};
 
-use crate::answers::{Dir, QuarterCone, QuarterFan};
 use crate::corner_list::Corners;
 use crate::directions::Direction;
 use crate::fans::{dir_from, number_at};
 use crate::grips::start;
 use crate::pairs::AntipodalPair;
 use crate::sides::Side;
+use answers::{Dir, QuarterCone, QuarterCones, QuarterFan};
 use bounded_coords::{OutOfMemory, Steps};
 use std::alloc::Global;
 use std::sync::ledger::Ledger;
@@ -26,17 +27,17 @@ fn cones_of_turn<L: Ledger>(
     right: u32,
     top: u32,
     steps: &mut Steps<L>,
-) -> Result<Vec<QuarterCone>, OutOfMemory>
+) -> Result<QuarterCones, OutOfMemory>
     requires bottom { StartsAt (corners_in corners.now) Bottom bottom }
     requires right { StartsAt (corners_in corners.now) Right right }
     requires top { StartsAt (corners_in corners.now) Top top }
     requires bottom_below { bottom < 400000 }
     requires right_below { right < 400000 }
     requires top_below { top < 400000 }
-    ensures path { IfOk result (λ cones. IsQuarterPath (points_in corners.now) (corners_in corners.now) (map quarter_cone_of cones.items) north) }
+    ensures path { IfOk result (λ cones. IsQuarterPath (points_in corners.now) (corners_in corners.now) (map quarter_cone_of cones) north) }
     ensures steps { steps.new ≤ steps.old + 8 * length (corners_in corners.now) + 8 }
 {
-    let mut cones = Vec::new(alloc);
+    let mut cones = QuarterCones::new(alloc);
     let mut along = AntipodalPair::at(corners, Side::Right, right, 0, steps);
     let mut across = AntipodalPair::at(corners, Side::Top, top, bottom, steps);
     let mut direction = Direction { x: 1, y: 0 };
@@ -48,9 +49,7 @@ fn cones_of_turn<L: Ledger>(
             over: number_at(corners, across.high.position),
             under: number_at(corners, across.low.position),
         };
-        if cones.push(cone).is_err() {
-            return Err(OutOfMemory);
-        }
+        cones.push(cone)?;
         direction = along.next().first(across.next()).lowest();
         along = along.follow(corners, direction, steps);
         across = across.follow(corners, direction, steps);

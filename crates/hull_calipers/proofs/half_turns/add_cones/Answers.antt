@@ -1,7 +1,7 @@
 use Rattle.std.proofs.Common.{rules, ◌≡◌, ◌∷◌, [], ◌++◌, ◌∙◌, length, map, ap, subst, sym, refl}
 use Rattle.std.proofs.lemmas.List.{map-append, length-map}
 use Rattle.hull_calipers.specs.CornerLists.{corners_in, numbers_in, points_in}
-use Rattle.hull_calipers.specs.Fans.{half_cone_of}
+use Rattle.answers.specs.Answers.{half_cone_of}
 use Rattle.hull_calipers.proofs.ModelCorners.{hull_listed, number_around, some_numbers}
 use Rattle.hull_calipers.proofs.AntipodalPairs.{IsNextOfPair, pair_next, pair_candidate, pair_after}
 use Rattle.hull_calipers.proofs.HalfTurns.{IsHalfTurning, half_start, half_more, half_falls, half_end}
@@ -9,9 +9,9 @@ use Rattle.hull_calipers.proofs.half_turns.add_cones.Goals as goal
 
 pub directions-init : goal.directions-init
 directions-init g c =
-    subst (λ n. IsHalfTurning (points_in c.args.corners.now) (corners_in c.args.corners.now) c.args.side c.args.high_at c.args.low_at (record { x = 1; y = 0 }) c.at-pair.result (map half_cone_of c.args.cones.now.items) n c.at-pair.new.steps c.args.steps.now)
-    (length-map c.args.cones.now.items half_cone_of)
-    (half_start (points_in c.args.corners.now) (corners_in c.args.corners.now) c.args.side c.args.high_at c.args.low_at (record { x = 1; y = 0 }) c.at-pair.result (map half_cone_of c.args.cones.now.items) c.at-pair.new.steps c.args.steps.now
+    subst (λ n. IsHalfTurning (points_in c.args.corners.now) (corners_in c.args.corners.now) c.args.side c.args.high_at c.args.low_at (record { x = 1; y = 0 }) c.at-pair.result (map half_cone_of c.args.cones.now) n c.at-pair.new.steps c.args.steps.now)
+    (length-map c.args.cones.now half_cone_of)
+    (half_start (points_in c.args.corners.now) (corners_in c.args.corners.now) c.args.side c.args.high_at c.args.low_at (record { x = 1; y = 0 }) c.at-pair.result (map half_cone_of c.args.cones.now) c.at-pair.new.steps c.args.steps.now
     c.args.corners.now.hull.around (hull_listed (points_in c.args.corners.now) (numbers_in c.args.corners.now) c.args.corners.now.hull) c.requires.high c.requires.low refl c.requires.path
     c.at-pair.ensures.high_side c.at-pair.ensures.low_side c.at-pair.ensures.high_at c.at-pair.ensures.low_at c.at-pair.ensures.pair c.at-pair.ensures.steps)
 
@@ -40,13 +40,13 @@ directions-preserved g c =
     let next : IsNextOfPair c.directions.direction c.lowest-direction.result c.directions.pair
     = pair_next (points_in c.args.corners.now) (corners_in c.args.corners.now) c.args.side c.args.high_at c.args.low_at c.directions.direction c.next.result c.lowest-direction.result c.directions.pair c.directions.invariant.calipers c.directions-test.true c.next.ensures
     c.lowest-direction.ensures.scaled c.lowest-direction.ensures.lowest in
-    let pushed : c.push.new.self.items ≡ c.directions.cones.items ++ (record { dir = c.dir_from.result; hi = c.number_at.result; lo = c.number_at-in-directions.result }) ∷ [] = search rules in
-    let cones : map half_cone_of c.push.new.self.items ≡ map half_cone_of c.directions.cones.items ++ half_cone_of (record { dir = c.dir_from.result; hi = c.number_at.result; lo = c.number_at-in-directions.result }) ∷ []
-    = ap (map half_cone_of) pushed ∙ map-append half_cone_of c.directions.cones.items ((record { dir = c.dir_from.result; hi = c.number_at.result; lo = c.number_at-in-directions.result }) ∷ []) in
+    let pushed : c.push.new.self ≡ c.directions.cones ++ (record { dir = c.dir_from.result; hi = c.number_at.result; lo = c.number_at-in-directions.result }) ∷ [] = search rules in
+    let cones : map half_cone_of c.push.new.self ≡ map half_cone_of c.directions.cones ++ half_cone_of (record { dir = c.dir_from.result; hi = c.number_at.result; lo = c.number_at-in-directions.result }) ∷ []
+    = ap (map half_cone_of) pushed ∙ map-append half_cone_of c.directions.cones ((record { dir = c.dir_from.result; hi = c.number_at.result; lo = c.number_at-in-directions.result }) ∷ []) in
     let some = some_numbers (points_in c.args.corners.now) (numbers_in c.args.corners.now) c.args.corners.now.hull.around.some in
-    subst (λ l. IsHalfTurning (points_in c.args.corners.now) (corners_in c.args.corners.now) c.args.side c.args.high_at c.args.low_at c.lowest-direction.result c.follow-pair.result l (length c.args.cones.now.items) c.follow-pair.new.steps c.args.steps.now) (sym cones)
+    subst (λ l. IsHalfTurning (points_in c.args.corners.now) (corners_in c.args.corners.now) c.args.side c.args.high_at c.args.low_at c.lowest-direction.result c.follow-pair.result l (length c.args.cones.now) c.follow-pair.new.steps c.args.steps.now) (sym cones)
     (half_more (points_in c.args.corners.now) (corners_in c.args.corners.now) c.args.side c.args.high_at c.args.low_at c.directions.direction c.lowest-direction.result c.directions.pair c.follow-pair.result
-    (map half_cone_of c.directions.cones.items) (half_cone_of (record { dir = c.dir_from.result; hi = c.number_at.result; lo = c.number_at-in-directions.result })) (length c.args.cones.now.items) c.directions.steps c.follow-pair.new.steps c.args.steps.now
+    (map half_cone_of c.directions.cones) (half_cone_of (record { dir = c.dir_from.result; hi = c.number_at.result; lo = c.number_at-in-directions.result })) (length c.args.cones.now) c.directions.steps c.follow-pair.new.steps c.args.steps.now
     c.args.corners.now.hull.around (hull_listed (points_in c.args.corners.now) (numbers_in c.args.corners.now) c.args.corners.now.hull) c.requires.upper c.directions.invariant c.directions-test.true next c.dir_from.ensures
     (number_around (points_in c.args.corners.now) (numbers_in c.args.corners.now) c.directions.pair.high.position c.number_at.result some c.number_at.ensures.number)
     (number_around (points_in c.args.corners.now) (numbers_in c.args.corners.now) c.directions.pair.low.position c.number_at-in-directions.result some c.number_at-in-directions.ensures.number)

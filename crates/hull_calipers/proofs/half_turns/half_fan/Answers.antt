@@ -1,6 +1,7 @@
 use Rattle.std.proofs.Common.{refl, sym, subst, pos, negsuc, map}
 use Rattle.hull_calipers.specs.CornerLists.{corners_in, numbers_in, points_in}
-use Rattle.hull_calipers.specs.Fans.{half_cone_of, half_fan_of, IsHalfPath, IsHalfSupport, IsHalfDirection}
+use Rattle.answers.specs.Answers.{half_cone_of, half_fan_of}
+use Rattle.hull_calipers.specs.Fans.{IsHalfPath, IsHalfSupport, IsHalfDirection}
 use Rattle.hull_calipers.proofs.Turning.{starts_left}
 use Rattle.hull_calipers.proofs.ModelCorners.{hull_listed}
 use Rattle.hull_calipers.proofs.Paths.{path_none, path_turns}
@@ -18,7 +19,7 @@ pub add_cones-requires-clause-low : goal.add_cones-requires-clause-low
 add_cones-requires-clause-low g c = starts_left (points_in c.args.corners.now) (corners_in c.args.corners.now) c.args.corners.now.hull.around (hull_listed (points_in c.args.corners.now) (numbers_in c.args.corners.now) c.args.corners.now.hull)
 
 pub add_cones-requires-clause-path : goal.add_cones-requires-clause-path
-add_cones-requires-clause-path g c = subst (λ l. IsHalfPath (points_in c.args.corners.now) (corners_in c.args.corners.now) (map half_cone_of l) east) (sym c.new-cones.ensures.items)
+add_cones-requires-clause-path g c = subst (λ l. IsHalfPath (points_in c.args.corners.now) (corners_in c.args.corners.now) (map half_cone_of l) east) (sym c.new-cones.ensures)
     (path_none (λ cone. cone.direction) (IsHalfSupport (points_in c.args.corners.now)) (IsHalfDirection (corners_in c.args.corners.now)) (half_direction_east (corners_in c.args.corners.now)))
 
 pub returns-clause-holds : goal.returns-clause-holds
@@ -30,6 +31,6 @@ returns-clause-plain g c = half_plain (points_in c.args.corners.now) (corners_in
 
 pub returns-clause-few : goal.returns-clause-few
 returns-clause-few g c = few_half (corners_in c.args.corners.now) (half_directions (half_fan_of (record { cones = c.add_cones-2.new.cones; last = record { x = negsuc 0; y = pos 0 } })))
-    (path_turns (λ cone. cone.direction) (IsHalfSupport (points_in c.args.corners.now)) (IsHalfDirection (corners_in c.args.corners.now)) (map half_cone_of c.add_cones-2.new.cones.items) west west c.in_ok-add_cones-2.ensures.path refl)
+    (path_turns (λ cone. cone.direction) (IsHalfSupport (points_in c.args.corners.now)) (IsHalfDirection (corners_in c.args.corners.now)) (map half_cone_of c.add_cones-2.new.cones) west west c.in_ok-add_cones-2.ensures.path refl)
     (half_plain (points_in c.args.corners.now) (corners_in c.args.corners.now) (half_fan_of (record { cones = c.add_cones-2.new.cones; last = record { x = negsuc 0; y = pos 0 } }))
     c.args.corners.now.hull.around (hull_listed (points_in c.args.corners.now) (numbers_in c.args.corners.now) c.args.corners.now.hull) c.in_ok-add_cones-2.ensures.path refl c.in_ok-add_cones-2.ensures.begun)

@@ -1,7 +1,8 @@
 use Rattle.std.proofs.Common.{refl, pos, map}
 use Rattle.bounds_model.specs.Fans.{quarter_directions, north}
 use Rattle.hull_calipers.specs.CornerLists.{corners_in, numbers_in, points_in}
-use Rattle.hull_calipers.specs.Fans.{quarter_cone_of, quarter_fan_of, IsQuarterSupport, IsQuarterDirection}
+use Rattle.answers.specs.Answers.{quarter_cone_of, quarter_fan_of}
+use Rattle.hull_calipers.specs.Fans.{IsQuarterSupport, IsQuarterDirection}
 use Rattle.hull_calipers.proofs.Turning.{starts_left}
 use Rattle.hull_calipers.proofs.ModelCorners.{hull_listed}
 use Rattle.hull_calipers.proofs.Paths.{path_turns}
@@ -22,7 +23,7 @@ returns-clause-plain g c = quarter_plain (points_in c.args.corners.now) (corners
 
 pub returns-clause-few : goal.returns-clause-few
 returns-clause-few g c = few_quarter (corners_in c.args.corners.now) (quarter_directions (quarter_fan_of (record { cones = c.in_ok-cones.cones; last = record { x = pos 0; y = pos 1 } })))
-    (path_turns (λ cone. cone.direction) (IsQuarterSupport (points_in c.args.corners.now)) (IsQuarterDirection (corners_in c.args.corners.now)) (map quarter_cone_of c.in_ok-cones.cones.items) north north c.in_ok-cones.ensures.path refl)
+    (path_turns (λ cone. cone.direction) (IsQuarterSupport (points_in c.args.corners.now)) (IsQuarterDirection (corners_in c.args.corners.now)) (map quarter_cone_of c.in_ok-cones.cones) north north c.in_ok-cones.ensures.path refl)
     (quarter_plain (points_in c.args.corners.now) (corners_in c.args.corners.now) (quarter_fan_of (record { cones = c.in_ok-cones.cones; last = record { x = pos 0; y = pos 1 } }))
     c.args.corners.now.hull.around (hull_listed (points_in c.args.corners.now) (numbers_in c.args.corners.now) c.args.corners.now.hull) c.in_ok-cones.ensures.path refl)
 
