@@ -10,32 +10,32 @@ use Rattle.bounds_model.specs.PlainFans.{edge}
 use Rattle.bounds_model.specs.Fans.{AreExtreme, east, north}
 use Rattle.hull_calipers.specs.declared.sides.Side.{Side}
 use Rattle.hull_calipers.specs.declared.sides.Side.TheVariants.{Right, Top, Left, Bottom}
-use Rattle.hull_calipers.specs.declared.grips.Caliper.{Caliper}
+use Rattle.hull_calipers.specs.declared.calipers.Caliper.{Caliper}
 use Rattle.hull_calipers.specs.declared.pairs.AntipodalPair.{AntipodalPair}
 use Rattle.hull_calipers.specs.declared.directions.Direction.{Direction}
 use Rattle.hull_calipers.specs.Hulls.{GoesAround}
 use Rattle.hull_calipers.specs.Vectors.{direction_of}
-use Rattle.hull_calipers.specs.Gripping.{aligned, turned, next_side, edge_from, IsHighest, IsWaiting, Grips, StartsAt}
-use Rattle.hull_calipers.specs.Calipers.{IsCaliper, ArePair, Follows, PairFollows}
+use Rattle.hull_calipers.specs.Supports.{aligned, turned, next_side, edge_from, IsHighest, IsWaiting, Supports, StartsAt}
+use Rattle.hull_calipers.specs.CaliperMoves.{IsCaliper, ArePair, Follows, PairFollows}
 use Rattle.std.specs.Int.{IsGcd}
 use Rattle.hull_calipers.specs.NextDirections.{ComesBefore, IsFirstOf, IsScaled}
 use Rattle.hull_calipers.proofs.HullFacts.{around_low}
-use Rattle.hull_calipers.proofs.Turning.{Walked, walked_none, grips_at_start}
+use Rattle.hull_calipers.proofs.Turning.{Walked, walked_none, supports_at_start}
 use Rattle.hull_calipers.proofs.NextDirections.{IsCandidate, IsNext, Meets, first_candidate, first_before_left, first_before_right, first_is, before_trans, scaled_before, next_of, meets_scaled}
-use Rattle.hull_calipers.proofs.Following.{waiting_or_not, waiting_from_right, dot_next, highest_next, grips_after, walked_after}
+use Rattle.hull_calipers.proofs.Following.{waiting_or_not, waiting_from_right, dot_next, highest_next, supports_after, walked_after}
 
 -- ---- one caliper in a turn
 
-pub record IsGripping (points corners : List PlanePoint) (side : Side) (s : ℕ) (d : Direction) (c : Caliper) : Type 0 where
+pub record IsSupporting (points corners : List PlanePoint) (side : Side) (s : ℕ) (d : Direction) (c : Caliper) : Type 0 where
   pub side_is : c.side ≡ side
   pub caliper : IsCaliper corners c
-  pub grips : Grips points corners c.side (direction_of d) c.position
+  pub supports : Supports points corners c.side (direction_of d) c.position
   pub walked : Walked corners (turned c.side east) s c.position
 
 -- the caliper's next direction lies ahead
-next_is_ahead : (points corners : List PlanePoint) (side : Side) (s : ℕ) (d : Direction) (c : Caliper) → IsGripping points corners side s d c → 0 < d.x → d.y * c.next.x < d.x * c.next.y
+next_is_ahead : (points corners : List PlanePoint) (side : Side) (s : ℕ) (d : Direction) (c : Caliper) → IsSupporting points corners side s d c → 0 < d.x → d.y * c.next.x < d.x * c.next.y
 next_is_ahead points corners side s d c h right = elim (waiting_or_not (edge_from corners c.side c.position)) [
-  | inl waits ↦ below (dot (direction_of d) (edge_from corners c.side c.position)) (d.y * c.next.x) (d.x * c.next.y) (dot_next d c.next (edge_from corners c.side c.position) (h.caliper.waits waits)) (h.grips.waits waits)
+  | inl waits ↦ below (dot (direction_of d) (edge_from corners c.side c.position)) (d.y * c.next.x) (d.x * c.next.y) (dot_next d c.next (edge_from corners c.side c.position) (h.caliper.waits waits)) (h.supports.waits waits)
   | inr done ↦
       let is = h.caliper.done done in
       let x : c.next.x ≡ 0 = (let e = ap (λ v. v.x) is in omega (arith, ints, e)) in
@@ -46,31 +46,31 @@ next_is_ahead points corners side s d c h right = elim (waiting_or_not (edge_fro
     below : (z : ℤ) (a b : ℕ) → z ≡ pos a -ℤ pos b → z <ℤ pos 0 → a < b
     below z a b e h = omega (arith, ints)
 
-next_some : (points corners : List PlanePoint) (side : Side) (s : ℕ) (d : Direction) (c : Caliper) → IsGripping points corners side s d c → 0 < c.next.x + c.next.y
+next_some : (points corners : List PlanePoint) (side : Side) (s : ℕ) (d : Direction) (c : Caliper) → IsSupporting points corners side s d c → 0 < c.next.x + c.next.y
 next_some points corners side s d c h = elim (waiting_or_not (edge_from corners c.side c.position)) [
   | inl waits ↦ let x = ap (λ v. v.x) (h.caliper.waits waits) in let u = waits.1 in omega (arith, ints, x, u)
   | inr done ↦ let y = ap (λ v. v.y) (h.caliper.done done) in omega (arith, ints, y)
 ]
 
-pub caliper_candidate : (points corners : List PlanePoint) (side : Side) (s : ℕ) (d : Direction) (c : Caliper) → IsGripping points corners side s d c → 0 < d.x → IsCandidate d c.next
+pub caliper_candidate : (points corners : List PlanePoint) (side : Side) (s : ℕ) (d : Direction) (c : Caliper) → IsSupporting points corners side s d c → 0 < d.x → IsCandidate d c.next
 caliper_candidate points corners side s d c h right = record { turns = next_is_ahead points corners side s d c h right; some = next_some points corners side s d c h; limited = h.caliper.limited }
 
-gripping_after : (points corners : List PlanePoint) (side : Side) (s : ℕ) (d n : Direction) (c new : Caliper) → GoesAround points corners → All (Contains points) corners → IsGripping points corners side s d c → 0 < d.x → IsNext d n → ComesBefore n c.next
-    → new.side ≡ c.side → IsCaliper corners new → Follows c n new → IsGripping points corners side s n new
-gripping_after points corners side s d n c new h listed g right next before same caliper goes = record {
+supporting_after : (points corners : List PlanePoint) (side : Side) (s : ℕ) (d n : Direction) (c new : Caliper) → GoesAround points corners → All (Contains points) corners → IsSupporting points corners side s d c → 0 < d.x → IsNext d n → ComesBefore n c.next
+    → new.side ≡ c.side → IsCaliper corners new → Follows c n new → IsSupporting points corners side s n new
+supporting_after points corners side s d n c new h listed g right next before same caliper goes = record {
   side_is = same ∙ g.side_is;
   caliper = caliper;
-  grips = grips_after points corners c new d n h listed g.caliper g.grips right next.turns before same goes;
+  supports = supports_after points corners c new d n h listed g.caliper g.supports right next.turns before same goes;
   walked = walked_after points corners c new n s g.caliper g.walked same goes;
 }
 
-gripping_start : (points corners : List PlanePoint) (side : Side) (s : ℕ) (d : Direction) (c : Caliper) → GoesAround points corners → All (Contains points) corners → StartsAt corners side s → direction_of d ≡ east
-    → c.side ≡ side → c.position ≡ s → IsCaliper corners c → IsGripping points corners side s d c
-gripping_start points corners side s d c h listed start e same place caliper = record {
+supporting_start : (points corners : List PlanePoint) (side : Side) (s : ℕ) (d : Direction) (c : Caliper) → GoesAround points corners → All (Contains points) corners → StartsAt corners side s → direction_of d ≡ east
+    → c.side ≡ side → c.position ≡ s → IsCaliper corners c → IsSupporting points corners side s d c
+supporting_start points corners side s d c h listed start e same place caliper = record {
   side_is = same;
   caliper = caliper;
-  grips = subst (λ t. Grips points corners t (direction_of d) c.position) (sym same) (subst (Grips points corners side (direction_of d)) (sym place) (subst (λ v. Grips points corners side v s) (sym e)
-      (grips_at_start points corners side (s + length corners - 1) s h listed (let some : 1 ≤ length corners = h.some in omega arith) start)));
+  supports = subst (λ t. Supports points corners t (direction_of d) c.position) (sym same) (subst (Supports points corners side (direction_of d)) (sym place) (subst (λ v. Supports points corners side v s) (sym e)
+      (supports_at_start points corners side (s + length corners - 1) s h listed (let some : 1 ≤ length corners = h.some in omega arith) start)));
   walked = subst (Walked corners (turned c.side east) s) (sym place) (walked_none corners (turned c.side east) s h.some);
 }
 
@@ -99,14 +99,14 @@ meets_edge corners c n some caliper (right, along) = (c.position % length corner
 -- ---- two calipers at opposite sides
 
 pub record IsTurningPair (points corners : List PlanePoint) (side : Side) (high_at low_at : ℕ) (d : Direction) (pair : AntipodalPair) : Type 0 where
-  pub high : IsGripping points corners side high_at d pair.high
-  pub low : IsGripping points corners (next_side (next_side side)) low_at d pair.low
+  pub high : IsSupporting points corners side high_at d pair.high
+  pub low : IsSupporting points corners (next_side (next_side side)) low_at d pair.low
 
 pub pair_start : (points corners : List PlanePoint) (side : Side) (high_at low_at : ℕ) (d : Direction) (pair : AntipodalPair) → GoesAround points corners → All (Contains points) corners → StartsAt corners side high_at → StartsAt corners (next_side (next_side side)) low_at → direction_of d ≡ east
     → pair.high.side ≡ side → pair.low.side ≡ next_side (next_side side) → pair.high.position ≡ high_at → pair.low.position ≡ low_at → ArePair corners pair → IsTurningPair points corners side high_at low_at d pair
 pair_start points corners side high_at low_at d pair h listed high low is_east high_side low_side high_place low_place calipers = record {
-  high = gripping_start points corners side high_at d pair.high h listed high is_east high_side high_place calipers.high;
-  low = gripping_start points corners (next_side (next_side side)) low_at d pair.low h listed low is_east low_side low_place calipers.low;
+  high = supporting_start points corners side high_at d pair.high h listed high is_east high_side high_place calipers.high;
+  low = supporting_start points corners (next_side (next_side side)) low_at d pair.low h listed low is_east low_side low_place calipers.low;
 }
 
 pub pair_candidate : (points corners : List PlanePoint) (side : Side) (high_at low_at : ℕ) (d m : Direction) (pair : AntipodalPair) → IsTurningPair points corners side high_at low_at d pair → 0 < d.x → IsFirstOf pair.high.next pair.low.next m → IsCandidate d m
@@ -120,8 +120,8 @@ BeforeBoth n pair = ComesBefore n pair.high.next × ComesBefore n pair.low.next
 pub pair_after : (points corners : List PlanePoint) (side : Side) (high_at low_at : ℕ) (d n : Direction) (pair new : AntipodalPair) → GoesAround points corners → All (Contains points) corners → IsTurningPair points corners side high_at low_at d pair → 0 < d.x → IsNext d n → BeforeBoth n pair
     → ArePair corners new → PairFollows pair n new → IsTurningPair points corners side high_at low_at n new
 pair_after points corners side high_at low_at d n pair new h listed t right next before calipers goes = record {
-  high = gripping_after points corners side high_at d n pair.high new.high h listed t.high right next before.0 goes.high_side calipers.high goes.high;
-  low = gripping_after points corners (next_side (next_side side)) low_at d n pair.low new.low h listed t.low right next before.1 goes.low_side calipers.low goes.low;
+  high = supporting_after points corners side high_at d n pair.high new.high h listed t.high right next before.0 goes.high_side calipers.high goes.high;
+  low = supporting_after points corners (next_side (next_side side)) low_at d n pair.low new.low h listed t.low right next before.1 goes.low_side calipers.low goes.low;
 }
 
 -- highest in a direction and in the opposite one
@@ -147,11 +147,11 @@ pub pair_extremes : (points corners : List PlanePoint) (side : Side) (high_at lo
     → point_at points hi ≡ around corners pair.high.position → point_at points lo ≡ around corners pair.low.position → AreExtreme points (turned side (direction_of d)) hi lo × AreExtreme points (turned side (direction_of n)) hi lo
 pair_extremes points corners side high_at low_at d n pair hi lo h t right next before is_high is_low = (
   extreme points side (direction_of d) (around corners pair.high.position) (around corners pair.low.position) hi lo
-  (subst (λ s. IsHighest points (turned s (direction_of d)) (around corners pair.high.position)) t.high.side_is t.high.grips.here)
-  (subst (λ s. IsHighest points (turned s (direction_of d)) (around corners pair.low.position)) t.low.side_is t.low.grips.here) is_high is_low,
+  (subst (λ s. IsHighest points (turned s (direction_of d)) (around corners pair.high.position)) t.high.side_is t.high.supports.here)
+  (subst (λ s. IsHighest points (turned s (direction_of d)) (around corners pair.low.position)) t.low.side_is t.low.supports.here) is_high is_low,
   extreme points side (direction_of n) (around corners pair.high.position) (around corners pair.low.position) hi lo
-  (subst (λ s. IsHighest points (turned s (direction_of n)) (around corners pair.high.position)) t.high.side_is (highest_next points corners pair.high d n h t.high.caliper t.high.grips right next.turns before.0))
-  (subst (λ s. IsHighest points (turned s (direction_of n)) (around corners pair.low.position)) t.low.side_is (highest_next points corners pair.low d n h t.low.caliper t.low.grips right next.turns before.1)) is_high is_low,
+  (subst (λ s. IsHighest points (turned s (direction_of n)) (around corners pair.high.position)) t.high.side_is (highest_next points corners pair.high d n h t.high.caliper t.high.supports right next.turns before.0))
+  (subst (λ s. IsHighest points (turned s (direction_of n)) (around corners pair.low.position)) t.low.side_is (highest_next points corners pair.low d n h t.low.caliper t.low.supports right next.turns before.1)) is_high is_low,
 )
 
 -- how often the corners of a pair may go on yet

@@ -16,8 +16,8 @@ use Rattle.hull_calipers.specs.declared.sides.Side.TheVariants.{Right, Top, Left
 use Rattle.hull_calipers.specs.declared.directions.Direction.{Direction}
 use Rattle.hull_calipers.specs.declared.pairs.AntipodalPair.{AntipodalPair}
 use Rattle.hull_calipers.specs.Vectors.{direction_of}
-use Rattle.hull_calipers.specs.Gripping.{aligned, turned, next_side, IsUpper}
-use Rattle.hull_calipers.specs.Calipers.{IsLimited}
+use Rattle.hull_calipers.specs.Supports.{aligned, turned, next_side, IsUpper}
+use Rattle.hull_calipers.specs.CaliperMoves.{IsLimited}
 use Rattle.hull_calipers.specs.Fans.{IsHalfDirection, IsQuarterDirection}
 use Rattle.hull_calipers.proofs.Turning.{dot-turned}
 use Rattle.hull_calipers.proofs.NextDirections.{IsNext}

@@ -13,8 +13,8 @@ use Rattle.hull_calipers.specs.declared.pairs.AntipodalPair.{AntipodalPair}
 use Rattle.hull_calipers.specs.declared.directions.Direction.{Direction}
 use Rattle.hull_calipers.specs.Hulls.{GoesAround}
 use Rattle.hull_calipers.specs.Vectors.{direction_of}
-use Rattle.hull_calipers.specs.Gripping.{turned, next_side, StartsAt, IsUpper}
-use Rattle.hull_calipers.specs.Calipers.{IsLimited, ArePair, PairFollows}
+use Rattle.hull_calipers.specs.Supports.{turned, next_side, StartsAt, IsUpper}
+use Rattle.hull_calipers.specs.CaliperMoves.{IsLimited, ArePair, PairFollows}
 use Rattle.hull_calipers.specs.Fans.{path, IsHalfPath, IsHalfSupport, IsHalfDirection}
 use Rattle.hull_calipers.proofs.Paths.{path_more, path_push}
 use Rattle.hull_calipers.proofs.NextDirections.{IsNext}

@@ -5,7 +5,7 @@ use Rattle.std.specs.Int.{IsGcd}
 use Rattle.std.proofs.lemmas.Bool.{cases_order}
 use Rattle.std.proofs.Math.Nat.{dvd_refl, dvd-zero, eq-one_of_dvd-one, mul_assoc, le_of_mul-le-mul_left, lt_of_mul-lt-mul_left, mul-lt-mul_of_pos_left, mul-le-mul_right}
 use Rattle.hull_calipers.specs.declared.directions.Direction.{Direction}
-use Rattle.hull_calipers.specs.Calipers.{IsLimited}
+use Rattle.hull_calipers.specs.CaliperMoves.{IsLimited}
 use Rattle.hull_calipers.specs.NextDirections.{ComesBefore, IsFirstOf, IsScaled}
 
 -- a direction that may come next after d

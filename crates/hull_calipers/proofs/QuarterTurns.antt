@@ -13,8 +13,8 @@ use Rattle.hull_calipers.specs.declared.pairs.AntipodalPair.{AntipodalPair}
 use Rattle.hull_calipers.specs.declared.directions.Direction.{Direction}
 use Rattle.hull_calipers.specs.Hulls.{GoesAround}
 use Rattle.hull_calipers.specs.Vectors.{direction_of}
-use Rattle.hull_calipers.specs.Gripping.{StartsAt}
-use Rattle.hull_calipers.specs.Calipers.{IsLimited, ArePair, PairFollows}
+use Rattle.hull_calipers.specs.Supports.{StartsAt}
+use Rattle.hull_calipers.specs.CaliperMoves.{IsLimited, ArePair, PairFollows}
 use Rattle.hull_calipers.specs.Fans.{IsQuarterPath, IsQuarterSupport, IsQuarterDirection}
 use Rattle.hull_calipers.proofs.Paths.{path_none, path_more}
 use Rattle.hull_calipers.proofs.NextDirections.{IsNext}

@@ -1,13 +1,13 @@
 //! Two calipers at opposite sides.
 ghost use Rattle.std.specs.Prelude.{◌≡◌, ◌+◌, ◌*◌, ◌<◌};
 ghost use Rattle.hull_calipers.specs.CornerLists.{corners_in};
-ghost use Rattle.hull_calipers.specs.Gripping.{next_side};
-ghost use Rattle.hull_calipers.specs.Calipers.{IsLimited, ArePair, PairFollows};
+ghost use Rattle.hull_calipers.specs.Supports.{next_side};
+ghost use Rattle.hull_calipers.specs.CaliperMoves.{IsLimited, ArePair, PairFollows};
 ghost use Rattle.hull_calipers.specs.NextDirections.{IsFirstOf};
 
 use crate::corner_list::Corners;
 use crate::directions::Direction;
-use crate::grips::Caliper;
+use crate::calipers::Caliper;
 use crate::sides::Side;
 use bounded_coords::Steps;
 use std::sync::ledger::Ledger;

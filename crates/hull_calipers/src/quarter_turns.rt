@@ -1,17 +1,17 @@
 //! Fans over a quarter turn.
 ghost use Rattle.std.specs.Prelude.{◌≡◌, ◌+◌, ◌*◌, ◌<◌, ◌≤◌, length, map, All, IfOk};
-ghost use Rattle.bounds_model.specs.Fans.{HoldsQuarter, quarter_directions, IsShort, north};
+ghost use Rattle.bounds_model.specs.Fans.{HoldsQuarter, QuarterPlaces, quarter_directions, IsShort, north};
 ghost use Rattle.bounds_model.specs.PlainFans.{IsPlainQuarter};
 ghost use Rattle.answers.specs.Answers.{quarter_cone_of, quarter_fan_of};
 ghost use Rattle.hull_calipers.specs.CornerLists.{corners_in, points_in};
-ghost use Rattle.hull_calipers.specs.Gripping.{StartsAt};
+ghost use Rattle.hull_calipers.specs.Supports.{StartsAt};
 ghost use Rattle.hull_calipers.specs.Fans.{IsQuarterPath, NamesQuarter};
 ghost use Rattle.hull_calipers.specs.declared.sides.Side.TheVariants.{Right, Top, Left, Bottom};
 
 use crate::corner_list::Corners;
 use crate::directions::Direction;
-use crate::fans::{dir_from, number_at};
-use crate::grips::start;
+use crate::cones::{dir_from, number_at};
+use crate::calipers::start;
 use crate::pairs::AntipodalPair;
 use crate::sides::Side;
 use answers::{Dir, QuarterCone, QuarterCones, QuarterFan};
@@ -69,6 +69,7 @@ pub fn quarter_fan<L: Ledger>(
     ensures plain { IfOk result (λ fan. IsPlainQuarter (corners_in corners.now) (quarter_directions (quarter_fan_of fan))) }
     ensures few { IfOk result (λ fan. length (quarter_directions (quarter_fan_of fan)) ≤ length (corners_in corners.now) + 2) }
     ensures short { IfOk result (λ fan. All IsShort (quarter_directions (quarter_fan_of fan))) }
+    ensures places { IfOk result (λ fan. QuarterPlaces (quarter_fan_of fan)) }
     ensures numbers { IfOk result (λ fan. NamesQuarter (points_in corners.now) (quarter_fan_of fan)) }
     ensures steps { steps.new ≤ steps.old + 16 * length (corners_in corners.now) + 64 }
 {

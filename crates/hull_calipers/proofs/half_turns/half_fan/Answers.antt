@@ -1,4 +1,4 @@
-use Rattle.std.proofs.Common.{refl, sym, subst, pos, negsuc, map}
+use Rattle.std.proofs.Common.{refl, sym, subst, ◌≤◌, pos, negsuc, map}
 use Rattle.hull_calipers.specs.CornerLists.{corners_in, numbers_in, points_in}
 use Rattle.answers.specs.Answers.{half_cone_of, half_fan_of}
 use Rattle.hull_calipers.specs.Fans.{IsHalfPath, IsHalfSupport, IsHalfDirection}
@@ -10,6 +10,9 @@ use Rattle.hull_calipers.proofs.PlainDirections.{half_holds}
 use Rattle.hull_calipers.proofs.Complete.{half_plain}
 use Rattle.hull_calipers.proofs.FewDirections.{few_half}
 use Rattle.bounds_model.specs.Fans.{half_directions, east, west}
+use Rattle.hull_calipers.proofs.FanPlaces.{half_places}
+use Rattle.std.proofs.lemmas.List.{length-map}
+use Rattle.bounds_model.specs.Plane.{point_at}
 use Rattle.hull_calipers.proofs.half_turns.half_fan.Goals as goal
 
 pub start-bottom-requires-clause-start : goal.start-bottom-requires-clause-start
@@ -34,3 +37,7 @@ returns-clause-few g c = few_half (corners_in c.args.corners.now) (half_directio
     (path_turns (λ cone. cone.direction) (IsHalfSupport (points_in c.args.corners.now)) (IsHalfDirection (corners_in c.args.corners.now)) (map half_cone_of c.add_cones-2.new.cones) west west c.in_ok-add_cones-2.ensures.path refl)
     (half_plain (points_in c.args.corners.now) (corners_in c.args.corners.now) (half_fan_of (record { cones = c.add_cones-2.new.cones; last = record { x = negsuc 0; y = pos 0 } }))
     c.args.corners.now.hull.around (hull_listed (points_in c.args.corners.now) (numbers_in c.args.corners.now) c.args.corners.now.hull) c.in_ok-add_cones-2.ensures.path refl c.in_ok-add_cones-2.ensures.begun)
+
+pub returns-clause-places : goal.returns-clause-places
+returns-clause-places g c = half_places (points_in c.args.corners.now) (corners_in c.args.corners.now) (half_fan_of (record { cones = c.add_cones-2.new.cones; last = record { x = negsuc 0; y = pos 0 } })) c.in_ok-add_cones-2.ensures.path refl (returns-clause-few g c)
+    (subst (λ n. n ≤ 10000) (sym (length-map (numbers_in c.args.corners.now) (point_at (points_in c.args.corners.now)))) c.args.corners.now.few) c.args.corners.now.cloud.cloud.limited

@@ -1,4 +1,4 @@
-use Rattle.std.proofs.Common.{refl, pos, map}
+use Rattle.std.proofs.Common.{refl, sym, subst, ◌≤◌, pos, map}
 use Rattle.bounds_model.specs.Fans.{quarter_directions, north}
 use Rattle.hull_calipers.specs.CornerLists.{corners_in, numbers_in, points_in}
 use Rattle.answers.specs.Answers.{quarter_cone_of, quarter_fan_of}
@@ -9,6 +9,9 @@ use Rattle.hull_calipers.proofs.Paths.{path_turns}
 use Rattle.hull_calipers.proofs.PlainDirections.{quarter_holds, quarter_short, quarter_names}
 use Rattle.hull_calipers.proofs.Complete.{quarter_plain}
 use Rattle.hull_calipers.proofs.FewDirections.{few_quarter}
+use Rattle.hull_calipers.proofs.FanPlaces.{quarter_places}
+use Rattle.std.proofs.lemmas.List.{length-map}
+use Rattle.bounds_model.specs.Plane.{point_at}
 use Rattle.hull_calipers.proofs.quarter_turns.quarter_fan.Goals as goal
 
 pub start-bottom-requires-clause-start : goal.start-bottom-requires-clause-start
@@ -32,3 +35,7 @@ returns-clause-short g c = quarter_short (points_in c.args.corners.now) (corners
 
 pub returns-clause-numbers : goal.returns-clause-numbers
 returns-clause-numbers g c = quarter_names (points_in c.args.corners.now) (corners_in c.args.corners.now) (quarter_fan_of (record { cones = c.in_ok-cones.cones; last = record { x = pos 0; y = pos 1 } })) c.in_ok-cones.ensures.path
+
+pub returns-clause-places : goal.returns-clause-places
+returns-clause-places g c = quarter_places (points_in c.args.corners.now) (corners_in c.args.corners.now) (quarter_fan_of (record { cones = c.in_ok-cones.cones; last = record { x = pos 0; y = pos 1 } })) c.in_ok-cones.ensures.path refl (returns-clause-few g c)
+    (subst (λ n. n ≤ 10000) (sym (length-map (numbers_in c.args.corners.now) (point_at (points_in c.args.corners.now)))) c.args.corners.now.few) c.args.corners.now.cloud.cloud.limited
