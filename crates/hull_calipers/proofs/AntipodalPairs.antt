@@ -7,7 +7,7 @@ use Rattle.integers.proofs.Identities.{den-ring, read, polys}
 use Rattle.bounds_model.specs.Plane.{PlanePoint, point_at, origin, vector, dot, cross}
 use Rattle.bounds_model.specs.Hull.{around}
 use Rattle.bounds_model.specs.PlainFans.{edge}
-use Rattle.bounds_model.specs.Fans.{AreExtreme, east, north}
+use Rattle.bounds_model.specs.Fans.{AreExtreme, east}
 use Rattle.hull_calipers.specs.declared.sides.Side.{Side}
 use Rattle.hull_calipers.specs.declared.sides.Side.TheVariants.{Right, Top, Left, Bottom}
 use Rattle.hull_calipers.specs.declared.calipers.Caliper.{Caliper}
@@ -147,11 +147,11 @@ pub pair_extremes : (points corners : List PlanePoint) (side : Side) (high_at lo
     → point_at points hi ≡ around corners pair.high.position → point_at points lo ≡ around corners pair.low.position → AreExtreme points (turned side (direction_of d)) hi lo × AreExtreme points (turned side (direction_of n)) hi lo
 pair_extremes points corners side high_at low_at d n pair hi lo h t right next before is_high is_low = (
   extreme points side (direction_of d) (around corners pair.high.position) (around corners pair.low.position) hi lo
-  (subst (λ s. IsHighest points (turned s (direction_of d)) (around corners pair.high.position)) t.high.side_is t.high.supports.here)
-  (subst (λ s. IsHighest points (turned s (direction_of d)) (around corners pair.low.position)) t.low.side_is t.low.supports.here) is_high is_low,
+      (subst (λ s. IsHighest points (turned s (direction_of d)) (around corners pair.high.position)) t.high.side_is t.high.supports.here)
+      (subst (λ s. IsHighest points (turned s (direction_of d)) (around corners pair.low.position)) t.low.side_is t.low.supports.here) is_high is_low,
   extreme points side (direction_of n) (around corners pair.high.position) (around corners pair.low.position) hi lo
-  (subst (λ s. IsHighest points (turned s (direction_of n)) (around corners pair.high.position)) t.high.side_is (highest_next points corners pair.high d n h t.high.caliper t.high.supports right next.turns before.0))
-  (subst (λ s. IsHighest points (turned s (direction_of n)) (around corners pair.low.position)) t.low.side_is (highest_next points corners pair.low d n h t.low.caliper t.low.supports right next.turns before.1)) is_high is_low,
+      (subst (λ s. IsHighest points (turned s (direction_of n)) (around corners pair.high.position)) t.high.side_is (highest_next points corners pair.high d n h t.high.caliper t.high.supports right next.turns before.0))
+      (subst (λ s. IsHighest points (turned s (direction_of n)) (around corners pair.low.position)) t.low.side_is (highest_next points corners pair.low d n h t.low.caliper t.low.supports right next.turns before.1)) is_high is_low,
 )
 
 -- how often the corners of a pair may go on yet

@@ -1,13 +1,13 @@
 -- What the directions of a fan are.
 use Prim.Native.Nat.{◌∣◌}
-use Rattle.std.proofs.Common.{◌≡◌, ◌≢◌, ◌⊎◌, inl, inr, ℕ, zero, suc, ◌<◌, ◌≤◌, ℤ, pos, neg_ℤ, ◌+ℤ◌, ◌-ℤ◌, ◌*ℤ◌, ◌≤ℤ◌, ◌<ℤ◌, List, [], ◌∷◌, length, refl, sym, ap, ap₂, subst, ◌∙◌, arith}
+use Rattle.std.proofs.Common.{◌≡◌, ◌⊎◌, inl, inr, ℕ, zero, suc, ◌<◌, ◌≤◌, ℤ, pos, neg_ℤ, ◌<ℤ◌, List, [], ◌∷◌, length, refl, sym, ap, ap₂, subst, ◌∙◌, arith}
 use Rattle.std.specs.Prelude.{SomeIndex, nat_abs}
 use Rattle.std.specs.Int.{IsGcd}
 use Rattle.std.proofs.lemmas.Int.{ints}
 use Rattle.std.proofs.lemmas.Bool.{cases_order}
 use Rattle.std.proofs.Math.Nat.{eq-one_of_dvd-one}
 use Rattle.integers.proofs.Identities.{den-ring, read, polys}
-use Rattle.bounds_model.specs.Plane.{PlanePoint, origin, dot, cross}
+use Rattle.bounds_model.specs.Plane.{PlanePoint, dot, cross}
 use Rattle.bounds_model.specs.Fractions.{HaveNoCommonFactor}
 use Rattle.bounds_model.specs.Fans.{IsShort, east, west, north}
 use Rattle.bounds_model.specs.PlainFans.{edge, IsUpright, IsUprightOrAlong}
@@ -99,7 +99,6 @@ half_direction corners side d n upper next met = record {
     above Top upper x y = omega (arith, ints, x)
     above Left upper x y = absurd upper
     above Bottom upper x y = absurd upper
-
 
 -- the first direction
 pub half_direction_east : (corners : List PlanePoint) → IsHalfDirection corners east

@@ -1,12 +1,12 @@
 -- The numbers of a fan are in their places.
-use Rattle.std.proofs.Common.{◌≡◌, inl, inr, ◌+◌, ◌<◌, ◌≤◌, ℤ, pos, List, length, refl, sym, ap, ◌∙◌, arith}
+use Rattle.std.proofs.Common.{◌≡◌, inl, inr, ◌+◌, ◌≤◌, ℤ, List, length, sym, ap, ◌∙◌, arith}
 use Rattle.std.proofs.lemmas.Int.{ints}
 use Rattle.std.proofs.lemmas.Bool.{cases_order}
 use Rattle.bounds_model.specs.Numbers.{IsWithin}
 use Rattle.bounds_model.specs.Plane.{PlanePoint}
 use Rattle.bounds_model.specs.Places.{IsPair, number_limit}
 use Rattle.bounds_model.specs.Fans.{HalfFan, HalfPlaces, QuarterFan, QuarterPlaces, half_directions, quarter_directions, IsShort, direction_limit, east, west, north}
-use Rattle.hull_calipers.specs.Fans.{path, IsPath, IsHalfPath, IsHalfSupport, IsHalfDirection, IsQuarterPath, IsQuarterSupport, IsQuarterDirection}
+use Rattle.hull_calipers.specs.Fans.{IsPath, IsHalfPath, IsHalfSupport, IsHalfDirection, IsQuarterPath, IsQuarterSupport, IsQuarterDirection}
 use Rattle.hull_calipers.proofs.Paths.{length_path, path_last}
 
 wide : (z : ℤ) → IsWithin direction_limit z → IsWithin number_limit z

@@ -1,7 +1,7 @@
 -- A plain fan has few directions: each edge of the hull gives one at most.
-use Rattle.std.proofs.Common.{◌≡◌, ◌≢◌, ◌⊎◌, inl, inr, ℕ, zero, suc, ◌+◌, ◌-◌, ◌<◌, ◌≤◌, ℤ, pos, neg_ℤ, ◌+ℤ◌, ◌-ℤ◌, ◌*ℤ◌, ◌≤ℤ◌, ◌<ℤ◌, List, [], ◌∷◌, ◌++◌, length, get_or, refl, sym, ap, ap₂, subst, ◌∙◌, arith}
+use Rattle.std.proofs.Common.{◌≡◌, ◌≢◌, ◌⊎◌, inl, inr, ℕ, zero, suc, ◌+◌, ◌-◌, ◌<◌, ◌≤◌, ℤ, pos, neg_ℤ, ◌+ℤ◌, ◌*ℤ◌, ◌<ℤ◌, List, [], ◌∷◌, ◌++◌, length, get_or, refl, sym, ap, ap₂, subst, ◌∙◌, arith}
 use lib.Dec.{eqb}
-use Rattle.std.proofs.lemmas.Int.{ints, by_lt_z}
+use Rattle.std.proofs.lemmas.Int.{ints}
 use Rattle.std.proofs.lemmas.Bool.{cases_order}
 use Rattle.std.proofs.lemmas.List.{length_push, get_or_push, get_or_append_left}
 use Rattle.std.proofs.lemmas.List.Elements.{All-from_get_or}
@@ -22,16 +22,19 @@ holes n m R each zero upto = ([], refl, λ i d l. absurd (omega arith))
 holes n m R each (suc k) upto =
     let before = holes n m R each k (omega arith) in
     let new = each k (omega arith) in
-    let count : length before.0 ≡ k = before.1 in
-    (before.0 ++ new.0 ∷ [], length_push before.0 new.0 ∙ ap (λ l. l + 1) count ∙ (let e : k + 1 ≡ suc k = omega arith in e), λ i d l. elim (cases_order i k) [
-      | inl same ↦
-          let is : get_or (before.0 ++ new.0 ∷ []) i d ≡ new.0 = get_or_push before.0 new.0 d i (count ∙ sym same) in
-          subst (λ j. (j < m) × R i j) (sym is) (subst (λ j. (new.0 < m) × R j new.0) (sym same) (new.1, new.2))
-      | inr rest ↦ elim rest [
-        | inl less ↦ subst (λ j. (j < m) × R i j) (sym (get_or_append_left before.0 (new.0 ∷ []) d i (omega (arith, count, less)))) (before.2 i d less)
-        | inr more ↦ absurd (omega arith)
-      ]
-    ])
+    let count : length before.0 ≡ k = before.1 in (
+      before.0 ++ new.0 ∷ [],
+      length_push before.0 new.0 ∙ ap (λ l. l + 1) count ∙ (let e : k + 1 ≡ suc k = omega arith in e),
+      λ i d l. elim (cases_order i k) [
+        | inl same ↦
+            let is : get_or (before.0 ++ new.0 ∷ []) i d ≡ new.0 = get_or_push before.0 new.0 d i (count ∙ sym same) in
+            subst (λ j. (j < m) × R i j) (sym is) (subst (λ j. (new.0 < m) × R j new.0) (sym same) (new.1, new.2))
+        | inr rest ↦ elim rest [
+          | inl less ↦ subst (λ j. (j < m) × R i j) (sym (get_or_append_left before.0 (new.0 ∷ []) d i (omega (arith, count, less)))) (before.2 i d less)
+          | inr more ↦ absurd (omega arith)
+        ]
+      ],
+    )
 
 -- of numbers below n, each in a hole below m and no two in one, there are at most m
 pub pigeonhole : (n m : ℕ) (R : ℕ → ℕ → Type 0) → ((i : ℕ) → i < n → (j : ℕ) × (j < m) × R i j) → ((i k j : ℕ) → i < k → k < n → R i j → R k j → ⊥) → n ≤ m

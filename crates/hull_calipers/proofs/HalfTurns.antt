@@ -1,6 +1,6 @@
 -- A quarter turn of a half fan, with one pair of calipers.
 use Prim.Native.Nat.{min}
-use Rattle.std.proofs.Common.{◌≡◌, ◌⊎◌, inl, inr, ℕ, ◌+◌, ◌*◌, ◌<◌, ◌≤◌, List, [], ◌∷◌, ◌++◌, length, refl, sym, ap, subst, ◌∙◌, arith}
+use Rattle.std.proofs.Common.{◌≡◌, inl, inr, ℕ, ◌+◌, ◌*◌, ◌<◌, ◌≤◌, List, [], ◌∷◌, ◌++◌, length, sym, ap, subst, arith}
 use Rattle.std.specs.Prelude.{All, Contains}
 use Rattle.std.proofs.lemmas.Bool.{cases_order}
 use Rattle.std.proofs.lemmas.List.{length_push}
@@ -17,7 +17,6 @@ use Rattle.hull_calipers.specs.Supports.{turned, next_side, StartsAt, IsUpper}
 use Rattle.hull_calipers.specs.CaliperMoves.{IsLimited, ArePair, PairFollows}
 use Rattle.hull_calipers.specs.Fans.{path, IsHalfPath, IsHalfSupport, IsHalfDirection}
 use Rattle.hull_calipers.proofs.Paths.{path_more, path_push}
-use Rattle.hull_calipers.proofs.NextDirections.{IsNext}
 use Rattle.hull_calipers.proofs.AntipodalPairs.{IsTurningPair, IsNextOfPair, left_of, pair_start, pair_after, pair_extremes, pair_no_more, pair_less, next_turns}
 use Rattle.hull_calipers.proofs.FanDirections.{half_direction, pair_upright, up_is_north}
 

@@ -1,5 +1,5 @@
 -- Which directions a fan has between its ends.
-use Rattle.std.proofs.Common.{◌≡◌, ◌⊎◌, inl, inr, ℕ, ◌+◌, ◌-◌, ◌<◌, ℤ, pos, ◌≤ℤ◌, ◌<ℤ◌, List, length, subst, sym, arith}
+use Rattle.std.proofs.Common.{◌≡◌, ◌⊎◌, inl, inr, ◌+◌, ◌-◌, pos, ◌≤ℤ◌, ◌<ℤ◌, List, length, subst, sym, arith}
 use Rattle.std.specs.Prelude.{All, SomeIndex}
 use Rattle.std.proofs.lemmas.Int.{ints}
 use Rattle.bounds_model.specs.Plane.{PlanePoint, point_at, cross}

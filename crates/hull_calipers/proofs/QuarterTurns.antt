@@ -1,13 +1,13 @@
 -- The turn of a quarter fan, with two pairs of calipers.
 use Prim.Native.Nat.{min}
-use Rattle.std.proofs.Common.{◌≡◌, ◌⊎◌, inl, inr, ℕ, ◌+◌, ◌*◌, ◌<◌, ◌≤◌, List, [], ◌∷◌, ◌++◌, length, refl, sym, ap, subst, ◌∙◌, arith}
+use Rattle.std.proofs.Common.{◌≡◌, inl, inr, ℕ, ◌+◌, ◌*◌, ◌<◌, ◌≤◌, List, [], ◌∷◌, ◌++◌, length, sym, ap, subst, arith}
 use Rattle.std.specs.Prelude.{All, Contains, SomeIndex}
 use Rattle.std.proofs.lemmas.Bool.{cases_order}
 use Rattle.std.proofs.lemmas.List.{length_push}
 use Rattle.bounds_model.specs.Plane.{PlanePoint, point_at}
 use Rattle.bounds_model.specs.Hull.{around}
 use Rattle.bounds_model.specs.PlainFans.{edge, IsUprightOrAlong}
-use Rattle.bounds_model.specs.Fans.{QuarterCone, east, north}
+use Rattle.bounds_model.specs.Fans.{QuarterCone, north}
 use Rattle.hull_calipers.specs.declared.sides.Side.TheVariants.{Right, Top, Left, Bottom}
 use Rattle.hull_calipers.specs.declared.pairs.AntipodalPair.{AntipodalPair}
 use Rattle.hull_calipers.specs.declared.directions.Direction.{Direction}
@@ -17,8 +17,7 @@ use Rattle.hull_calipers.specs.Supports.{StartsAt}
 use Rattle.hull_calipers.specs.CaliperMoves.{IsLimited, ArePair, PairFollows}
 use Rattle.hull_calipers.specs.Fans.{IsQuarterPath, IsQuarterSupport, IsQuarterDirection}
 use Rattle.hull_calipers.proofs.Paths.{path_none, path_more}
-use Rattle.hull_calipers.proofs.NextDirections.{IsNext}
-use Rattle.hull_calipers.proofs.AntipodalPairs.{IsTurningPair, IsNextOfPairs, MeetsOne, left_of, pair_start, pair_after, pair_extremes, pair_no_more, pair_less, next_turns}
+use Rattle.hull_calipers.proofs.AntipodalPairs.{IsTurningPair, IsNextOfPairs, left_of, pair_start, pair_after, pair_extremes, pair_no_more, pair_less, next_turns}
 use Rattle.hull_calipers.proofs.FanDirections.{quarter_direction, quarter_direction_east, pair_upright_or_along, up_is_north}
 
 -- where the calipers start

@@ -7,10 +7,10 @@ ghost use Rattle.hull_calipers.specs.CornerLists.{corners_in, points_in};
 ghost use Rattle.hull_calipers.specs.Supports.{turned, next_side, StartsAt, IsUpper};
 ghost use Rattle.hull_calipers.specs.Fans.{path, IsHalfPath, NamesHalf};
 
+use crate::calipers::start;
+use crate::cones::{dir_from, number_at};
 use crate::corner_list::Corners;
 use crate::directions::Direction;
-use crate::cones::{dir_from, number_at};
-use crate::calipers::start;
 use crate::pairs::AntipodalPair;
 use crate::sides::Side;
 use answers::{Dir, HalfCone, HalfCones, HalfFan};
@@ -55,8 +55,8 @@ fn add_cones<L: Ledger>(
 }
 
 /// The directions from (1,0) to (-1,0) at right angles to the edges of the hull, and upwards, in lowest terms. The cone from
-/// each to the next has a highest and a lowest point for both. Found by rotating calipers: Toussaint, "Solving geometric
-/// problems with the rotating calipers", 1983.
+/// each to the next has a highest and a lowest point for both: antipodal pairs. Found by rotating calipers: Toussaint, "Solving
+/// geometric problems with the rotating calipers", 1983; CGAL manual, "Bounding Volumes".
 pub fn half_fan<L: Ledger>(
     alloc: Global,
     corners: &Corners<'_>,

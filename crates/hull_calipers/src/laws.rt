@@ -9,5 +9,4 @@ use crate::corner_list::Corners;
 pub fn corners_are_those_of_the_hull(corners: &Corners<'_>)
     ensures corners { AreCorners (points_in corners.now) (corners_in corners.now) }
     ensures numbers { AreLeastNumbers (points_in corners.now) (numbers_in corners.now) }
-{
-}
+{}

@@ -5,9 +5,9 @@ ghost use Rattle.hull_calipers.specs.Supports.{next_side};
 ghost use Rattle.hull_calipers.specs.CaliperMoves.{IsLimited, ArePair, PairFollows};
 ghost use Rattle.hull_calipers.specs.NextDirections.{IsFirstOf};
 
+use crate::calipers::Caliper;
 use crate::corner_list::Corners;
 use crate::directions::Direction;
-use crate::calipers::Caliper;
 use crate::sides::Side;
 use bounded_coords::Steps;
 use std::sync::ledger::Ledger;

@@ -8,10 +8,10 @@ ghost use Rattle.hull_calipers.specs.Supports.{StartsAt};
 ghost use Rattle.hull_calipers.specs.Fans.{IsQuarterPath, NamesQuarter};
 ghost use Rattle.hull_calipers.specs.declared.sides.Side.TheVariants.{Right, Top, Left, Bottom};
 
+use crate::calipers::start;
+use crate::cones::{dir_from, number_at};
 use crate::corner_list::Corners;
 use crate::directions::Direction;
-use crate::cones::{dir_from, number_at};
-use crate::calipers::start;
 use crate::pairs::AntipodalPair;
 use crate::sides::Side;
 use answers::{Dir, QuarterCone, QuarterCones, QuarterFan};
@@ -59,7 +59,7 @@ fn cones_of_turn<L: Ledger>(
 
 /// The directions from (1,0) to (0,1) at right angles to the edges of the hull or along them, in lowest terms. The cone from
 /// each to the next has a highest and a lowest point for both, and for both turned by a right angle. Found by rotating
-/// calipers: Toussaint, "Solving geometric problems with the rotating calipers", 1983.
+/// calipers: Toussaint, "Solving geometric problems with the rotating calipers", 1983; CGAL manual, "Bounding Volumes".
 pub fn quarter_fan<L: Ledger>(
     alloc: Global,
     corners: &Corners<'_>,

@@ -122,12 +122,32 @@ fn small_hulls(rt: HostRuntime) -> Result<(), Fail> {
         Row {
             points: &[(1, 2), (6, 1), (3, 3), (5, 5), (6, 1), (2, 6), (-1, 4)],
             corners: &[6, 0, 1, 3, 5],
-            half: &[(1, 0, 1, 6), (4, 1, 3, 6), (1, 1, 3, 0), (1, 3, 5, 0), (1, 5, 5, 1), (0, 1, 5, 1), (-2, 3, 6, 1)],
-            quarter: &[(1, 0, 1, 6, 5, 1), (4, 1, 3, 6, 5, 1), (3, 2, 3, 6, 6, 1), (1, 1, 3, 0, 6, 1), (1, 3, 5, 0, 6, 1), (1, 5, 5, 1, 6, 1)],
+            half: &[
+                (1, 0, 1, 6),
+                (4, 1, 3, 6),
+                (1, 1, 3, 0),
+                (1, 3, 5, 0),
+                (1, 5, 5, 1),
+                (0, 1, 5, 1),
+                (-2, 3, 6, 1),
+            ],
+            quarter: &[
+                (1, 0, 1, 6, 5, 1),
+                (4, 1, 3, 6, 5, 1),
+                (3, 2, 3, 6, 6, 1),
+                (1, 1, 3, 0, 6, 1),
+                (1, 3, 5, 0, 6, 1),
+                (1, 5, 5, 1, 6, 1),
+            ],
         },
         // the ends of the range
         Row {
-            points: &[(200000, 200000), (-200000, -200000), (200000, -200000), (-200000, 199999)],
+            points: &[
+                (200000, 200000),
+                (-200000, -200000),
+                (200000, -200000),
+                (-200000, 199999),
+            ],
             corners: &[1, 2, 0, 3],
             half: &[(1, 0, 0, 1), (0, 1, 0, 2), (-1, 400000, 3, 2)],
             quarter: &[(1, 0, 0, 1, 0, 2), (400000, 1, 0, 1, 3, 2)],
@@ -164,17 +184,34 @@ fn small_hulls(rt: HostRuntime) -> Result<(), Fail> {
         let Ok(half) = half_of(rt.alloc(), &hull) else {
             panic!(rt; "no memory");
         };
-        assert_eq!(rt; half.cones.len() as usize, row.half.len(), "{:?}", row.points);
+        assert_eq!(rt;
+            half.cones.len() as usize,
+            row.half.len(),
+            "{:?}",
+            row.points
+        );
         for (cone, expected) in half.cones.as_slice().iter().zip(row.half) {
-            assert_eq!(rt; (cone.dir.x, cone.dir.y, cone.hi, cone.lo), *expected, "{:?}", row.points);
+            assert_eq!(rt;
+                (cone.dir.x, cone.dir.y, cone.hi, cone.lo),
+                *expected,
+                "{:?}",
+                row.points
+            );
         }
         assert_eq!(rt; (half.last.x, half.last.y), (-1, 0));
         let Ok(quarter) = quarter_of(rt.alloc(), &hull) else {
             panic!(rt; "no memory");
         };
-        assert_eq!(rt; quarter.cones.len() as usize, row.quarter.len(), "{:?}", row.points);
+        assert_eq!(rt;
+            quarter.cones.len() as usize,
+            row.quarter.len(),
+            "{:?}",
+            row.points
+        );
         for (cone, expected) in quarter.cones.as_slice().iter().zip(row.quarter) {
-            let found = (cone.dir.x, cone.dir.y, cone.hi, cone.lo, cone.over, cone.under);
+            let found = (
+                cone.dir.x, cone.dir.y, cone.hi, cone.lo, cone.over, cone.under,
+            );
             assert_eq!(rt; found, *expected, "{:?}", row.points);
         }
         assert_eq!(rt; (quarter.last.x, quarter.last.y), (0, 1));

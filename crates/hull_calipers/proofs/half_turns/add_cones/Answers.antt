@@ -4,7 +4,7 @@ use Rattle.hull_calipers.specs.CornerLists.{corners_in, numbers_in, points_in}
 use Rattle.answers.specs.Answers.{half_cone_of}
 use Rattle.hull_calipers.proofs.ModelCorners.{hull_listed, number_around, some_numbers}
 use Rattle.hull_calipers.proofs.AntipodalPairs.{IsNextOfPair, pair_next, pair_candidate, pair_after}
-use Rattle.hull_calipers.proofs.HalfTurns.{IsHalfTurning, half_start, half_more, half_falls, half_end}
+use Rattle.hull_calipers.proofs.HalfTurns.{IsHalfTurning, half_start, half_more, half_falls}
 use Rattle.hull_calipers.proofs.half_turns.add_cones.Goals as goal
 
 pub directions-init : goal.directions-init

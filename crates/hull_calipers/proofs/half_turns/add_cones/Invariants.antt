@@ -1,4 +1,4 @@
-use Rattle.std.proofs.Common.{◌+◌, ◌≡◌, length}
+use Rattle.std.proofs.Common.{◌+◌, length}
 use Prim.Native.Nat.{min}
 use Rattle.std.specs.Prelude.{map}
 use Rattle.hull_calipers.specs.CornerLists.{corners_in, points_in}

@@ -2,12 +2,12 @@ use Rattle.std.proofs.Common.{rules, ◌≡◌, ◌∷◌, [], ◌++◌, ◌∙�
 use Rattle.std.proofs.lemmas.List.{map-append}
 use Rattle.hull_calipers.specs.CornerLists.{corners_in, numbers_in, points_in}
 use Rattle.answers.specs.Answers.{quarter_cone_of}
-use Rattle.hull_calipers.specs.declared.sides.Side.TheVariants.{Right, Top, Left, Bottom}
+use Rattle.hull_calipers.specs.declared.sides.Side.TheVariants.{Right, Top}
 use Rattle.hull_calipers.proofs.ModelCorners.{hull_listed, number_around, some_numbers}
 use Rattle.hull_calipers.proofs.Turning.{starts_left}
 use Rattle.hull_calipers.proofs.NextDirections.{first_candidate}
 use Rattle.hull_calipers.proofs.AntipodalPairs.{IsNextOfPairs, pairs_next, pair_candidate, pair_after}
-use Rattle.hull_calipers.proofs.QuarterTurns.{Starts, IsQuarterTurning, quarter_start, quarter_more, quarter_falls}
+use Rattle.hull_calipers.proofs.QuarterTurns.{IsQuarterTurning, quarter_start, quarter_more, quarter_falls}
 use Rattle.hull_calipers.proofs.quarter_turns.cones_of_turn.Goals as goal
 
 pub directions-init : goal.directions-init

@@ -1,4 +1,3 @@
-use Rattle.std.proofs.Common.{◌≡◌}
 use Rattle.std.specs.Prelude.{map}
 use Rattle.hull_calipers.specs.CornerLists.{corners_in, points_in}
 use Rattle.answers.specs.Answers.{quarter_cone_of}
