@@ -4,8 +4,9 @@ use Rattle.std.specs.Prelude.{All, SomeIndex}
 use Rattle.std.proofs.lemmas.Int.{ints}
 use Rattle.bounds_model.specs.Plane.{PlanePoint, point_at, cross}
 use Rattle.bounds_model.specs.Fans.{IsShort, HalfCone, HalfFan, QuarterCone, QuarterFan, half_directions, quarter_directions, HoldsHalf, HoldsQuarter, east, west, north}
+use Rattle.bounds_model.specs.RectangleAnswer.{NamesAllPoints}
 use Rattle.bounds_model.specs.PlainFans.{edge, IsUpright, IsUprightOrAlong, EachInner, AreLowest}
-use Rattle.hull_calipers.specs.Fans.{path, IsHalfPath, IsHalfSupport, IsHalfDirection, IsQuarterPath, IsQuarterSupport, IsQuarterDirection, NamesQuarter}
+use Rattle.hull_calipers.specs.Fans.{path, IsHalfPath, IsHalfSupport, IsHalfDirection, IsQuarterPath, IsQuarterSupport, IsQuarterDirection}
 use Rattle.hull_calipers.proofs.Paths.{length_path, path_turns, path_each}
 
 cross-east : (p : PlanePoint) → pos 0 ≤ℤ p.y → pos 0 <ℤ cross p east → ⊥
@@ -106,5 +107,5 @@ quarter_lowest points corners fan h = λ i d l. (h.each i d l).lowest
 pub quarter_short : (points corners : List PlanePoint) (fan : QuarterFan) → IsQuarterPath points corners fan.cones fan.last → All IsShort (quarter_directions fan)
 quarter_short points corners fan h = λ i d l. (h.each i d l).short
 
-pub quarter_names : (points corners : List PlanePoint) (fan : QuarterFan) → IsQuarterPath points corners fan.cones fan.last → NamesQuarter points fan
+pub quarter_names : (points corners : List PlanePoint) (fan : QuarterFan) → IsQuarterPath points corners fan.cones fan.last → NamesAllPoints points fan
 quarter_names points corners fan h = λ i c l. let s = (h.extremes i c l).0 in (s.high, s.low, s.over, s.under)

@@ -2,10 +2,11 @@
 ghost use Rattle.std.specs.Prelude.{◌≡◌, ◌+◌, ◌*◌, ◌<◌, ◌≤◌, length, map, All, Contains, IfOk, OnOk};
 ghost use Rattle.bounds_model.specs.Fans.{HoldsHalf, HalfPlaces, half_directions, east, north, IsShort};
 ghost use Rattle.bounds_model.specs.PlainFans.{IsPlainHalf};
+ghost use Rattle.bounds_model.specs.StripAnswer.{NamesPoints};
 ghost use Rattle.answers.specs.Answers.{half_cone_of, half_fan_of};
 ghost use Rattle.hull_calipers.specs.CornerLists.{corners_in, points_in};
 ghost use Rattle.hull_calipers.specs.Supports.{turned, next_side, StartsAt, IsUpper};
-ghost use Rattle.hull_calipers.specs.Fans.{path, IsHalfPath, NamesHalf};
+ghost use Rattle.hull_calipers.specs.Fans.{path, IsHalfPath};
 
 use crate::calipers::start;
 use crate::cones::{dir_from, number_at};
@@ -67,7 +68,7 @@ pub fn half_fan<L: Ledger>(
     ensures few { IfOk result (λ fan. length (half_directions (half_fan_of fan)) ≤ length (corners_in corners.now) + 3) }
     ensures short { IfOk result (λ fan. All IsShort (half_directions (half_fan_of fan))) }
     ensures places { IfOk result (λ fan. HalfPlaces (half_fan_of fan)) }
-    ensures numbers { IfOk result (λ fan. NamesHalf (points_in corners.now) (half_fan_of fan)) }
+    ensures numbers { IfOk result (λ fan. NamesPoints (points_in corners.now) (half_fan_of fan)) }
     ensures steps { steps.new ≤ steps.old + 16 * length (corners_in corners.now) + 64 }
 {
     let bottom = start(corners, Side::Left, 0, steps);

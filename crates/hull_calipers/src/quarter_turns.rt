@@ -2,10 +2,11 @@
 ghost use Rattle.std.specs.Prelude.{◌≡◌, ◌+◌, ◌*◌, ◌<◌, ◌≤◌, length, map, All, IfOk};
 ghost use Rattle.bounds_model.specs.Fans.{HoldsQuarter, QuarterPlaces, quarter_directions, IsShort, north};
 ghost use Rattle.bounds_model.specs.PlainFans.{IsPlainQuarter};
+ghost use Rattle.bounds_model.specs.RectangleAnswer.{NamesAllPoints};
 ghost use Rattle.answers.specs.Answers.{quarter_cone_of, quarter_fan_of};
 ghost use Rattle.hull_calipers.specs.CornerLists.{corners_in, points_in};
 ghost use Rattle.hull_calipers.specs.Supports.{StartsAt};
-ghost use Rattle.hull_calipers.specs.Fans.{IsQuarterPath, NamesQuarter};
+ghost use Rattle.hull_calipers.specs.Fans.{IsQuarterPath};
 ghost use Rattle.hull_calipers.specs.declared.sides.Side.TheVariants.{Right, Top, Left, Bottom};
 
 use crate::calipers::start;
@@ -70,7 +71,7 @@ pub fn quarter_fan<L: Ledger>(
     ensures few { IfOk result (λ fan. length (quarter_directions (quarter_fan_of fan)) ≤ length (corners_in corners.now) + 2) }
     ensures short { IfOk result (λ fan. All IsShort (quarter_directions (quarter_fan_of fan))) }
     ensures places { IfOk result (λ fan. QuarterPlaces (quarter_fan_of fan)) }
-    ensures numbers { IfOk result (λ fan. NamesQuarter (points_in corners.now) (quarter_fan_of fan)) }
+    ensures numbers { IfOk result (λ fan. NamesAllPoints (points_in corners.now) (quarter_fan_of fan)) }
     ensures steps { steps.new ≤ steps.old + 16 * length (corners_in corners.now) + 64 }
 {
     let bottom = start(corners, Side::Left, 0, steps);
