@@ -19,6 +19,7 @@ use Rattle.hull_calipers.specs.Supports.{aligned, turned, next_side, edge_from, 
 use Rattle.hull_calipers.specs.CaliperMoves.{IsCaliper, ArePair, Follows, PairFollows}
 use Rattle.std.specs.Int.{IsGcd}
 use Rattle.hull_calipers.specs.NextDirections.{ComesBefore, IsFirstOf, IsScaled}
+use Rattle.hull_calipers.proofs.SeenVectors.{opposite_dot, turned-cross}
 use Rattle.hull_calipers.proofs.HullFacts.{around_low}
 use Rattle.hull_calipers.proofs.Turning.{Walked, walked_none, supports_at_start}
 use Rattle.hull_calipers.proofs.NextDirections.{IsCandidate, IsNext, Meets, first_candidate, first_before_left, first_before_right, first_is, before_trans, scaled_before, next_of, meets_scaled}
@@ -124,13 +125,6 @@ pair_after points corners side high_at low_at d n pair new h listed t right next
   low = supporting_after points corners (next_side (next_side side)) low_at d n pair.low new.low h listed t.low right next before.1 goes.low_side calipers.low goes.low;
 }
 
--- highest in a direction and in the opposite one
-pub opposite_dot : (side : Side) (v p : PlanePoint) → dot (turned (next_side (next_side side)) v) p ≡ neg_ℤ (dot (turned side v) p)
-opposite_dot Right v p = read (v.x ∷ v.y ∷ p.x ∷ p.y ∷ []) (λ xs a b c d. simp (a, b, c, d, polys) (den-ring xs _ _ tt))
-opposite_dot Top v p = read (v.x ∷ v.y ∷ p.x ∷ p.y ∷ []) (λ xs a b c d. simp (a, b, c, d, polys) (den-ring xs _ _ tt))
-opposite_dot Left v p = read (v.x ∷ v.y ∷ p.x ∷ p.y ∷ []) (λ xs a b c d. simp (a, b, c, d, polys) (den-ring xs _ _ tt))
-opposite_dot Bottom v p = read (v.x ∷ v.y ∷ p.x ∷ p.y ∷ []) (λ xs a b c d. simp (a, b, c, d, polys) (den-ring xs _ _ tt))
-
 extreme : (points : List PlanePoint) (side : Side) (v a b : PlanePoint) (hi lo : ℕ) → IsHighest points (turned side v) a → IsHighest points (turned (next_side (next_side side)) v) b → point_at points hi ≡ a → point_at points lo ≡ b
     → AreExtreme points (turned side v) hi lo
 extreme points side v a b hi lo high low is_a is_b = record {
@@ -184,12 +178,6 @@ pair_less points corners side high_at low_at n pair new t goes (inr met) =
     let a = stays_or_less corners (turned new.high.side east) high_at n pair.high new.high t.high.walked goes.high in
     let b = less_where_met corners (turned new.low.side east) low_at n pair.low new.low t.low.walked goes.low met in
     omega (arith, a, b)
-
-pub turned-cross : (side : Side) (d n : PlanePoint) → cross (turned side d) (turned side n) ≡ cross d n
-turned-cross Right d n = refl
-turned-cross Top d n = read (d.x ∷ d.y ∷ n.x ∷ n.y ∷ []) (λ xs a b c d. simp (a, b, c, d, polys) (den-ring xs _ _ tt))
-turned-cross Left d n = read (d.x ∷ d.y ∷ n.x ∷ n.y ∷ []) (λ xs a b c d. simp (a, b, c, d, polys) (den-ring xs _ _ tt))
-turned-cross Bottom d n = read (d.x ∷ d.y ∷ n.x ∷ n.y ∷ []) (λ xs a b c d. simp (a, b, c, d, polys) (den-ring xs _ _ tt))
 
 -- the next direction is to the left
 pub next_turns : (side : Side) (d n : Direction) → IsNext d n → pos 0 <ℤ cross (turned side (direction_of d)) (turned side (direction_of n))

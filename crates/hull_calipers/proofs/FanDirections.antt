@@ -19,9 +19,9 @@ use Rattle.hull_calipers.specs.Vectors.{direction_of}
 use Rattle.hull_calipers.specs.Supports.{aligned, turned, next_side, IsUpper}
 use Rattle.hull_calipers.specs.CaliperMoves.{IsLimited}
 use Rattle.hull_calipers.specs.Fans.{IsHalfDirection, IsQuarterDirection}
-use Rattle.hull_calipers.proofs.Turning.{dot-turned}
+use Rattle.hull_calipers.proofs.SeenVectors.{dot-turned, opposite_dot}
 use Rattle.hull_calipers.proofs.NextDirections.{IsNext}
-use Rattle.hull_calipers.proofs.AntipodalPairs.{IsTurningPair, MeetsOne, meets_edge, opposite_dot}
+use Rattle.hull_calipers.proofs.AntipodalPairs.{IsTurningPair, MeetsOne, meets_edge}
 
 -- ---- lowest terms and limits
 
