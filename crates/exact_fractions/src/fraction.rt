@@ -73,6 +73,7 @@ impl Frac {
         requires numerator { n ≤ 2 ^ 126 }
         requires denominator { d ≤ 2 ^ 126 }
         ensures value { IsTrue result ↔ SameValue self.now (record { n = pos n; d = pos d }) }
+        ensures lowest { IsFraction self.now }
         ensures within { IsTrue result → (self.now.n ≤ℤ pos n) × (self.now.d ≤ℤ pos d) }
     {
         let ratio = Frac::new(n, d);

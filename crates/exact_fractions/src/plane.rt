@@ -63,7 +63,8 @@ impl Homog2 {
         requires y { IsNumber y }
         requires w { IsNumber w }
         requires some { pos 1 ≤ℤ w }
-        ensures { IsTrue result ↔ SamePlace (flat_ratio self.now) (flat_ratio (record { x = x; y = y; w = w })) }
+        ensures place { IsTrue result ↔ SamePlace (flat_ratio self.now) (flat_ratio (record { x = x; y = y; w = w })) }
+        ensures lowest { IsPlaneRatio self.now }
     {
         let place = Homog2::new(x, y, w);
         self.w() == place.w() && *self == place

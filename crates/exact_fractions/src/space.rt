@@ -59,7 +59,8 @@ impl Homog3 {
         requires z { IsNumber z }
         requires w { IsNumber w }
         requires some { pos 1 ≤ℤ w }
-        ensures { IsTrue result ↔ SamePlace self.now (record { x = x; y = y; z = z; w = w }) }
+        ensures place { IsTrue result ↔ SamePlace self.now (record { x = x; y = y; z = z; w = w }) }
+        ensures lowest { IsSpaceRatio self.now }
     {
         let place = Homog3::new(x, y, z, w);
         self.w() == place.w() && *self == place

@@ -17,3 +17,4 @@ pub mod ParallelAxis
 pub mod Cone
 pub mod Circles
 pub mod Cramer
+pub mod Lists

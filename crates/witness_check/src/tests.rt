@@ -56,9 +56,34 @@ fn kinds_and_sets(rt: HostRuntime) {
     };
     assert!(rt; check_centres(plane, 1, &square), "a square");
     let circle = Answer::Circle(circle_at_the_origin(Frac::new(0, 1), 1));
-    assert_eq!(rt; check(alloc, &Ask::Circle, Sets::Plane(plane), &circle), Ok(true), "a circle");
-    assert_eq!(rt; check(alloc, &Ask::Circle, Sets::Space(space), &circle), Ok(false), "a point of space");
-    assert_eq!(rt; check(alloc, &Ask::Circle, Sets::Bare, &circle), Ok(false), "no points");
-    assert_eq!(rt; check(alloc, &Ask::Sphere, Sets::Space(space), &circle), Ok(false), "another kind");
-    assert_eq!(rt; check(alloc, &Ask::Sphere, Sets::Two(space, space), &Answer::Sphere(sphere_at_the_origin())), Ok(false), "two sets");
+    assert_eq!(rt;
+        check(alloc, &Ask::Circle, Sets::Plane(plane), &circle),
+        Ok(true),
+        "a circle"
+    );
+    assert_eq!(rt;
+        check(alloc, &Ask::Circle, Sets::Space(space), &circle),
+        Ok(false),
+        "a point of space"
+    );
+    assert_eq!(rt;
+        check(alloc, &Ask::Circle, Sets::Bare, &circle),
+        Ok(false),
+        "no points"
+    );
+    assert_eq!(rt;
+        check(alloc, &Ask::Sphere, Sets::Space(space), &circle),
+        Ok(false),
+        "another kind"
+    );
+    assert_eq!(rt;
+        check(
+            alloc,
+            &Ask::Sphere,
+            Sets::Two(space, space),
+            &Answer::Sphere(sphere_at_the_origin())
+        ),
+        Ok(false),
+        "two sets"
+    );
 }

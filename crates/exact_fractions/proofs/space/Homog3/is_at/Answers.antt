@@ -5,8 +5,8 @@ use Rattle.integers.proofs.Order.{positive_from_one}
 use Rattle.exact_fractions.proofs.UniqueForms.{has_space_place, space_ratio_same}
 use Rattle.exact_fractions.proofs.space.Homog3.is_at.Goals as goal
 
-pub returns-then-w : goal.returns-then-w
-returns-then-w c =
+pub returns-then-w-clause-place : goal.returns-then-w-clause-place
+returns-then-w-clause-place c =
     let fits_x : FitsSigned w128 c.args.x = search rules in
     let fits_y : FitsSigned w128 c.args.y = search rules in
     let fits_z : FitsSigned w128 c.args.z = search rules in
@@ -16,8 +16,8 @@ returns-then-w c =
     let is = has_space_place c.args.self.now c.new-place.result (record { x = c.args.x; y = c.args.y; z = c.args.z; w = c.args.w }) (positive_from_one c.requires.some) c.new-place.ensures.lowest place in
     (λ yes. (is.1 (same.0 yes)).1, λ h. same.1 (is.0 (c.w.ensures.lowest, h)))
 
-pub returns-else-w : goal.returns-else-w
-returns-else-w c =
+pub returns-else-w-clause-place : goal.returns-else-w-clause-place
+returns-else-w-clause-place c =
     let fits_x : FitsSigned w128 c.args.x = search rules in
     let fits_y : FitsSigned w128 c.args.y = search rules in
     let fits_z : FitsSigned w128 c.args.z = search rules in

@@ -1,0 +1,12 @@
+//! Directions of the plane and points, in machine numbers: products that stay within 64 bits for directions with coordinates of
+//! at most 400000.
+//!
+//! - `products`: how far out points lie, triangles, and lengths
+//! - `spans`: the bounds of points along a direction
+#![tactic(auto)]
+
+mod products;
+mod spans;
+
+pub use products::{along, beyond, cross, quarter_turn, reach, squared_length, turn};
+pub use spans::span;

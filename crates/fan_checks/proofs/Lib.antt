@@ -1,0 +1,5 @@
+pub mod FanLoops
+pub mod Widths
+pub mod FanPlaces
+pub mod StripPassing
+pub mod RectanglePassing

@@ -1,0 +1,22 @@
+use Rattle.std.proofs.Common.{subst, sym, All}
+use Rattle.bounds_model.specs.Plane.{dot}
+use Rattle.bounds_model.specs.Strip.{IsInSpan}
+use Rattle.bounds_model.specs.Asks.{ask_rectangle, plane}
+use Rattle.bounds_model.specs.Answers.{rectangle}
+use Rattle.bounded_coords.specs.Clouds.{points_of}
+use Rattle.answers.specs.Answers.{rectangle_of}
+use Rattle.fan_checks.proofs.RectanglePassing.{rectangle_passes}
+use Rattle.fan_checks.proofs.rectangles.check_rectangle.Goals as goal
+
+pub returns-clause-passes : goal.returns-clause-passes
+returns-clause-passes c =
+    let points = points_of c.args.cloud in
+    let a = rectangle_of c.args.a.now in (
+      λ same. rectangle_passes points a c.args.cloud.limited c.has_size.ensures.lowest (c.is_quarter_within_limits.ensures.0 c.if-not-is_quarter_within_limits.false) (c.is_normal_within_limits.ensures.0 c.if-not-is_normal_within_limits.false)
+          (c.is_short_span.ensures.0 c.if-not-is_short_span.false) (c.has_size.ensures.value.0 c.if-not-has_size.false) (c.holds_quarter.ensures.0 c.if-not-holds_quarter.false) (c.is_none_smaller.ensures.0 c.if-not-is_none_smaller.false)
+          (c.are_in_span.ensures.0 c.if-not-are_in_span.false) (subst (λ d. All (λ p. IsInSpan a.across (dot d p)) points) c.quarter_turn.ensures.value (c.are_in_span-2.ensures.0 same)),
+      λ passes. c.are_in_span-2.ensures.1 (subst (λ d. All (λ p. IsInSpan a.across (dot d p)) points) (sym c.quarter_turn.ensures.value) passes.inside_across),
+    )
+
+pub returns-clause-best : goal.returns-clause-best
+returns-clause-best c = λ same. c.passing_answers_are_best.ensures ask_rectangle (plane (points_of c.args.cloud)) (rectangle (rectangle_of c.args.a.now)) ((returns-clause-passes c).0 same)

@@ -1,0 +1,208 @@
+-- A point that is below an arc at the place that decides for it is below the whole arc.
+use Rattle.std.proofs.Common.{◌≡◌, sym, ◌∙◌, subst, ap, ◌⊎◌, inl, inr, ℕ, zero, suc, ◌+◌, ◌<◌, ◌≤◌, ℤ, pos, neg_ℤ, ◌+ℤ◌, ◌-ℤ◌, ◌*ℤ◌, ◌≤ℤ◌, ◌<ℤ◌, [], ◌∷◌, arith, add-one}
+use Rattle.std.proofs.lemmas.Int.{ints}
+use Rattle.integers.proofs.Identities.{den-ring, read, polys, lits}
+use Rattle.integers.proofs.Order.{nonneg_mul, nonneg_add, nonneg_difference, nonneg_of_mul, nonneg_from_positive, le_trans_ℤ, le_of_same, le_antisymm_ℤ, le_by}
+use Rattle.std.specs.Prelude.{List}
+use Rattle.std.proofs.lemmas.List.Elements.{All-contains}
+use Rattle.bounds_model.specs.Plane.{PlanePoint, dot, cross, vector}
+use Rattle.fan_test.specs.Chains.{Turns, IsBelowAll, IsBelowArc, IsArc, AreEdges, IsPlaceFor, AreListed, Encloses}
+
+-- ---- three directions
+
+-- of three vectors, the middle one as a sum of the others, along w
+between_is : (ux uy dx dy ex ey wx wy : ℤ)
+    → (ux *ℤ ey -ℤ uy *ℤ ex) *ℤ (dx *ℤ wx +ℤ dy *ℤ wy) ≡ (dx *ℤ ey -ℤ dy *ℤ ex) *ℤ (ux *ℤ wx +ℤ uy *ℤ wy) +ℤ (ux *ℤ dy -ℤ uy *ℤ dx) *ℤ (ex *ℤ wx +ℤ ey *ℤ wy)
+between_is ux uy dx dy ex ey wx wy = read (ux ∷ uy ∷ dx ∷ dy ∷ ex ∷ ey ∷ wx ∷ wy ∷ []) (λ xs a b c d e f g h. simp (a, b, c, d, e, f, g, h, polys) (den-ring xs _ _ tt))
+
+-- and the last as the second less the first
+beyond_is : (ux uy dx dy ex ey wx wy : ℤ)
+    → (ux *ℤ dy -ℤ uy *ℤ dx) *ℤ (ex *ℤ wx +ℤ ey *ℤ wy) ≡ (ux *ℤ ey -ℤ uy *ℤ ex) *ℤ (dx *ℤ wx +ℤ dy *ℤ wy) +ℤ (dx *ℤ ey -ℤ dy *ℤ ex) *ℤ neg_ℤ (ux *ℤ wx +ℤ uy *ℤ wy)
+beyond_is ux uy dx dy ex ey wx wy = read (ux ∷ uy ∷ dx ∷ dy ∷ ex ∷ ey ∷ wx ∷ wy ∷ []) (λ xs a b c d e f g h. simp (a, b, c, d, e, f, g, h, polys) (den-ring xs _ _ tt))
+
+-- the product with a difference
+dot_vector : (d p q : PlanePoint) → dot d (vector p q) ≡ dot d q -ℤ dot d p
+dot_vector d p q = parts d.x d.y p.x p.y q.x q.y
+  where
+    parts : (dx dy px py qx qy : ℤ) → dx *ℤ (qx -ℤ px) +ℤ dy *ℤ (qy -ℤ py) ≡ (dx *ℤ qx +ℤ dy *ℤ qy) -ℤ (dx *ℤ px +ℤ dy *ℤ py)
+    parts dx dy px py qx qy = read (dx ∷ dy ∷ px ∷ py ∷ qx ∷ qy ∷ []) (λ xs a b c d e f. simp (a, b, c, d, e, f, polys) (den-ring xs _ _ tt))
+
+-- q is at least as far along d as p
+further : (d p q : PlanePoint) → dot d p ≤ℤ dot d q → pos 0 ≤ℤ dot d (vector p q)
+further d p q h = subst (λ z. pos 0 ≤ℤ z) (sym (dot_vector d p q)) (nonneg_difference h)
+
+of_further : (d p q : PlanePoint) → pos 0 ≤ℤ dot d (vector p q) → dot d p ≤ℤ dot d q
+of_further d p q h = le_by h (sym (dot_vector d p q))
+
+turned_around : {a : ℤ} → a ≤ℤ pos 0 → pos 0 ≤ℤ neg_ℤ a
+turned_around h = omega (arith, ints)
+
+-- where q is as far along u as p, and along e, so it is along d between them
+pub between : (u d e p q : PlanePoint) → pos 0 <ℤ cross u e → pos 0 ≤ℤ cross u d → pos 0 ≤ℤ cross d e → dot u p ≤ℤ dot u q → dot e p ≤ℤ dot e q → dot d p ≤ℤ dot d q
+between u d e p q ue ud de hu he =
+    let w = vector p q in
+    of_further d p q
+    (nonneg_of_mul (cross u e) ue
+    (subst (λ z. pos 0 ≤ℤ z) (sym (between_is u.x u.y d.x d.y e.x e.y w.x w.y)) (nonneg_add (nonneg_mul de (further u p q hu)) (nonneg_mul ud (further e p q he)))))
+
+-- where q is as far along d as p, and not further along u, it is as far along e, which is to the left of both
+pub beyond : (u d e p q : PlanePoint) → pos 0 <ℤ cross u d → pos 0 ≤ℤ cross u e → pos 0 ≤ℤ cross d e → dot u q ≤ℤ dot u p → dot d p ≤ℤ dot d q → dot e p ≤ℤ dot e q
+beyond u d e p q ud ue de hu hd =
+    let w = vector p q in
+    let back : pos 0 ≤ℤ neg_ℤ (dot u w) = turned_around (subst (λ z. z ≤ℤ pos 0) (sym (dot_vector u p q)) (lower hu)) in
+    of_further e p q
+    (nonneg_of_mul (cross u d) ud
+    (subst (λ z. pos 0 ≤ℤ z) (sym (beyond_is u.x u.y d.x d.y e.x e.y w.x w.y)) (nonneg_add (nonneg_mul ue (further d p q hd)) (nonneg_mul de back))))
+  where
+    lower : {a b : ℤ} → b ≤ℤ a → (b -ℤ a) ≤ℤ pos 0
+    lower h = omega (arith, ints)
+
+-- where p is as far along e as q, and not further along d, it is not further along u
+pub before : (u d e p q : PlanePoint) → pos 0 <ℤ cross d e → pos 0 <ℤ cross u e → pos 0 ≤ℤ cross u d → dot e p ≡ dot e q → dot d p ≤ℤ dot d q → dot u p ≤ℤ dot u q
+before u d e p q de ue ud he hd =
+    let w = vector p q in
+    let flat : dot e w ≡ pos 0 = dot_vector e p q ∙ none he in
+    of_further u p q (nonneg_of_mul (cross d e) de (less (cross u d) (dot e w) (subst (λ z. pos 0 ≤ℤ z) (between_is u.x u.y d.x d.y e.x e.y w.x w.y) (nonneg_mul (nonneg_from_positive ue) (further d p q hd))) flat))
+  where
+    none : {a b : ℤ} → a ≡ b → b -ℤ a ≡ pos 0
+    none e = omega (arith, ints)
+
+    less : {a : ℤ} (b c : ℤ) → pos 0 ≤ℤ (a +ℤ b *ℤ c) → c ≡ pos 0 → pos 0 ≤ℤ a
+    less {a} b c h e = subst (λ z. pos 0 ≤ℤ z) (dropped a b) (subst (λ z. pos 0 ≤ℤ (a +ℤ b *ℤ z)) e h)
+      where
+        dropped : (a b : ℤ) → a +ℤ b *ℤ pos 0 ≡ a
+        dropped a b = read (a ∷ b ∷ []) (λ xs r s. simp (r, s, polys, lits xs) (den-ring xs _ _ tt))
+
+-- ---- along an arc
+
+-- p is below the point before the direction of the next cone, and the point after that direction is not further along the first direction than p
+record IsPassed (D H : ℕ → PlanePoint) (from : ℕ) (p : PlanePoint) (i : ℕ) : Type 0 where
+  out : dot (D (i + 1)) p ≤ℤ dot (D (i + 1)) (H (i + 1))
+  along : dot (D from) (H (i + 1)) ≤ℤ dot (D from) p
+
+-- so it goes on
+passed_step : (D H : ℕ → PlanePoint) (from to : ℕ) (p : PlanePoint) → Turns D to → IsArc D H from to → (i : ℕ) → from ≤ i → i + 1 + 1 < to → IsPassed D H from p i → IsPassed D H from p (i + 1)
+passed_step D H from to p turns arc i low high h =
+    let edge = arc.edges (i + 1) (omega arith) high in
+    let reached = beyond (D from) (D (i + 1)) (D (i + 1 + 1)) p (H (i + 1)) (arc.left i low (omega arith)) (nonneg_from_positive (arc.left (i + 1) (omega arith) high)) (nonneg_from_positive (turns (i + 1) (omega arith))) h.along h.out in
+    record {
+      out = le_trans_ℤ reached (le_of_same edge.level);
+      along = le_trans_ℤ edge.falling h.along;
+    }
+
+-- of two numbers in order, the first is below the second, or they are equal
+below_or_same : (i j : ℕ) → i ≤ suc j → (i ≤ j) ⊎ (i ≡ suc j)
+below_or_same i j h = grind arith
+
+passed_from : (D H : ℕ → PlanePoint) (from to : ℕ) (p : PlanePoint) → Turns D to → IsArc D H from to → (i : ℕ) → from ≤ i → IsPassed D H from p i → (j : ℕ) → i ≤ j → j + 1 < to → IsPassed D H from p j
+passed_from D H from to p turns arc i low h zero above high = subst (λ k. IsPassed D H from p k) (none i above) h
+  where
+    none : (i : ℕ) → i ≤ 0 → i ≡ 0
+    none i h = omega arith
+passed_from D H from to p turns arc i low h (suc j) above high = elim (below_or_same i j above) [
+  | inl less ↦ subst (λ k. IsPassed D H from p k) (add-one j) (passed_step D H from to p turns arc j (omega arith) (omega arith) (passed_from D H from to p turns arc i low h j less (omega arith)))
+  | inr same ↦ subst (λ k. IsPassed D H from p k) same h
+]
+
+-- p is below the point after the direction of the next cone, and not further along the first direction than the point before it
+record IsAwaited (D H : ℕ → PlanePoint) (from : ℕ) (p : PlanePoint) (i : ℕ) : Type 0 where
+  out : dot (D (i + 1)) p ≤ℤ dot (D (i + 1)) (H (i + 1))
+  along : dot (D from) p ≤ℤ dot (D from) (H i)
+
+-- so it was before
+awaited_step : (D H : ℕ → PlanePoint) (from to : ℕ) (p : PlanePoint) → Turns D to → IsArc D H from to → (i : ℕ) → from ≤ i → i + 1 + 1 < to → IsAwaited D H from p (i + 1) → IsAwaited D H from p i
+awaited_step D H from to p turns arc i low high h =
+    let edge = arc.edges i low (omega arith) in
+    let next = arc.edges (i + 1) (omega arith) high in
+    record {
+      out = between (D from) (D (i + 1)) (D (i + 1 + 1)) p (H (i + 1)) (arc.left (i + 1) (omega arith) high) (nonneg_from_positive (arc.left i low (omega arith))) (nonneg_from_positive (turns (i + 1) (omega arith))) h.along (le_trans_ℤ h.out (le_of_same (sym next.level)));
+      along = le_trans_ℤ h.along edge.falling;
+    }
+
+awaited_from : (D H : ℕ → PlanePoint) (from to : ℕ) (p : PlanePoint) → Turns D to → IsArc D H from to → (i : ℕ) → i + 1 < to → IsAwaited D H from p i → (j : ℕ) → from ≤ j → j ≤ i → IsAwaited D H from p j
+awaited_from D H from to p turns arc zero high h j low below = subst (λ k. IsAwaited D H from p k) (none j below) h
+  where
+    none : (j : ℕ) → j ≤ 0 → 0 ≡ j
+    none j h = omega arith
+awaited_from D H from to p turns arc (suc i) high h j low below = elim (below_or_same j i below) [
+  | inl less ↦ awaited_from D H from to p turns arc i (omega arith) (awaited_step D H from to p turns arc i (omega arith) (omega arith) (subst (λ k. IsAwaited D H from p k) (sym (add-one i)) h)) j low less
+  | inr same ↦ subst (λ k. IsAwaited D H from p k) (sym same) h
+]
+
+-- along the first direction the points of an arc stand in order
+pub falls : (D H : ℕ → PlanePoint) (from to : ℕ) → IsArc D H from to → (i j : ℕ) → from ≤ i → i ≤ j → j < to → dot (D from) (H j) ≤ℤ dot (D from) (H i)
+falls D H from to arc i zero low above high = le_of_same (ap (λ k. dot (D from) (H k)) (none i above))
+  where
+    none : (i : ℕ) → i ≤ 0 → 0 ≡ i
+    none i h = omega arith
+falls D H from to arc i (suc j) low above high = elim (below_or_same i j above) [
+  | inl less ↦ subst (λ k. dot (D from) (H k) ≤ℤ dot (D from) (H i)) (add-one j) (le_trans_ℤ (arc.edges j (omega arith) (omega arith)).falling (falls D H from to arc i j low less (omega arith)))
+  | inr same ↦ le_of_same (ap (λ k. dot (D from) (H k)) (sym same))
+]
+
+three_ways : (i j : ℕ) → (i < j) ⊎ ((i ≡ j) ⊎ (j < i))
+three_ways i j = grind arith
+
+-- at a place that decides, one direction decides for all between the first and the last
+inner : (D H : ℕ → PlanePoint) (from to : ℕ) (p : PlanePoint) (i : ℕ) → Turns D to → IsArc D H from to → IsPlaceFor D H from to p i → dot (D (i + 1)) p ≤ℤ dot (D (i + 1)) (H (i + 1))
+    → (j : ℕ) → from ≤ j → j + 1 < to → dot (D (j + 1)) p ≤ℤ dot (D (j + 1)) (H (j + 1))
+inner D H from to p i turns arc place h j low high = elim (three_ways i j) [
+  | inl above ↦ (passed_from D H from to p turns arc i place.after (record { out = h; along = passes place.end above }) j (omega arith) high).out
+  | inr rest ↦ elim rest [
+    | inl same ↦ subst (λ k. dot (D (k + 1)) p ≤ℤ dot (D (k + 1)) (H (k + 1))) same h
+    | inr below ↦ (awaited_from D H from to p turns arc i place.before (record { out = h; along = awaits place.begin below }) j low (omega arith)).out
+  ]
+]
+  where
+    passes : (i + 2 ≡ to) ⊎ (dot (D from) (H (i + 1)) ≤ℤ dot (D from) p) → i < j → dot (D from) (H (i + 1)) ≤ℤ dot (D from) p
+    passes (inl e) less = absurd (omega (arith, high))
+    passes (inr l) less = l
+
+    awaits : (i ≡ from) ⊎ (dot (D from) p ≤ℤ dot (D from) (H i)) → j < i → dot (D from) p ≤ℤ dot (D from) (H i)
+    awaits (inl e) less = absurd (omega (arith, low))
+    awaits (inr l) less = l
+
+-- below the first direction, the last and the inner ones is below the arc
+pub below_arc : (D H : ℕ → PlanePoint) (from to : ℕ) (p : PlanePoint) → IsArc D H from to
+    → dot (D from) p ≤ℤ dot (D from) (H from)
+    → ((j : ℕ) → j + 1 ≡ to → dot (D to) p ≤ℤ dot (D to) (H j))
+    → ((j : ℕ) → from ≤ j → j + 1 < to → dot (D (j + 1)) p ≤ℤ dot (D (j + 1)) (H (j + 1)))
+    → IsBelowArc D H from to p
+below_arc D H from to p arc first last middle j low high = record { begin = begins j low high; end = ends (last_or_not (j + 1) to (omega arith)) }
+  where
+    last_or_not : (i j : ℕ) → i ≤ j → (i < j) ⊎ (i ≡ j)
+    last_or_not i j h = grind arith
+
+    ends : (j + 1 < to) ⊎ (j + 1 ≡ to) → dot (D (j + 1)) p ≤ℤ dot (D (j + 1)) (H j)
+    ends (inl less) = le_trans_ℤ (middle j low less) (le_of_same (sym (arc.edges j low less).level))
+    ends (inr same) = subst (λ k. dot (D k) p ≤ℤ dot (D k) (H j)) (sym same) (last j same)
+
+    begins : (j : ℕ) → from ≤ j → j < to → dot (D j) p ≤ℤ dot (D j) (H j)
+    begins zero low high = subst (λ k. dot (D k) p ≤ℤ dot (D k) (H k)) (none from low) first
+      where
+        none : (i : ℕ) → i ≤ 0 → i ≡ 0
+        none i h = omega arith
+    begins (suc j) low high = elim (below_or_same from j low) [
+      | inl less ↦ subst (λ k. dot (D k) p ≤ℤ dot (D k) (H k)) (add-one j) (middle j less (omega arith))
+      | inr same ↦ subst (λ k. dot (D k) p ≤ℤ dot (D k) (H k)) same first
+    ]
+
+-- with inner directions: one of them decides
+pub below_by_place : (D H : ℕ → PlanePoint) (from to : ℕ) (p : PlanePoint) (i : ℕ) → Turns D to → IsArc D H from to
+    → dot (D from) p ≤ℤ dot (D from) (H from)
+    → ((j : ℕ) → j + 1 ≡ to → dot (D to) p ≤ℤ dot (D to) (H j))
+    → IsPlaceFor D H from to p i → dot (D (i + 1)) p ≤ℤ dot (D (i + 1)) (H (i + 1))
+    → IsBelowArc D H from to p
+below_by_place D H from to p i turns arc first last place h = below_arc D H from to p arc first last (inner D H from to p i turns arc place h)
+
+-- ---- the edges of a chain that encloses its points
+
+pub edges_enclosing : (cloud : List PlanePoint) (D H : ℕ → PlanePoint) (cones from : ℕ) → Turns D cones → AreListed cloud H cones → Encloses cloud D H cones → AreEdges D H from cones
+edges_enclosing cloud D H cones from turns listed all i low high aside left =
+    let at = All-contains (IsBelowAll D H cones) cloud (H i) all (listed i (omega arith)) in
+    let next = All-contains (IsBelowAll D H cones) cloud (H (i + 1)) all (listed (i + 1) high) in
+    let level = le_antisymm_ℤ (at (i + 1) high).begin (next i (omega arith)).end in
+    record {
+      level = level;
+      falling = before (D from) (D i) (D (i + 1)) (H (i + 1)) (H i) (turns i (omega arith)) left aside (sym level) (next i (omega arith)).begin;
+    }

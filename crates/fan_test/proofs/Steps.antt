@@ -1,0 +1,84 @@
+-- How arcs grow, one direction after another, and chains, one arc after another.
+use Rattle.std.proofs.Common.{◌≡◌, sym, subst, ◌⊎◌, inl, inr, ◌↔◌, ℕ, ◌+◌, ◌-◌, ◌<◌, ◌≤◌, pos, ◌*ℤ◌, ◌-ℤ◌, ◌≤ℤ◌, ◌<ℤ◌, ℤ, [], ◌∷◌, arith, IsTrue, Bool}
+use Rattle.std.specs.Prelude.{List, All}
+use Rattle.integers.proofs.Identities.{den-ring, read, polys, lits}
+use Rattle.integers.proofs.Order.{nonneg_from_positive, le_of_same}
+use Rattle.bounds_model.specs.Plane.{PlanePoint, cross}
+use Rattle.fan_test.specs.Chains.{Turns, IsBelowAll, IsBelowArc, IsLevel, IsArc, AreEdges, Encloses}
+
+-- a statement on vectors, for others that are the same
+pub same_level : {yes : Bool} {u v n m p q r s : PlanePoint} → u ≡ v → n ≡ m → p ≡ q → r ≡ s → (IsTrue yes ↔ IsLevel u n p r) → IsTrue yes ↔ IsLevel v m q s
+same_level {yes} {u} {v} {n} {m} {p} {q} {r} {s} e f g h t =
+    let same : IsLevel u n p r ≡ IsLevel v m q s = λ i. IsLevel (e i) (f i) (g i) (h i) in
+    subst (λ P. IsTrue yes ↔ P) same t
+
+-- no vector is to the left of itself
+aside : (u : PlanePoint) → cross u u ≡ pos 0
+aside u = none u.x u.y
+  where
+    none : (x y : ℤ) → x *ℤ y -ℤ y *ℤ x ≡ pos 0
+    none x y = read (x ∷ y ∷ []) (λ xs a b. simp (a, b, polys, lits xs) (den-ring xs _ _ tt))
+
+before_or_at : (i j : ℕ) → i < j + 1 → (i < j) ⊎ (i ≡ j)
+before_or_at i j h = grind arith
+
+-- the direction before the end of an arc is not to the right of the first
+beside : (D H : ℕ → PlanePoint) (from to k : ℕ) → to ≡ k + 1 → from < to → IsArc D H from to → pos 0 ≤ℤ cross (D from) (D k)
+beside D H from to k is some arc = elim (first_or_later k is) [
+  | inl same ↦ subst (λ j. pos 0 ≤ℤ cross (D from) (D j)) same (le_of_same (sym (aside (D from))))
+  | inr later ↦ subst (λ j. pos 0 ≤ℤ cross (D from) (D j)) later.1.1 (nonneg_from_positive (arc.left later.0 later.1.0 (omega (arith, later.1.1))))
+]
+  where
+    first_or_later : (k : ℕ) → to ≡ k + 1 → (from ≡ k) ⊎ ((j : ℕ) × ((from ≤ j) × (j + 1 ≡ k)))
+    first_or_later k is = elim (before_or_at from k (omega arith)) [ inl less ↦ inr (k - 1, (omega arith, omega arith)) | inr same ↦ inl same ]
+
+-- what the edge at the end of an arc is, if there are edges
+edge_by : (D H : ℕ → PlanePoint) (from to cones k : ℕ) → to ≡ k + 1 → from < to → to < cones → IsArc D H from to → pos 0 <ℤ cross (D from) (D to) → AreEdges D H from cones → IsLevel (D from) (D to) (H k) (H to)
+edge_by D H from to cones k is some below arc left edges =
+    subst (λ j. IsLevel (D from) (D j) (H k) (H j)) (sym is) (edges k (omega arith) (omega arith) (beside D H from to k is some arc) (subst (λ j. pos 0 <ℤ cross (D from) (D j)) is left))
+
+pub edge_at : (D H : ℕ → PlanePoint) (from to cones : ℕ) → from < to → to < cones → IsArc D H from to → pos 0 <ℤ cross (D from) (D to) → AreEdges D H from cones → IsLevel (D from) (D to) (H (to - 1)) (H to)
+edge_at D H from to cones some below arc left edges = edge_by D H from to cones (to - 1) (omega arith) some below arc left edges
+
+-- with the next direction to the left of the first, and an edge, an arc is longer
+arc_by : (D H : ℕ → PlanePoint) (from to k : ℕ) → to ≡ k + 1 → IsArc D H from to → pos 0 <ℤ cross (D from) (D to) → IsLevel (D from) (D to) (H k) (H to) → IsArc D H from (to + 1)
+arc_by D H from to k is arc left edge = record { left = lefts; edges = levels }
+  where
+    at_end : (i : ℕ) → i + 1 ≡ to → i ≡ k
+    at_end i e = omega arith
+
+    lefts : (i : ℕ) → from ≤ i → i + 1 < to + 1 → pos 0 <ℤ cross (D from) (D (i + 1))
+    lefts i low high = elim (before_or_at (i + 1) to high) [
+      | inl less ↦ arc.left i low less
+      | inr same ↦ subst (λ j. pos 0 <ℤ cross (D from) (D j)) (sym same) left
+    ]
+
+    levels : (i : ℕ) → from ≤ i → i + 1 < to + 1 → IsLevel (D from) (D (i + 1)) (H i) (H (i + 1))
+    levels i low high = elim (before_or_at (i + 1) to high) [
+      | inl less ↦ arc.edges i low less
+      | inr same ↦ subst (λ j. IsLevel (D from) (D j) (H i) (H j)) (sym same) (subst (λ j. IsLevel (D from) (D to) (H j) (H to)) (sym (at_end i same)) edge)
+    ]
+
+pub arc_more : (D H : ℕ → PlanePoint) (from to : ℕ) → from < to → IsArc D H from to → pos 0 <ℤ cross (D from) (D to) → IsLevel (D from) (D to) (H (to - 1)) (H to) → IsArc D H from (to + 1)
+arc_more D H from to some arc left edge = arc_by D H from to (to - 1) (omega arith) arc left edge
+
+-- each number below i + 1
+pub turns_more : (D : ℕ → PlanePoint) (i : ℕ) → Turns D i → pos 0 <ℤ cross (D i) (D (i + 1)) → Turns D (i + 1)
+turns_more D i before here k less = elim (before_or_at k i less) [
+  | inl lower ↦ before k lower
+  | inr same ↦ subst (λ j. pos 0 <ℤ cross (D j) (D (j + 1))) (sym same) here
+]
+
+-- points below the cones so far, and below the next arc
+pub below_more : (cloud : List PlanePoint) (D H : ℕ → PlanePoint) (from to : ℕ) → All (IsBelowAll D H from) cloud → All (IsBelowArc D H from to) cloud → All (IsBelowAll D H to) cloud
+below_more cloud D H from to before here k d listed i less = elim (split i) [
+  | inl lower ↦ before k d listed i lower
+  | inr higher ↦ here k d listed i higher less
+]
+  where
+    split : (i : ℕ) → (i < from) ⊎ (from ≤ i)
+    split i = grind arith
+
+-- points below all cones are below those of an arc
+pub below_part : (cloud : List PlanePoint) (D H : ℕ → PlanePoint) (from to cones : ℕ) → to ≤ cones → Encloses cloud D H cones → All (IsBelowArc D H from to) cloud
+below_part cloud D H from to cones limit all k d listed i low high = all k d listed i (omega arith)

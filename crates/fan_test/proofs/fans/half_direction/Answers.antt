@@ -1,0 +1,7 @@
+use Rattle.std.proofs.Common.{sym}
+use Rattle.answers.specs.Answers.{half_cone_of, vector_of}
+use Rattle.fan_test.proofs.FanLists.{direction_at}
+use Rattle.fan_test.proofs.fans.half_direction.Goals as goal
+
+pub returns : goal.returns
+returns c = let fan = c.args.fan.now in sym (direction_at half_cone_of (λ cone. cone.direction) fan.cones (vector_of fan.last) c.args.i c.at.result c.at.ensures)

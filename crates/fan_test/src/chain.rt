@@ -1,0 +1,195 @@
+//! Chains, and whether their points are furthest out.
+ghost use Rattle.std.specs.Prelude.{◌≡◌, ◌↔◌, ◌+◌, ◌<◌, ◌≤◌, ℕ, IsTrue, IfSome, IsNone, All, ◌≤ℤ◌};
+ghost use Rattle.bounds_model.specs.Plane.{PlanePoint, dot as product};
+ghost use Rattle.bounds_model.specs.Fans.{IsShort};
+ghost use Rattle.bounded_coords.specs.Clouds.{points_of};
+ghost use Rattle.fan_test.specs.Directions.{direction_of};
+ghost use Rattle.fan_test.specs.Chains.{Turns, Leads, AreListed, Encloses, IsBelowArc, IsLevel, IsArc, AreEdges, IsPlaceFor};
+
+use crate::direction::Direction;
+use bounded_coords::{Cloud2, Point2};
+
+/// Directions with a cone from each to the next, and a point for each cone.
+pub trait Chain {
+    ghost cones: { Self → ℕ };
+
+    ghost directions: { Self → ℕ → PlanePoint };
+
+    ghost points: { Self → ℕ → PlanePoint };
+
+    /// How many cones there are.
+    fn len(&self) -> u32
+        ensures { result ≡ cones self.now };
+
+    /// The direction that cone i begins at, or the last one.
+    fn direction(&self, i: u32) -> Direction
+        requires { i ≤ cones self.now }
+        ensures value { direction_of result ≡ directions self.now i }
+        ensures short { IsShort (direction_of result) };
+
+    /// The point of cone i.
+    fn point(&self, i: u32) -> Point2
+        requires { i < cones self.now }
+        ensures { result ≡ points self.now i };
+}
+
+/// The direction to the right.
+pub const EAST: Direction = Direction { x: 1, y: 0 };
+
+/// The direction upwards.
+pub const NORTH: Direction = Direction { x: 0, y: 1 };
+
+/// The direction to the left.
+pub const WEST: Direction = Direction { x: -1, y: 0 };
+
+/// Whether the directions lead from first to last, each to the left of the one before.
+pub fn leads<C: Chain>(chain: &C, first: Direction, last: Direction) -> bool
+    ensures { IsTrue result ↔ Leads (C.directions chain.now) (C.cones chain.now) (direction_of first) (direction_of last) }
+{
+    if !chain.direction(0).is(first) {
+        return false;
+    }
+    if !chain.direction(chain.len()).is(last) {
+        return false;
+    }
+    turns(chain)
+}
+
+/// Whether each direction is to the left of the one before.
+fn turns<C: Chain>(chain: &C) -> bool
+    ensures { IsTrue result ↔ Turns (C.directions chain.now) (C.cones chain.now) }
+{
+    for i in 0..chain.len() {
+        if chain.direction(i).cross(chain.direction(i + 1)) <= 0 {
+            return false;
+        }
+    }
+    true
+}
+
+/// Whether no point is further out than a cone's point, in each of the two directions that the cone is between.
+///
+/// Directions within half a turn of the first of them are an arc. Along that first direction the points of an arc stand in
+/// order, joined by edges that the other directions are normals of. So a point is below all of them if it is below the
+/// edge that it stands above, which is found by halving: n points and m cones take about n log m steps. A chain that
+/// winds around has an arc more for each half turn.
+pub fn encloses<C: Chain>(chain: &C, cloud: Cloud2<'_>) -> bool
+    requires turns { Turns (C.directions chain.now) (C.cones chain.now) }
+    requires listed { AreListed (points_of cloud) (C.points chain.now) (C.cones chain.now) }
+    ensures { IsTrue result ↔ Encloses (points_of cloud.entry) (C.directions chain.now) (C.points chain.now) (C.cones chain.now) }
+{
+    let mut from = 0;
+    'arcs: while from < chain.len() {
+        match arc_end(chain, from) {
+            None => return false,
+            Some(to) => {
+                if !are_below(chain, from, to, cloud) {
+                    return false;
+                }
+                from = to;
+            }
+        }
+    }
+    true
+}
+
+/// The end of the longest arc that begins at a cone, or None where two of its points are not joined by an edge.
+fn arc_end<C: Chain>(chain: &C, from: u32) -> Option<u32>
+    requires { from < C.cones chain.now }
+    ensures arc { IfSome result (λ to. (from < to) × (to ≤ C.cones chain.now) × IsArc (C.directions chain.now) (C.points chain.now) from to) }
+    ensures none { IsNone result → ¬ AreEdges (C.directions chain.now) (C.points chain.now) from (C.cones chain.now) }
+{
+    let first = chain.direction(from);
+    let end = chain.len();
+    'edges: for to in from + 1..end {
+        let normal = chain.direction(to);
+        if first.cross(normal) <= 0 {
+            return Some(to);
+        }
+        if !is_edge(first, normal, chain.point(to - 1), chain.point(to)) {
+            return None;
+        }
+    }
+    Some(end)
+}
+
+/// Whether two points are equally far out in the edge's direction, and the second is not further out in the first direction.
+fn is_edge(first: Direction, normal: Direction, before: Point2, after: Point2) -> bool
+    requires first { IsShort (direction_of first) }
+    requires normal { IsShort (direction_of normal) }
+    ensures { IsTrue result ↔ IsLevel (direction_of first) (direction_of normal) before after }
+{
+    normal.dot(before) == normal.dot(after) && first.dot(after) <= first.dot(before)
+}
+
+/// Whether all points are below an arc.
+fn are_below<C: Chain>(chain: &C, from: u32, to: u32, cloud: Cloud2<'_>) -> bool
+    requires turns { Turns (C.directions chain.now) (C.cones chain.now) }
+    requires some { from < to }
+    requires limit { to ≤ C.cones chain.now }
+    requires arc { IsArc (C.directions chain.now) (C.points chain.now) from to }
+    ensures { IsTrue result ↔ All (IsBelowArc (C.directions chain.now) (C.points chain.now) from to) (points_of cloud.entry) }
+{
+    for i in 0..cloud.len() {
+        if !is_below(chain, from, to, *cloud.at(i)) {
+            return false;
+        }
+    }
+    true
+}
+
+/// Whether a point is below an arc.
+fn is_below<C: Chain>(chain: &C, from: u32, to: u32, p: Point2) -> bool
+    requires turns { Turns (C.directions chain.now) (C.cones chain.now) }
+    requires some { from < to }
+    requires limit { to ≤ C.cones chain.now }
+    requires arc { IsArc (C.directions chain.now) (C.points chain.now) from to }
+    ensures { IsTrue result ↔ IsBelowArc (C.directions chain.now) (C.points chain.now) from to p }
+{
+    if !is_within(chain, from, from, p) {
+        return false;
+    }
+    if !is_within(chain, to, to - 1, p) {
+        return false;
+    }
+    if to - from == 1 {
+        return true;
+    }
+    let i = place_for(chain, from, to, p);
+    is_within(chain, i + 1, i + 1, p)
+}
+
+/// Whether a point is no further out in direction i than the point of cone k.
+fn is_within<C: Chain>(chain: &C, i: u32, k: u32, p: Point2) -> bool
+    requires direction { i ≤ C.cones chain.now }
+    requires cone { k < C.cones chain.now }
+    ensures { IsTrue result ↔ (product (C.directions chain.now i) p ≤ℤ product (C.directions chain.now i) (C.points chain.now k)) }
+{
+    let direction = chain.direction(i);
+    direction.dot(p) <= direction.dot(chain.point(k))
+}
+
+/// The place in an arc whose edge decides for a point.
+fn place_for<C: Chain>(chain: &C, from: u32, to: u32, p: Point2) -> u32
+    requires inner { from + 1 < to }
+    requires limit { to ≤ C.cones chain.now }
+    requires arc { IsArc (C.directions chain.now) (C.points chain.now) from to }
+    ensures { IsPlaceFor (C.directions chain.now) (C.points chain.now) from to p result }
+{
+    let first = chain.direction(from);
+    let along = first.dot(p);
+    let mut low = from;
+    let mut size = to - 1 - from;
+    'halves: while size > 1 {
+        let half = size / 2;
+        let middle = low + half;
+        // Either half leaves the same size, so that each point of an arc takes as many rounds.
+        low = if first.dot(chain.point(middle)) < along {
+            low
+        } else {
+            middle
+        };
+        size -= half;
+    }
+    low
+}
