@@ -52,6 +52,15 @@ fn quarter_of(alloc: Global, corners: &Corners<'_>) -> Result<QuarterFan, OutOfM
     counted_quarter::<Brand>(alloc, corners, Blank::new(1))
 }
 
+fn points_from(alloc: Global, places: &[(i64, i64)]) -> Option<Points2> {
+    let mut points = Points2::new(alloc);
+    for (x, y) in places {
+        let point = Point2::new(*x, *y)?;
+        points.push(point).ok()?;
+    }
+    Some(points)
+}
+
 #[test]
 fn small_hulls(rt: HostRuntime) -> Result<(), Fail> {
     let table = [
@@ -161,13 +170,9 @@ fn small_hulls(rt: HostRuntime) -> Result<(), Fail> {
         },
     ];
     for row in table {
-        let mut points = Points2::new(rt.alloc());
-        for (x, y) in row.points {
-            let Some(p) = Point2::new(*x, *y) else {
-                panic!(rt; "{x} {y} is out of bounds");
-            };
-            assert!(rt; points.push(p).is_ok());
-        }
+        let Some(points) = points_from(rt.alloc(), row.points) else {
+            panic!(rt; "no points");
+        };
         let Some(cloud) = points.cloud() else {
             panic!(rt; "no points");
         };
