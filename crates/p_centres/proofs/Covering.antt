@@ -1,68 +1,184 @@
--- The square in the lower left corner of the bounding box, as wide as its longer side, covers the points.
-use Rattle.std.proofs.Common.{◌≡◌, ℕ, List, [], ◌∷◌, get_or, ℤ, pos, ◌+ℤ◌, ◌-ℤ◌, ◌*ℤ◌, ◌≤ℤ◌, neg_ℤ, nat_abs, All, Any, refl, sym, subst, arith}
-use Rattle.std.specs.Int.{int_max}
+-- Squares that are placed one after another cover the points, or leaves below each corner show that they do not.
+use Rattle.std.proofs.Common.{◌≡◌, ◌⊎◌, inl, inr, refl, sym, subst, ap, ◌∙◌, ℕ, zero, suc, ◌+◌, ◌-◌, ◌*◌, ◌/◌, ◌%◌, ◌^◌, ◌<◌, ◌≤◌, ◌≢◌, ℤ, pos, ◌+ℤ◌, ◌-ℤ◌, ◌≤ℤ◌, neg_ℤ, Bool, true, false, List, [], ◌∷◌, ◌++◌, length, get_or, map, take, All, Any, IsTrue, arith}
+use Rattle.std.specs.Prelude.{if◌then◌else◌, ◌==◌}
 use Rattle.std.proofs.lemmas.Int.{ints}
-use Rattle.std.proofs.lemmas.List.Elements.{All-cons, All-nil}
-use Rattle.integers.specs.Extremes.{greatest, least}
-use Rattle.integers.proofs.Extremes.{below_greatest, above_least}
-use Rattle.integers.proofs.MaxMin.{left-le-max, right-le-max}
-use Rattle.integers.proofs.Identities.{den-ring, read, polys, lits, below_lits}
-use Rattle.integers.proofs.Order.{nonneg_mul, le_by, nonneg_difference, combine1}
-use Rattle.bounds_model.specs.Plane.{PlanePoint, PlaneRatio}
-use Rattle.bounds_model.specs.Fractions.{Fraction, IsNotNegative}
-use Rattle.bounds_model.specs.Centres.{Cover, IsNear, FitsCentres}
-use Rattle.p_centres.specs.BoundingBox.{left, bottom, width, height}
+use Rattle.std.proofs.lemmas.List.{append-nil, get_or_default, get_or_append_left, get_or_push, length_push, length-append, length-map, append_assoc, map-append, take_at}
+use Rattle.std.proofs.lemmas.List.Elements.{All-push, Contains-get_or}
+use Rattle.bounds_model.specs.Plane.{PlanePoint, point_at, origin}
+use Rattle.bounds_model.specs.CentresAnswer as model
+use Rattle.answers.specs.declared.centres.Leaf.{Leaf}
+use Rattle.answers.specs.Answers.{leaf_of}
+use Rattle.corner_squares.specs.declared.square.Square.{Square}
+use Rattle.corner_squares.specs.declared.extent.Extent.{Extent}
+use Rattle.corner_squares.specs.declared.bounds.Bounds.{Bounds}
+use Rattle.corner_squares.specs.Squares.{square_of, IsHeld, left_over}
+use Rattle.corner_squares.specs.Extents.{IsExtent, IsPlaneExtent, IsBox}
+use Rattle.corner_squares.specs.Trees.{AreLeavesAt, nodes}
+use Rattle.corner_squares.proofs.Holding.{between_sides}
+use Rattle.corner_squares.proofs.LeftOver.{Contains-left_over}
+use Rattle.corner_squares.proofs.Boxes.{left_over-corner}
+use Rattle.corner_squares.proofs.Trees.{AreBelowFirst, one_leaf, none_below, more_below, all_below}
+use Rattle.p_centres.specs.Surveys.{IsNoLonger, IsFarPair}
+use Rattle.p_centres.specs.Covers.{IsPlaced, IsCover, IsRefuted}
 
--- what the element of a list of one has, some element has
-one_any : {X : Type 0} (P : X → Type 0) (c : X) → P c → Any P (c ∷ [])
-one_any P c p = (0, c, omega arith, refl, p)
+-- ---- squares
 
--- a number between -n and n has at most n as its size
-size_at_most : (z n : ℤ) → neg_ℤ n ≤ℤ z → z ≤ℤ n → pos (nat_abs z) ≤ℤ n
-size_at_most z n low high = grind (arith, ints)
-
--- a coordinate from x to x + side is near the middle
-near_middle : (x v side n d : ℤ) → pos 0 ≤ℤ d → side *ℤ d ≡ pos 2 *ℤ n → x ≤ℤ v → v ≤ℤ (x +ℤ side) → (pos (nat_abs (d *ℤ v -ℤ ((x *ℤ d) +ℤ n))) *ℤ d) ≤ℤ (n *ℤ d)
-near_middle x v side n d positive half low high =
-    let z : ℤ = d *ℤ v -ℤ ((x *ℤ d) +ℤ n) in
-    let above : neg_ℤ n ≤ℤ z = le_by (nonneg_mul positive (nonneg_difference low)) (read (x ∷ v ∷ n ∷ d ∷ []) (λ xs p q r s. simp (p, q, r, s, polys) (den-ring xs _ _ tt))) in
-    let below : z ≤ℤ n = le_by (nonneg_mul positive (nonneg_difference high)) (combine1 (neg_ℤ (pos 1)) half (read (x ∷ v ∷ side ∷ n ∷ d ∷ []) (λ xs p q r s t. simp (p, q, r, s, t, polys, lits xs, below_lits xs) (den-ring xs _ _ tt)))) in
-    let size = size_at_most z n above below in
-    le_by (nonneg_mul positive (nonneg_difference size)) (product (pos (nat_abs z)) n d)
+-- what some squares hold, more squares hold
+pub held_by_more : (squares more : List Square) (p : PlanePoint) → IsHeld squares p → IsHeld (squares ++ more) p
+held_by_more squares more p h = (h.0, h.1, longer h.2, get_or_append_left squares more h.1 h.0 h.2 ∙ h.3, h.4)
   where
-    product : (a n d : ℤ) → n *ℤ d -ℤ a *ℤ d ≡ d *ℤ (n -ℤ a)
-    product a n d = read (a ∷ n ∷ d ∷ []) (λ xs p q r. simp (p, q, r, polys) (den-ring xs _ _ tt))
+    longer : {k : ℕ} → k < length squares → k < length (squares ++ more)
+    longer l = let e = length-append squares more in omega (arith, l, e)
 
--- a coordinate of a point is from the least one to a side past it, where the side is at least the extent
-within_side : (of : PlanePoint → ℤ) (points : List PlanePoint) (low side : ℤ) → low ≡ least of points → (greatest of points -ℤ least of points) ≤ℤ side
-    → All (λ p. (low ≤ℤ of p) × (of p ≤ℤ (low +ℤ side))) points
-within_side of points low side is wide = λ k d lt.
-    let above = above_least of points k d lt in
-    let below = below_greatest of points k d lt in
-    (omega (arith, ints, is, above), omega (arith, ints, is, below, wide))
+held_by_last : (squares : List Square) (s : Square) (p : PlanePoint) → IsTrue (model.holds (square_of s) p) → IsHeld (squares ++ s ∷ []) p
+held_by_last squares s p h = (length squares, s, inside, get_or_push squares s s (length squares) refl, h)
+  where
+    inside : length squares < length (squares ++ s ∷ [])
+    inside = let e = length_push squares s in omega (arith, e)
 
--- the cover by one centre in the middle of the square
-abbrev pub middle_cover : ℤ → ℤ → Fraction → Cover
-middle_cover x y radius = record { centres = record { x = (x *ℤ radius.d) +ℤ radius.n; y = (y *ℤ radius.d) +ℤ radius.n; w = radius.d } ∷ []; radius = radius }
+-- the square is in this corner of the box
+pub record IsCorner (side corner : ℕ) (b : Bounds) (s : Square) : Type 0 where
+  pub left : s.left ≡ (if corner % 2 == 0 then b.across.low else (b.across.high -ℤ pos side))
+  pub bottom : s.bottom ≡ (if corner / 2 == 0 then b.up.low else (b.up.high -ℤ pos side))
+  pub wide : s.side ≡ side
 
--- it covers the points
-pub covers : (points : List PlanePoint) (x y : ℤ) (side : ℕ) (radius : Fraction) → IsNotNegative radius → pos side *ℤ radius.d ≡ pos 2 *ℤ radius.n
-    → x ≡ left points → y ≡ bottom points → pos side ≡ int_max (width points) (height points) → FitsCentres 1 points (middle_cover x y radius)
-covers points x y side radius positive half is_left is_bottom is_side = record {
-  as_many = refl;
-  denominators = All-cons (λ c. pos 1 ≤ℤ c.w) centre [] positive.denominator (All-nil (λ c. pos 1 ≤ℤ c.w));
-  radius = positive;
-  near = λ k d lt. one_any (λ c. IsNear radius (get_or points k d) c) centre (record { in_x = near_middle x _ (pos side) radius.n radius.d some half (in_x k d lt).0 (in_x k d lt).1; in_y = near_middle y _ (pos side) radius.n radius.d some half (in_y k d lt).0 (in_y k d lt).1 });
+-- so it reaches into the bounds of points
+reaches : (low : Bool) (side : ℕ) (e : Extent) (v : ℤ) → IsPlaneExtent e → v ≡ (if low then e.low else (e.high -ℤ pos side)) → (v ≤ℤ pos 200000) × (pos 0 ≤ℤ ((v +ℤ pos side) +ℤ pos 200000))
+reaches true side e v h is = let a = h.low.low in let b = h.high.high in let o = h.order in (omega (arith, ints, is, b, o), omega (arith, ints, is, a))
+reaches false side e v h is = let a = h.low.low in let b = h.high.high in let o = h.order in (omega (arith, ints, is, b), omega (arith, ints, is, a, o))
+
+is_placed : (side corner : ℕ) (b : Bounds) (s : Square) → IsPlaneExtent b.across → IsPlaneExtent b.up → IsCorner side corner b s → IsPlaced side s
+is_placed side corner b s across up h =
+    let in_x = reaches (corner % 2 == 0) side b.across s.left across h.left in
+    let in_y = reaches (corner / 2 == 0) side b.up s.bottom up h.bottom in
+    record { wide = h.wide; left = in_x.0; right = up_from s.left in_x.1; bottom = in_y.0; top = up_from s.bottom in_y.1 }
+  where
+    up_from : (v : ℤ) → pos 0 ≤ℤ ((v +ℤ pos side) +ℤ pos 200000) → neg_ℤ (pos 200000) ≤ℤ (v +ℤ pos side)
+    up_from v h = omega (arith, ints, h)
+
+-- and the placed squares with it are in their places
+pub placed_more : (points : List PlanePoint) (side corner i : ℕ) (squares placed_on pushed : List Square) (b : Bounds) (s : Square) → All (IsPlaced side) squares → IsBox points placed_on i b → IsCorner side corner b s
+    → pushed ≡ squares ++ s ∷ [] → All (IsPlaced side) pushed
+placed_more points side corner i squares placed_on pushed b s placed box h is =
+    subst (All (IsPlaced side)) (sym is) (All-push (IsPlaced side) squares s placed (is_placed side corner b s box.across.plane box.up.plane h))
+
+-- ---- a cover
+
+pub cover_now : (points : List PlanePoint) (side most : ℕ) (squares seen : List Square) → seen ≡ squares → length squares ≤ most → All (IsPlaced side) squares → All (IsHeld seen) points → IsCover points side most squares
+cover_now points side most squares seen is few placed held = record { few = few; placed = placed; held = subst (λ ss. All (IsHeld ss) points) is held }
+
+pub cover_by_more : (points : List PlanePoint) (side m n : ℕ) (squares : List Square) → m ≤ n → IsCover points side m squares → IsCover points side n squares
+cover_by_more points side m n squares more h = record { few = (let f = h.few in omega (arith, f, more)); placed = h.placed; held = h.held }
+
+-- a square as wide as the box holds what is in it
+within : (low high v : ℤ) (side : ℕ) → high ≤ℤ (low +ℤ pos side) → (low ≤ℤ v) × (v ≤ℤ high) → (low ≤ℤ v) × (v ≤ℤ (low +ℤ pos side))
+within low high v side wide inside = let a = inside.1 in (inside.0, omega (arith, ints, wide, a))
+
+pub cover_with_one_more : (points : List PlanePoint) (side : ℕ) (squares pushed : List Square) (b : Bounds) (s : Square) → All (IsPlaced side) squares → IsBox points squares (length points) b × IsNoLonger side b → IsCorner side 0 b s
+    → pushed ≡ squares ++ s ∷ [] → IsCover points side (length squares + 1) pushed
+cover_with_one_more points side squares pushed b s placed box h is = subst (IsCover points side (length squares + 1)) (sym is) (record {
+  few = (let e = length_push squares s in omega (arith, e));
+  placed = placed_more points side 0 (length points) squares squares (squares ++ s ∷ []) b s placed box.0 h refl;
+  held = λ k d below. subst (IsHeld (squares ++ s ∷ [])) (get_or_default points k origin d below) (elim (box.0.across.inside k below) [
+    | inl held ↦ held_by_more squares (s ∷ []) (point_at points k) held
+    | inr in_x ↦ elim (box.0.up.inside k below) [
+      | inl held ↦ held_by_more squares (s ∷ []) (point_at points k) held
+      | inr in_y ↦ held_by_last squares s (point_at points k) (in_square (point_at points k)
+          (within b.across.low b.across.high (point_at points k).x side box.1.in_x in_x) (within b.up.low b.up.high (point_at points k).y side box.1.in_y in_y))
+    ]
+  ]);
+})
+  where
+    between : (v low high : ℤ) (wide : ℕ) → v ≡ low → wide ≡ side → (p : ℤ) → (low ≤ℤ p) × (p ≤ℤ (low +ℤ pos side)) → (v ≤ℤ p) × (p ≤ℤ (v +ℤ pos wide))
+    between v low high wide e f p inside = let a = inside.0 in let b = inside.1 in (omega (arith, ints, e, a), omega (arith, ints, e, f, b))
+
+    in_square : (p : PlanePoint) → (b.across.low ≤ℤ p.x) × (p.x ≤ℤ (b.across.low +ℤ pos side)) → (b.up.low ≤ℤ p.y) × (p.y ≤ℤ (b.up.low +ℤ pos side)) → IsTrue (model.holds (square_of s) p)
+    in_square p in_x in_y = (between_sides (square_of s) p).1 (between s.left b.across.low b.across.low s.side h.left h.wide p.x in_x, between s.bottom b.up.low b.up.low s.side h.bottom h.wide p.y in_y)
+
+-- ---- leaves
+
+-- two points that are left over and far apart are a leaf
+pub refuted_by_pair : (points : List PlanePoint) (side : ℕ) (placed : List Square) (leaves leaves_then : List Leaf) (leaf : Leaf) → IsFarPair points placed side leaf → leaves_then ≡ leaves ++ leaf ∷ []
+    → IsRefuted points side 0 placed placed leaves leaves_then
+refuted_by_pair points side placed leaves leaves_then leaf far is = record {
+  stays = refl;
+  own = leaf ∷ [];
+  appended = is;
+  refuted = one_leaf side points (left_over placed points) (leaf_of leaf) (record { first = far.first; second = far.second })
+      (Contains-left_over placed points (point_at points leaf.first) (Contains-get_or points leaf.first origin far.first) far.first_free)
+      (Contains-left_over placed points (point_at points leaf.second) (Contains-get_or points leaf.second origin far.second) far.second_free)
+      far.far;
+}
+
+-- the leaves below the first corners are appended
+abbrev pub BelowFirst : ℕ → ℕ → ℕ → List PlanePoint → List PlanePoint → List Leaf → List Leaf → Type 0
+BelowFirst side depth corner points rest leaves leaves_then = (own : List Leaf) × (leaves_then ≡ leaves ++ own) × AreBelowFirst side depth corner points rest (map leaf_of own)
+
+pub no_corner : (side depth : ℕ) (points rest : List PlanePoint) (leaves : List Leaf) → BelowFirst side depth 0 points rest leaves leaves
+no_corner side depth points rest leaves = ([], sym (append-nil leaves), none_below side depth points rest)
+
+itself : (n : ℕ) → n ≤ n
+itself n = omega arith
+
+-- one corner more
+pub corner_more : (side depth corner : ℕ) (points : List PlanePoint) (placed pushed pushed_then : List Square) (b : Bounds) (s : Square) (leaves before after : List Leaf)
+    → depth ≤ 1 → corner < 4 → IsBox points placed (length points) b → IsCorner side corner b s → pushed ≡ placed ++ s ∷ [] → BelowFirst side depth corner points (left_over placed points) leaves before
+    → IsRefuted points side depth pushed pushed_then before after → BelowFirst side depth (corner + 1) points (left_over placed points) leaves after
+corner_more side depth corner points placed pushed pushed_then b s leaves before after few four box h is below new = (
+  below.0 ++ new.own,
+  new.appended ∙ ap (λ ls. ls ++ new.own) below.1 ∙ append_assoc leaves below.0 new.own,
+  subst (AreBelowFirst side depth (corner + 1) points (left_over placed points)) (sym (map-append leaf_of below.0 new.own))
+      (more_below side depth corner points (left_over placed points) (map leaf_of below.0) (map leaf_of new.own) few four below.2 (subst (λ rest. AreLeavesAt side depth points rest (map leaf_of new.own)) rest_is new.refuted)),
+)
+  where
+    rest_is : left_over pushed points ≡ model.outside (model.corner_square side corner (left_over placed points)) (left_over placed points)
+    rest_is = left_over-corner points placed pushed (length points) b s corner side (itself (length points)) box h.left h.bottom h.wide is
+
+-- all corners
+pub all_corners : (side depth corner : ℕ) (points : List PlanePoint) (placed placed_then : List Square) (leaves leaves_then : List Leaf) → depth ≢ 0 → corner ≡ 4 → placed_then ≡ placed
+    → BelowFirst side (depth - 1) corner points (left_over placed points) leaves leaves_then → IsRefuted points side depth placed placed_then leaves leaves_then
+all_corners side zero corner points placed placed_then leaves leaves_then some four stays below = absurd (some refl)
+all_corners side (suc depth) corner points placed placed_then leaves leaves_then some four stays below = record {
+  stays = stays;
+  own = below.0;
+  appended = below.1;
+  refuted = all_below side depth points (left_over placed points) (map leaf_of below.0) (subst (λ c. AreBelowFirst side c 4 points (left_over placed points) (map leaf_of below.0)) one_less (subst (λ c. AreBelowFirst side (suc depth - 1) c points (left_over placed points) (map leaf_of below.0)) four below.2));
 }
   where
-    centre : PlaneRatio
-    centre = record { x = (x *ℤ radius.d) +ℤ radius.n; y = (y *ℤ radius.d) +ℤ radius.n; w = radius.d }
+    one_less : suc depth - 1 ≡ depth
+    one_less = omega arith
 
-    some : pos 0 ≤ℤ radius.d
-    some = omega (arith, ints, positive.denominator)
+-- there is room for the leaves below one corner more
+pub room_for_leaves : (side depth corner : ℕ) (points rest : List PlanePoint) (leaves leaves_then : List Leaf) → depth ≢ 0 → corner < 4 → length leaves + 4 ^ depth ≤ 16
+    → BelowFirst side (depth - 1) corner points rest leaves leaves_then → length leaves_then + 4 ^ (depth - 1) ≤ 16
+room_for_leaves side zero corner points rest leaves leaves_then some four room below = absurd (some refl)
+room_for_leaves side (suc depth) corner points rest leaves leaves_then some four room below =
+    let power : 4 ^ suc depth ≡ 4 * 4 ^ depth = omega arith in
+    let less : suc depth - 1 ≡ depth = omega arith in
+    let as_many : length below.0 ≡ corner * 4 ^ (suc depth - 1) = sym (length-map below.0 leaf_of) ∙ below.2.as_many in
+    let many : length leaves_then ≡ length leaves + length below.0 = ap length below.1 ∙ length-append leaves below.0 in
+    subst (λ d. length leaves_then + 4 ^ d ≤ 16) (sym less)
+    (enough (length leaves_then) (length leaves) (length below.0) (4 ^ depth) many (as_many ∙ ap (λ d. corner * 4 ^ d) less) (subst (λ n. length leaves + n ≤ 16) power room))
+  where
+    enough : (now was own n : ℕ) → now ≡ was + own → own ≡ corner * n → was + 4 * n ≤ 16 → now + n ≤ 16
+    enough now was own n e f h = grind (arith, four, e, f, h)
 
-    in_x : All (λ p. (x ≤ℤ p.x) × (p.x ≤ℤ (x +ℤ pos side))) points
-    in_x = within_side (λ p. p.x) points x (pos side) is_left (subst (λ s. width points ≤ℤ s) (sym is_side) (left-le-max (width points) (height points)))
+-- ---- steps
 
-    in_y : All (λ p. (y ≤ℤ p.y) × (p.y ≤ℤ (y +ℤ pos side))) points
-    in_y = within_side (λ p. p.y) points y (pos side) is_bottom (subst (λ s. height points ≤ℤ s) (sym is_side) (right-le-max (width points) (height points)))
+pub nodes_are : (depth : ℕ) → depth ≢ 0 → nodes depth ≡ 1 + 4 * nodes (depth - 1)
+nodes_are zero some = absurd (some refl)
+nodes_are (suc depth) some = ap (λ d. 1 + 4 * nodes d) one_less
+  where
+    one_less : depth ≡ suc depth - 1
+    one_less = omega arith
+
+pub some_nodes : (depth : ℕ) → 1 ≤ nodes depth
+some_nodes zero = omega arith
+some_nodes (suc depth) = omega arith
+
+-- what a push added, a pop takes away
+pub popped : {X : Type 0} (old pushed kept now : List X) (x : X) → pushed ≡ old ++ x ∷ [] → kept ≡ pushed → now ≡ take (length kept - 1) kept → now ≡ old
+popped old pushed kept now x is same rest = rest ∙ ap (λ xs. take (length xs - 1) xs) (same ∙ is) ∙ take_at old (x ∷ []) (length (old ++ x ∷ []) - 1) (one_less (length old) (length (old ++ x ∷ [])) (length_push old x))
+  where
+    one_less : (m n : ℕ) → n ≡ m + 1 → m ≡ n - 1
+    one_less m n e = omega (arith, e)

@@ -1,9 +1,11 @@
--- The answer that the smallest square over points stands for.
-use Rattle.std.specs.Prelude.{ℕ, ◌/◌, ◌%◌, ◌==◌, List, [], ◌∷◌, pos, ◌+ℤ◌, ◌*ℤ◌, if◌then◌else◌}
+-- The answer that squares and leaves stand for.
+use Rattle.std.specs.Prelude.{ℕ, ◌/◌, ◌%◌, ◌==◌, List, map, pos, ◌+ℤ◌, ◌*ℤ◌, if◌then◌else◌}
 use Rattle.bounds_model.specs.Plane.{PlaneRatio}
 use Rattle.bounds_model.specs.Fractions.{Fraction}
-use Rattle.bounds_model.specs.CentresAnswer.{Leaf, CentresAnswer}
-use Rattle.p_centres.specs.declared.one_centre.OneCentre.{OneCentre}
+use Rattle.bounds_model.specs.CentresAnswer.{CentresAnswer}
+use Rattle.answers.specs.declared.centres.Leaf.{Leaf}
+use Rattle.answers.specs.Answers.{leaf_of}
+use Rattle.corner_squares.specs.declared.square.Square.{Square}
 use Rattle.p_centres.specs.declared.square_answer.Radius.{Radius}
 
 -- half of a side, in lowest terms
@@ -15,13 +17,9 @@ abbrev pub fraction_of : Radius → Fraction
 fraction_of radius = record { n = pos radius.n; d = pos radius.d }
 
 -- the centre of the square, over the radius's denominator
-abbrev pub centre_of : OneCentre → Fraction → PlaneRatio
-centre_of square radius = record { x = (square.x *ℤ radius.d) +ℤ radius.n; y = (square.y *ℤ radius.d) +ℤ radius.n; w = radius.d }
+abbrev pub centre_of : Square → Fraction → PlaneRatio
+centre_of square radius = record { x = (square.left *ℤ radius.d) +ℤ radius.n; y = (square.bottom *ℤ radius.d) +ℤ radius.n; w = radius.d }
 
--- the square's two points, unless it is a point itself
-abbrev pub leaves_of : OneCentre → List Leaf
-leaves_of square = if square.side == 0 then [] else (record { first = square.first; second = square.second } ∷ [])
-
--- the answer with this square alone
-abbrev pub answer_of : OneCentre → Fraction → CentresAnswer
-answer_of square radius = record { size = radius; squares = centre_of square radius ∷ []; leaves = leaves_of square }
+-- the answer with squares of this side
+abbrev pub answer_of : ℕ → List Square → List Leaf → CentresAnswer
+answer_of side squares leaves = record { size = half_of side; squares = map (λ s. centre_of s (half_of side)) squares; leaves = map leaf_of leaves }

@@ -1,14 +1,14 @@
-//! The answer with one square.
-ghost use Rattle.std.specs.Prelude.{◌≡◌, ◌≤◌, ◌+ℤ◌, ◌*ℤ◌, pos, map};
+//! The answer with squares of one side.
+ghost use Rattle.std.specs.Prelude.{◌≡◌, ◌≤◌, ◌+ℤ◌, ◌*ℤ◌, pos, length, All};
 ghost use Rattle.bounds_model.specs.Numbers.{IsWithin};
-ghost use Rattle.bounds_model.specs.Plane.{plane_limit};
-ghost use Rattle.answers.specs.Answers.{leaf_of, centres_of};
-ghost use Rattle.p_centres.specs.Squares.{half_of, fraction_of, leaves_of, answer_of};
+ghost use Rattle.answers.specs.Answers.{centres_of};
+ghost use Rattle.p_centres.specs.Covers.{IsPlaced};
+ghost use Rattle.p_centres.specs.Squares.{half_of, fraction_of, centre_of, answer_of};
 
-use crate::one_centre::OneCentre;
-use arrayvec::ArrayVec;
-use exact_fractions::{Frac, Homog2};
 use answers::{CentresAnswer, Leaf};
+use arrayvec::ArrayVec;
+use corner_squares::Square;
+use exact_fractions::{Frac, Homog2};
 
 /// A radius `n`/`d` in lowest terms.
 #[derive(Clone, Copy)]
@@ -32,8 +32,8 @@ fn half(side: u32) -> Radius
 }
 
 /// A coordinate of a square's centre, times the radius's denominator, from the least coordinate of the square.
-fn centre(low: i32, radius: Radius) -> i128
-    requires low { IsWithin plane_limit low }
+fn middle(low: i32, radius: Radius) -> i128
+    requires low { IsWithin 1000000 low }
     requires n { radius.n ≤ 400000 }
     requires d { radius.d ≤ 2 }
     ensures { result ≡ ((low *ℤ pos radius.d) +ℤ pos radius.n) }
@@ -41,37 +41,35 @@ fn centre(low: i32, radius: Radius) -> i128
     i128::from(i64::from(low) * i64::from(radius.d) + i64::from(radius.n))
 }
 
-/// The square's two points, unless it is a point itself.
-fn leaves(square: &OneCentre) -> ArrayVec<Leaf, 16>
-    ensures { map leaf_of result.items ≡ leaves_of square.now }
+/// The centre of a square.
+fn centre(square: &Square, radius: Radius) -> Homog2
+    requires placed { IsPlaced square.now.side square.now }
+    requires limit { square.now.side ≤ 400000 }
+    requires half { fraction_of radius ≡ half_of square.now.side }
+    requires n { radius.n ≤ 400000 }
+    requires d { radius.d ≤ 2 }
+    ensures { result ≡ centre_of square.now (half_of square.now.side) }
 {
-    let mut leaves = ArrayVec::new();
-    if square.side > 0 {
-        leaves.push(Leaf {
-            first: square.first,
-            second: square.second,
-        });
-    }
-    leaves
+    let x = middle(square.left, radius);
+    let y = middle(square.bottom, radius);
+    Homog2::new(x, y, i128::from(radius.d))
 }
 
-/// The answer with this square alone.
-pub(crate) fn answer(square: &OneCentre) -> CentresAnswer
-    requires x { IsWithin plane_limit square.now.x }
-    requires y { IsWithin plane_limit square.now.y }
-    requires side { square.now.side ≤ 400000 }
-    ensures { centres_of result ≡ answer_of square.now (half_of square.now.side) }
+/// The answer with these squares, which have this side.
+pub(crate) fn answer(side: u32, squares: &[Square], leaves: ArrayVec<Leaf, 16>) -> CentresAnswer
+    requires few { length squares.now ≤ 3 }
+    requires placed { All (IsPlaced side) squares.now }
+    requires limit { side ≤ 400000 }
+    ensures { centres_of result ≡ answer_of side squares.now leaves.items }
 {
-    let radius = half(square.side);
-    let size = Frac::new(u128::from(radius.n), u128::from(radius.d));
-    let x = centre(square.x, radius);
-    let y = centre(square.y, radius);
-    let mut squares = ArrayVec::new();
-    squares.push(Homog2::new(x, y, i128::from(radius.d)));
-    let leaves = leaves(square);
+    let radius = half(side);
+    let mut centres = ArrayVec::new();
+    for square in squares {
+        centres.push(centre(square, radius));
+    }
     CentresAnswer {
-        size,
-        squares,
+        size: Frac::new(u128::from(radius.n), u128::from(radius.d)),
+        squares: centres,
         leaves,
     }
 }

@@ -1,24 +1,44 @@
 //! Squares of one size that cover all points.
-ghost use Rattle.std.specs.Prelude.{◌≡◌, ◌+◌, ◌*◌, ◌≤◌, length};
+ghost use Rattle.std.specs.Prelude.{◌+◌, ◌*◌, ◌<◌, ◌≤◌, length};
+ghost use Rattle.arrayvec.specs.ArrayVec.{array_vec_len};
 ghost use Rattle.bounds_model.specs.CentresAnswer.{PassesCentres};
 ghost use Rattle.bounded_coords.specs.Clouds.{counted_points};
 ghost use Rattle.answers.specs.Answers.{centres_of};
+ghost use Rattle.p_centres.specs.Covers.{IsFilledUp};
 
-use crate::one_centre::one;
+use crate::sides::least_side;
 use crate::square_answer::answer;
-use bounded_coords::{Counted, Point2, Steps};
-use std::sync::ledger::Ledger;
 use answers::CentresAnswer;
+use arrayvec::ArrayVec;
+use bounded_coords::{Counted, Point2, Steps};
+use corner_squares::Square;
+use std::sync::ledger::Ledger;
 
 /// The least size of `p` squares that cover all points, with such squares, and leaves which show that no smaller ones do:
-/// CGAL's `rectangular_p_center_2`. One square is what is built. It reads each point once and takes no memory.
+/// CGAL's `rectangular_p_center_2` for one to three centres. It takes no memory, and reads the points some hundred times.
 pub fn centres<L: Ledger>(cloud: Counted<'_, Point2>, p: u8, steps: &mut Steps<L>) -> CentresAnswer
-    requires { p ≡ 1 }
+    requires some { 1 ≤ p }
+    requires few { p ≤ 3 }
     ensures passes { PassesCentres p (counted_points cloud.entry) (centres_of result) }
     ensures steps { steps.new ≤ steps.old + 1000 * length (counted_points cloud.entry) }
 {
-    match p {
-        1 => answer(&one(cloud, steps)),
-        _ => unreachable!(),
+    let least = least_side(cloud, p, steps);
+    let squares = filled_up(least.squares, p);
+    answer(least.high, squares.as_slice(), least.leaves)
+}
+
+/// As many squares as are asked for: where fewer cover the points, the first one is repeated.
+fn filled_up(squares: ArrayVec<Square, 3>, p: u8) -> ArrayVec<Square, 3>
+    requires some { 0 < array_vec_len squares }
+    requires few { array_vec_len squares ≤ p }
+    requires most { p ≤ 3 }
+    ensures { IsFilledUp p squares.items result.items }
+{
+    let first = squares.as_slice()[0];
+    let mut filled = squares;
+    let some = filled.len();
+    for _i in some..usize::from(p) {
+        filled.push(first);
     }
+    filled
 }

@@ -1,0 +1,214 @@
+-- How the bounding box of points grows point by point, and what it says of all points that are left over.
+use Rattle.std.proofs.Common.{◌≡◌, ◌⊎◌, inl, inr, refl, sym, subst, ap, ap₂, ◌∙◌, ℕ, ◌+◌, ◌%◌, ◌/◌, ◌<◌, ◌≤◌, ℤ, pos, ◌+ℤ◌, ◌-ℤ◌, ◌≤ℤ◌, ◌<ℤ◌, Bool, List, [], ◌∷◌, ◌++◌, length, get_or, All, Contains, arith}
+use Rattle.std.specs.Prelude.{slice_get, Option, Some, None, if◌then◌else◌, ◌==◌}
+use Rattle.std.proofs.lemmas.Int.{ints}
+use Rattle.std.proofs.lemmas.Option.{slice_get_within, get_or_from_slice_get}
+use Rattle.std.proofs.lemmas.List.{get_or_default}
+use Rattle.std.proofs.lemmas.List.Elements.{Contains-get_or}
+use Rattle.integers.specs.Extremes.{greatest, least}
+use Rattle.integers.proofs.Extremes.{greatest_is, least_is}
+use Rattle.bounds_model.specs.Numbers.{IsWithin}
+use Rattle.bounds_model.specs.Plane.{PlanePoint, point_at, origin, plane_limit, IsInPlane}
+use Rattle.bounds_model.specs.CentresAnswer as model
+use Rattle.corner_squares.specs.declared.square.Square.{Square}
+use Rattle.corner_squares.specs.declared.extent.Extent.{Extent}
+use Rattle.corner_squares.specs.declared.bounds.Bounds.{Bounds}
+use Rattle.corner_squares.specs.Squares.{square_of, IsHeld, left_over}
+use Rattle.corner_squares.specs.Extents.{Sees, HasAt, IsExtent, IsPlaneExtent, IsBox, Adds, IsFound}
+use Rattle.corner_squares.proofs.LeftOver.{Contains-left_over, All-left_over, left_over-push}
+
+-- ---- one point more
+
+-- a place below i + 1 is below i or i
+pub below_or_at : (k i : ℕ) → k < i + 1 → (k < i) ⊎ (k ≡ i)
+below_or_at k i h = grind arith
+
+-- the value is within the ends
+Between : Extent → ℤ → Type 0
+Between e v = (e.low ≤ℤ v) × (v ≤ℤ e.high)
+
+sees_value : (old new : Extent) (value : ℤ) (number : ℕ) → Sees old value number new → (new.low ≤ℤ value) × (value ≤ℤ new.high)
+sees_value old new value number sees = (
+  elim sees.low [ inl stays ↦ omega (arith, ints, stays.0, stays.1) | inr takes ↦ omega (arith, ints, takes.1) ],
+  elim sees.high [ inl stays ↦ omega (arith, ints, stays.0, stays.1) | inr takes ↦ omega (arith, ints, takes.1) ],
+)
+
+wider : (old new : Extent) (value v : ℤ) (number : ℕ) → Sees old value number new → (old.low ≤ℤ v) × (v ≤ℤ old.high) → (new.low ≤ℤ v) × (v ≤ℤ new.high)
+wider old new value v number sees was = (
+  elim sees.low [ inl stays ↦ omega (arith, ints, stays.1, was.0) | inr takes ↦ omega (arith, ints, takes.0, takes.1, was.0) ],
+  elim sees.high [ inl stays ↦ omega (arith, ints, stays.1, was.1) | inr takes ↦ omega (arith, ints, takes.0, takes.1, was.1) ],
+)
+
+moved : (of : PlanePoint → ℤ) (points : List PlanePoint) (squares : List Square) (old new : ℕ) (value now : ℤ) → HasAt of points squares old value → now ≡ value → new ≡ old → HasAt of points squares new now
+moved of points squares old new value now h is_value is_number =
+    subst (λ k. HasAt of points squares k now) (sym is_number) (subst (λ v. HasAt of points squares old v) (sym is_value) h)
+
+-- a point that is there has its coordinate
+here : (of : PlanePoint → ℤ) (points : List PlanePoint) (squares : List Square) (i : ℕ) (p : PlanePoint) → slice_get points i ≡ Some p → ¬ IsHeld squares p → HasAt of points squares i (of p)
+here of points squares i p there free = record {
+  below = slice_get_within points i p there;
+  free = subst (λ q. ¬ IsHeld squares q) (sym is) free;
+  has = ap of is;
+}
+  where
+    is : point_at points i ≡ p
+    is = get_or_from_slice_get points i p origin there
+
+-- the first point that no square holds
+IsExtent-start : (of : PlanePoint → ℤ) (points : List PlanePoint) (squares : List Square) (i : ℕ) (p : PlanePoint) (e : Extent)
+    → ((k : ℕ) → k < i → IsHeld squares (point_at points k)) → slice_get points i ≡ Some p → ¬ IsHeld squares p → IsWithin plane_limit (of p)
+    → e ≡ record { low = of p; high = of p; low_at = i; high_at = i } → IsExtent of points squares (i + 1) e
+IsExtent-start of points squares i p e before there free inside is =
+    let at = here of points squares i p there free in
+    subst (λ e. IsExtent of points squares (i + 1) e) (sym is) (record {
+      inside = λ k low. elim (below_or_at k i low) [
+        | inl less ↦ inl (before k less)
+        | inr same ↦ inr (both (of (point_at points k)) (of p) (ap (λ j. of (point_at points j)) same ∙ at.has))
+      ];
+      low_at = at;
+      high_at = at;
+      plane = record { low = inside; high = inside; order = omega (arith, ints) };
+    })
+  where
+    both : (v w : ℤ) → v ≡ w → (w ≤ℤ v) × (v ≤ℤ w)
+    both v w e = (omega (arith, ints), omega (arith, ints))
+
+-- a point that a square holds
+IsExtent-same : (of : PlanePoint → ℤ) (points : List PlanePoint) (squares : List Square) (i : ℕ) (p : PlanePoint) (e : Extent)
+    → slice_get points i ≡ Some p → IsHeld squares p → IsExtent of points squares i e → IsExtent of points squares (i + 1) e
+IsExtent-same of points squares i p e there held was = record {
+  inside = λ k low. elim (below_or_at k i low) [
+    | inl less ↦ was.inside k less
+    | inr same ↦ inl (subst (IsHeld squares) (sym (ap (point_at points) same ∙ get_or_from_slice_get points i p origin there)) held)
+  ];
+  low_at = was.low_at;
+  high_at = was.high_at;
+  plane = was.plane;
+}
+
+-- a point that no square holds
+IsExtent-more : (of : PlanePoint → ℤ) (points : List PlanePoint) (squares : List Square) (i : ℕ) (p : PlanePoint) (old new : Extent)
+    → slice_get points i ≡ Some p → ¬ IsHeld squares p → IsWithin plane_limit (of p) → IsExtent of points squares i old → Sees old (of p) i new → IsExtent of points squares (i + 1) new
+IsExtent-more of points squares i p old new there free inside was sees = record {
+  inside = λ k low. elim (below_or_at k i low) [
+    | inl less ↦ elim (was.inside k less) [ inl held ↦ inl held | inr in_old ↦ inr (wider old new (of p) (of (point_at points k)) i sees in_old) ]
+    | inr same ↦ inr (subst (λ v. (new.low ≤ℤ v) × (v ≤ℤ new.high)) (sym (ap (λ j. of (point_at points j)) same ∙ at.has)) (sees_value old new (of p) i sees))
+  ];
+  low_at = elim sees.low [ inl stays ↦ moved of points squares old.low_at new.low_at old.low new.low was.low_at stays.1 stays.2 | inr takes ↦ moved of points squares i new.low_at (of p) new.low at takes.1 takes.2 ];
+  high_at = elim sees.high [ inl stays ↦ moved of points squares old.high_at new.high_at old.high new.high was.high_at stays.1 stays.2 | inr takes ↦ moved of points squares i new.high_at (of p) new.high at takes.1 takes.2 ];
+  plane = record {
+    low = elim sees.low [ inl stays ↦ subst (IsWithin plane_limit) (sym stays.1) was.plane.low | inr takes ↦ subst (IsWithin plane_limit) (sym takes.1) inside ];
+    high = elim sees.high [ inl stays ↦ subst (IsWithin plane_limit) (sym stays.1) was.plane.high | inr takes ↦ subst (IsWithin plane_limit) (sym takes.1) inside ];
+    order = ordered (sees_value old new (of p) i sees);
+  };
+}
+  where
+    at : HasAt of points squares i (of p)
+    at = here of points squares i p there free
+
+    ordered : (new.low ≤ℤ of p) × (of p ≤ℤ new.high) → new.low ≤ℤ new.high
+    ordered h = omega (arith, ints, h.0, h.1)
+
+-- ---- the box
+
+-- the box of the first point that no square holds
+pub IsBox-start : (points : List PlanePoint) (squares : List Square) (i : ℕ) (p : PlanePoint) (b : Bounds)
+    → ((k : ℕ) → k < i → IsHeld squares (point_at points k)) → slice_get points i ≡ Some p → ¬ IsHeld squares p → IsInPlane p
+    → b.across ≡ record { low = p.x; high = p.x; low_at = i; high_at = i } → b.up ≡ record { low = p.y; high = p.y; low_at = i; high_at = i } → IsBox points squares (i + 1) b
+IsBox-start points squares i p b before there free inside across up = record {
+  across = IsExtent-start (λ p. p.x) points squares i p b.across before there free inside.x across;
+  up = IsExtent-start (λ p. p.y) points squares i p b.up before there free inside.y up;
+}
+
+-- it stays where a square holds the next point
+pub IsBox-same : (points : List PlanePoint) (squares : List Square) (i : ℕ) (p : PlanePoint) (b : Bounds)
+    → slice_get points i ≡ Some p → IsHeld squares p → IsBox points squares i b → IsBox points squares (i + 1) b
+IsBox-same points squares i p b there held was = record {
+  across = IsExtent-same (λ p. p.x) points squares i p b.across there held was.across;
+  up = IsExtent-same (λ p. p.y) points squares i p b.up there held was.up;
+}
+
+-- and grows where none does
+pub IsBox-more : (points : List PlanePoint) (squares : List Square) (i : ℕ) (p : PlanePoint) (old new : Bounds)
+    → slice_get points i ≡ Some p → ¬ IsHeld squares p → IsInPlane p → IsBox points squares i old → Sees old.across p.x i new.across → Sees old.up p.y i new.up → IsBox points squares (i + 1) new
+IsBox-more points squares i p old new there free inside was across up = record {
+  across = IsExtent-more (λ p. p.x) points squares i p old.across new.across there free inside.x was.across across;
+  up = IsExtent-more (λ p. p.y) points squares i p old.up new.up there free inside.y was.up up;
+}
+
+-- the box with a point more that no square holds
+pub box_more : (points : List PlanePoint) (squares : List Square) (i : ℕ) (p : PlanePoint) (found : Option Bounds) (new : Bounds)
+    → slice_get points i ≡ Some p → ¬ IsHeld squares p → IsInPlane p → IsFound points squares i found → Adds found p i new → IsBox points squares (i + 1) new
+box_more points squares i p None new there free plane was adds = IsBox-start points squares i p new was there free plane adds.0 adds.1
+box_more points squares i p (Some old) new there free plane was adds = IsBox-more points squares i p old new there free plane was adds.0 adds.1
+
+-- nothing new where a square holds the point
+pub found_same : (points : List PlanePoint) (squares : List Square) (i : ℕ) (p : PlanePoint) (found : Option Bounds)
+    → slice_get points i ≡ Some p → IsHeld squares p → IsFound points squares i found → IsFound points squares (i + 1) found
+found_same points squares i p None there held was = λ k low. elim (below_or_at k i low) [
+  | inl less ↦ was k less
+  | inr same ↦ subst (IsHeld squares) (sym (ap (point_at points) same ∙ get_or_from_slice_get points i p origin there)) held
+]
+found_same points squares i p (Some b) there held was = IsBox-same points squares i p b there held was
+
+-- ---- all points seen
+
+-- where no box was found, all points are held, so nothing is left over
+pub nothing_free : (points : List PlanePoint) (squares : List Square) (i : ℕ) → length points ≤ i → ((k : ℕ) → k < i → IsHeld squares (point_at points k)) → left_over squares points ≡ []
+nothing_free points squares i all h =
+    no_elements (left_over squares points) (All-left_over (λ p. ⊥) squares points (λ p m free. free (subst (IsHeld squares) (get_or_default points m.0 origin p m.1 ∙ m.2) (h m.0 (seen m.1)))))
+  where
+    seen : {k : ℕ} → k < length points → k < i
+    seen l = omega arith
+
+    no_elements : (ps : List PlanePoint) → All (λ p. ⊥) ps → ps ≡ []
+    no_elements [] none = refl
+    no_elements (p ∷ ps) none = absurd (none 0 p (omega arith))
+
+-- a point at an end is left over
+pub end_left : {of : PlanePoint → ℤ} {number : ℕ} {value : ℤ} (points : List PlanePoint) (squares : List Square) → HasAt of points squares number value → Contains (left_over squares points) (point_at points number)
+end_left {of} {number} points squares at = Contains-left_over squares points (point_at points number) (Contains-get_or points number origin at.below) at.free
+
+inside_all : (of : PlanePoint → ℤ) (points : List PlanePoint) (squares : List Square) (i : ℕ) (e : Extent) → length points ≤ i → IsExtent of points squares i e
+    → All (λ p. (e.low ≤ℤ of p) × (of p ≤ℤ e.high)) (left_over squares points)
+inside_all of points squares i e all h =
+    All-left_over (λ p. (e.low ≤ℤ of p) × (of p ≤ℤ e.high)) squares points
+    (λ p m free. let is : point_at points m.0 ≡ p = get_or_default points m.0 origin p m.1 ∙ m.2 in elim (h.inside m.0 (seen m.1)) [
+      | inl held ↦ absurd (free (subst (IsHeld squares) is held))
+      | inr inside ↦ subst (λ p. (e.low ≤ℤ of p) × (of p ≤ℤ e.high)) is inside
+    ])
+  where
+    seen : {k : ℕ} → k < length points → k < i
+    seen l = omega arith
+
+-- the low end is the least coordinate of what is left over
+low_is_least : (of : PlanePoint → ℤ) (points : List PlanePoint) (squares : List Square) (i : ℕ) (e : Extent) → length points ≤ i → IsExtent of points squares i e → e.low ≡ least of (left_over squares points)
+low_is_least of points squares i e all h =
+    sym (least_is of (left_over squares points) (point_at points e.low_at) (end_left points squares h.low_at)
+    (λ k d below. subst (λ v. v ≤ℤ of (get_or (left_over squares points) k d)) (sym h.low_at.has) (inside_all of points squares i e all h k d below).0) ∙ h.low_at.has)
+
+-- and the high end the greatest
+high_is_greatest : (of : PlanePoint → ℤ) (points : List PlanePoint) (squares : List Square) (i : ℕ) (e : Extent) → length points ≤ i → IsExtent of points squares i e → e.high ≡ greatest of (left_over squares points)
+high_is_greatest of points squares i e all h =
+    sym (greatest_is of (left_over squares points) (point_at points e.high_at) (end_left points squares h.high_at)
+    (λ k d below. subst (λ v. of (get_or (left_over squares points) k d) ≤ℤ v) (sym h.high_at.has) (inside_all of points squares i e all h k d below).1) ∙ h.high_at.has)
+
+-- the square in a corner of the box is the model's
+pub corner_is : (points : List PlanePoint) (squares : List Square) (i : ℕ) (b : Bounds) (s : Square) (corner side : ℕ) → length points ≤ i → IsBox points squares i b
+    → s.left ≡ (if corner % 2 == 0 then b.across.low else (b.across.high -ℤ pos side)) → s.bottom ≡ (if corner / 2 == 0 then b.up.low else (b.up.high -ℤ pos side)) → s.side ≡ side
+    → square_of s ≡ model.corner_square side corner (left_over squares points)
+corner_is points squares i b s corner side all h is_left is_bottom is_side =
+    square_parts _ _ _ _ _ _
+    (is_left ∙ ap₂ (λ low high. if corner % 2 == 0 then low else (high -ℤ pos side)) (low_is_least (λ p. p.x) points squares i b.across all h.across) (high_is_greatest (λ p. p.x) points squares i b.across all h.across))
+    (is_bottom ∙ ap₂ (λ low high. if corner / 2 == 0 then low else (high -ℤ pos side)) (low_is_least (λ p. p.y) points squares i b.up all h.up) (high_is_greatest (λ p. p.y) points squares i b.up all h.up))
+    is_side
+  where
+    square_parts : (a b c d : ℤ) (m n : ℕ) → a ≡ b → c ≡ d → m ≡ n → ◌≡◌ {A = model.Square} (record { left = a; bottom = c; side = m }) (record { left = b; bottom = d; side = n })
+    square_parts a b c d m n e f g = cc
+
+-- with that square placed too, what is outside of it is left over
+pub left_over-corner : (points : List PlanePoint) (squares pushed : List Square) (i : ℕ) (b : Bounds) (s : Square) (corner side : ℕ) → length points ≤ i → IsBox points squares i b
+    → s.left ≡ (if corner % 2 == 0 then b.across.low else (b.across.high -ℤ pos side)) → s.bottom ≡ (if corner / 2 == 0 then b.up.low else (b.up.high -ℤ pos side)) → s.side ≡ side → pushed ≡ squares ++ s ∷ []
+    → left_over pushed points ≡ model.outside (model.corner_square side corner (left_over squares points)) (left_over squares points)
+left_over-corner points squares pushed i b s corner side all h left bottom wide is =
+    ap (λ ss. left_over ss points) is ∙ left_over-push squares s points ∙ ap (λ q. model.outside q (left_over squares points)) (corner_is points squares i b s corner side all h left bottom wide)

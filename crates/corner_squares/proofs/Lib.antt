@@ -1,0 +1,4 @@
+pub mod Holding
+pub mod LeftOver
+pub mod Boxes
+pub mod Trees

@@ -1,0 +1,21 @@
+use Rattle.std.proofs.Common.{arith, subst, length, ◌≤◌, refl}
+use Rattle.bounded_coords.specs.Clouds.{counted_points}
+use Rattle.corner_squares.specs.Extents.{IsBox}
+use Rattle.p_centres.specs.Surveys.{IsNoLonger, IsFarPair}
+use Rattle.p_centres.proofs.Covering.{cover_now, cover_with_one_more, refuted_by_pair}
+use Rattle.p_centres.proofs.tree.cover_rest.Goals as goal
+
+pub returns-in-Nothing-clause-covered : goal.returns-in-Nothing-clause-covered
+returns-in-Nothing-clause-covered g c = λ _.
+    cover_now (counted_points c.args.cloud) c.args.side _ c.args.placed.now.items c.as_slice.result.now c.as_slice.ensures.value (omega arith) c.requires.placed c.in-Nothing.ensures.found
+
+pub returns-in-Around-clause-covered : goal.returns-in-Around-clause-covered
+returns-in-Around-clause-covered g c = λ _.
+    cover_with_one_more (counted_points c.args.cloud) c.args.side c.args.placed.now.items c.push.new.self.items c.in-Around.bounds c.corner_square.result c.requires.placed
+    (subst (λ squares. IsBox (counted_points c.args.cloud) squares (length (counted_points c.args.cloud)) c.in-Around.bounds) c.as_slice.ensures.value c.in-Around.ensures.found.0, c.in-Around.ensures.found.1)
+    (record { left = c.corner_square.ensures.left; bottom = c.corner_square.ensures.bottom; wide = c.corner_square.ensures.side }) c.push.ensures.items
+
+pub returns-in-Far-clause-refuted : goal.returns-in-Far-clause-refuted
+returns-in-Far-clause-refuted g c = λ _.
+    refuted_by_pair (counted_points c.args.cloud) c.args.side c.args.placed.now.items c.args.leaves.now.items c.push-in-Far.new.self.items c.in-Far.leaf
+    (subst (λ squares. IsFarPair (counted_points c.args.cloud) squares c.args.side c.in-Far.leaf) c.as_slice.ensures.value c.in-Far.ensures.found) c.push-in-Far.ensures.items

@@ -1,0 +1,54 @@
+-- What a pass over the points finds that squares leave over.
+use Rattle.std.specs.Prelude.{◌≡◌, ◌⊎◌, ℕ, ◌<◌, List, length, All, pos, ◌+ℤ◌, ◌≤ℤ◌, ◌<ℤ◌}
+use Rattle.std.specs.Prelude.{Option, Some, None}
+use Rattle.bounds_model.specs.Plane.{PlanePoint, point_at}
+use Rattle.bounds_model.specs.CentresAnswer.{AreFar}
+use Rattle.answers.specs.declared.centres.Leaf.{Leaf}
+use Rattle.corner_squares.specs.declared.square.Square.{Square}
+use Rattle.corner_squares.specs.declared.extent.Extent.{Extent}
+use Rattle.corner_squares.specs.declared.bounds.Bounds.{Bounds}
+use Rattle.corner_squares.specs.Squares.{IsHeld}
+use Rattle.corner_squares.specs.Extents.{Sees, IsBox}
+use Rattle.p_centres.specs.declared.surveys.Finding.{Finding}
+use Rattle.p_centres.specs.declared.surveys.Finding.TheVariants.{Nothing, Around, Far}
+
+-- the box is at most so long, in x and in y
+pub record IsNoLonger (limit : ℕ) (b : Bounds) : Type 0 where
+  pub in_x : b.across.high ≤ℤ (b.across.low +ℤ pos limit)
+  pub in_y : b.up.high ≤ℤ (b.up.low +ℤ pos limit)
+
+-- the leaf's points are at the ends of an extent that is longer
+pub record AreEnds (limit : ℕ) (e : Extent) (leaf : Leaf) : Type 0 where
+  pub first : leaf.first ≡ e.low_at
+  pub second : leaf.second ≡ e.high_at
+  pub longer : (e.low +ℤ pos limit) <ℤ e.high
+
+-- points at the ends of a box that is longer, or none where it is not
+abbrev pub IsFarOrNear : Bounds → ℕ → Option Leaf → Type 0
+IsFarOrNear b limit None = IsNoLonger limit b
+IsFarOrNear b limit (Some leaf) = AreEnds limit b.across leaf ⊎ AreEnds limit b.up leaf
+
+-- the first i points are all held, or the box is that of the others
+abbrev pub IsFound : List PlanePoint → List Square → ℕ → ℕ → Option Bounds → Type 0
+IsFound points squares limit i None = (k : ℕ) → k < i → IsHeld squares (point_at points k)
+IsFound points squares limit i (Some b) = IsBox points squares i b × IsNoLonger limit b
+
+-- two points that no square holds and that are far apart: they are points, so the limit is less than what they can be apart
+pub record IsFarPair (points : List PlanePoint) (squares : List Square) (limit : ℕ) (leaf : Leaf) : Type 0 where
+  pub first : leaf.first < length points
+  pub second : leaf.second < length points
+  pub first_free : ¬ IsHeld squares (point_at points leaf.first)
+  pub second_free : ¬ IsHeld squares (point_at points leaf.second)
+  pub far : AreFar limit (point_at points leaf.first) (point_at points leaf.second)
+  pub short : limit < 400000
+
+-- what is left over
+abbrev pub IsSurvey : List PlanePoint → List Square → ℕ → Finding → Type 0
+IsSurvey points squares limit Nothing = All (IsHeld squares) points
+IsSurvey points squares limit (Around b) = IsBox points squares (length points) b × IsNoLonger limit b
+IsSurvey points squares limit (Far leaf) = IsFarPair points squares limit leaf
+
+-- the bounding box of what is left over, where there is something
+abbrev pub IsWhole : List PlanePoint → List Square → Option Bounds → Type 0
+IsWhole points squares None = All (IsHeld squares) points
+IsWhole points squares (Some b) = IsBox points squares (length points) b
