@@ -1,11 +1,20 @@
 -- The kinds that are checked.
-use Rattle.std.specs.Prelude.{◌≡◌, ⊤}
+use Rattle.std.specs.Prelude.{⊤, ◌≤◌}
 use Rattle.bounded_coords.specs.declared.ask.Ask.{Ask}
-use Rattle.bounded_coords.specs.declared.ask.Ask.TheVariants.{Circle, Sphere, Centres}
+use Rattle.bounded_coords.specs.declared.ask.Ask.TheVariants.{Circle, Sphere, Rectangle, Strip, Annulus, Empty, Centres}
 
--- circles, spheres, and one centre
+-- the kind is checked, and the question valid
 abbrev pub IsBuilt : Ask → Type 0
 IsBuilt Circle = ⊤
 IsBuilt Sphere = ⊤
-IsBuilt (Centres p) = p ≡ 1
+IsBuilt Rectangle = ⊤
+IsBuilt Strip = ⊤
+IsBuilt Annulus = ⊤
+IsBuilt (Empty frame) = ⊤
+IsBuilt (Centres p) = (1 ≤ p) × (p ≤ 3)
 IsBuilt ask = ⊥
+
+-- the kinds whose answers are not checked without memory
+abbrev pub WantsMemory : Ask → Type 0
+WantsMemory (Empty frame) = ⊤
+WantsMemory ask = ⊥

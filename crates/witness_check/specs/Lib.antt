@@ -1,3 +1,1 @@
-pub mod CentresLimits
-pub mod HeldBalls
 pub mod Kinds

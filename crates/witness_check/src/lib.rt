@@ -1,17 +1,16 @@
-//! The checker of answers that anyone made: it looks at the points and the answer alone, and says yes exactly where the
-//! answer's witness shows that the answer is best.
+//! The checker of answers that anyone made: it looks at the points and the answer alone, and says yes exactly where the answer's
+//! witness shows that the answer is best. Each kind is judged in a crate of its own.
 //!
-//! - `answers`: an answer of any kind
-//! - `balls`: circles and spheres that weighted points hold in place
-//! - `centres`: squares that cover the points
+//! - `judging`: an answer of any kind
 #![tactic(auto)]
 
-mod answers;
-mod balls;
-mod centres;
+mod judging;
 #[cfg(test)]
 mod tests;
 
-pub use answers::check;
-pub use balls::{check_circle, check_sphere};
-pub use centres::check_centres;
+pub use annulus_check::check_annulus;
+pub use ball_check::{check_circle, check_sphere};
+pub use centres_check::check_centres;
+pub use empty_check::check_empty;
+pub use fan_checks::{check_rectangle, check_strip};
+pub use judging::check;

@@ -1,0 +1,3 @@
+pub mod BallPassing
+pub mod SupportWeights
+pub mod Supports

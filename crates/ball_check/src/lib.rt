@@ -1,0 +1,11 @@
+//! The checker of circles and spheres: it looks at the points and the answer alone, and says yes exactly where the weighted points hold the
+//! ball in place, around all points.
+//!
+//! - `balls`: the checkers
+#![tactic(auto)]
+
+mod balls;
+#[cfg(test)]
+mod tests;
+
+pub use balls::{check_circle, check_sphere};

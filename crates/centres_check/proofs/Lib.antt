@@ -1,0 +1,2 @@
+pub mod CentresPassing
+pub mod Leaves

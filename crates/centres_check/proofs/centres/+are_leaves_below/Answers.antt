@@ -1,0 +1,102 @@
+use Rattle.std.proofs.Common.{rules, ◌≡◌, ◌≢◌, refl, sym, subst, ap, ◌∙◌, ℕ, ◌+◌, ◌-◌, ◌*◌, ◌/◌, ◌^◌, ◌<◌, ◌≤◌, ◌%◌, pos, ◌-ℤ◌, [], ◌∷◌, ◌++◌, List, length, map, take, drop, All, arith}
+use Rattle.std.specs.Prelude.{if◌then◌else◌, ◌==◌}
+use Rattle.std.proofs.lemmas.List.{length-map}
+use Rattle.bounds_model.specs.Plane.{PlanePoint}
+use Rattle.bounds_model.specs.CentresAnswer as model
+use Rattle.bounded_coords.specs.Clouds.{points_of}
+use Rattle.answers.specs.Answers.{leaf_of}
+use Rattle.corner_squares.specs.declared.square.Square.{Square}
+use Rattle.corner_squares.specs.declared.bounds.Bounds.{Bounds}
+use Rattle.corner_squares.specs.Squares.{left_over}
+use Rattle.corner_squares.specs.Extents.{IsBox}
+use Rattle.corner_squares.specs.Trees.{AreLeavesAt}
+use Rattle.corner_squares.proofs.Boxes.{left_over-corner}
+use Rattle.corner_squares.proofs.Trees.{AreBelowFirst}
+use Rattle.centres_check.specs.CentresLimits.{NamesPoints}
+use Rattle.integers.proofs.Lists.{All-unmap}
+use Rattle.centres_check.proofs.Leaves.{leaf_alone, part_is, slice_is, slice_count, slice_names, below_more, below_all, below_one, none_found, popped}
+use Rattle.centres_check.proofs.centres.+are_leaves_below.Goals as goal
+
+pub is_leaf-requires : goal.is_leaf-requires
+is_leaf-requires t c =
+    let one = c.requires.count ∙ ap (λ k. 4 ^ k) c.if-depth-eq0.true in
+    All-unmap (NamesPoints (length (points_of c.args.cloud))) leaf_of c.args.leaves.now c.requires.names 0 (record { first = 0; second = 0 }) (omega (arith, one))
+
+pub returns-then-depth-eq0-clause-leaves : goal.returns-then-depth-eq0-clause-leaves
+returns-then-depth-eq0-clause-leaves t c =
+    let one = c.requires.count ∙ ap (λ k. 4 ^ k) c.if-depth-eq0.true in
+    leaf_alone c.args.side c.args.depth (points_of c.args.cloud) c.args.placed.now.items c.as_slice.result.now c.args.leaves.now (record { first = 0; second = 0 }) c.if-depth-eq0.true c.as_slice.ensures.value c.requires.count
+    (All-unmap (NamesPoints (length (points_of c.args.cloud))) leaf_of c.args.leaves.now c.requires.names 0 (record { first = 0; second = 0 }) (omega (arith, one))) c.is_leaf.ensures
+
+pub returns-in_default-clause-leaves : goal.returns-in_default-clause-leaves
+returns-in_default-clause-leaves t c = (
+  λ yes. absurd (cc yes),
+  λ leaves. absurd (none_found c.args.side c.args.depth (points_of c.args.cloud) c.args.placed.now.items c.as_slice-2.result.now c.bounding_box.result (map leaf_of c.args.leaves.now) c.as_slice-2.ensures.value c.in_default.is c.bounding_box.ensures leaves),
+)
+
+room_for_square : (was depth kept pushed : ℕ) → was + depth ≤ 2 → depth ≢ 0 → kept ≡ was → pushed ≡ kept + 1 → pushed + (depth - 1) ≤ 2
+room_for_square was depth kept pushed h some e f = omega (arith, h, some, e, f)
+
+pub are_leaves_below-requires : goal.are_leaves_below-requires
+are_leaves_below-requires t c = (
+  search rules,
+  (
+    slice_count c.args.leaves.now c.args.depth c.from.result c.loop-corner.corner c.if-depth-eq0.false c.requires.count c.from.ensures c.loop-corner-test.true,
+    (
+      slice_names (points_of c.args.cloud) c.args.leaves.now c.from.result c.loop-corner.corner (length c.args.leaves.now / 4) c.from.ensures c.requires.names,
+      (c.requires.limit, room_for_square (length c.args.placed.now.items) c.args.depth (length c.loop-corner.placed.items) (length c.push.new.self.items) c.requires.room c.if-depth-eq0.false (ap length c.loop-corner.invariant.stays) c.push.ensures.len),
+    ),
+  ),
+)
+
+-- what is left over once the square in this corner is placed
+rest_is : (points : List PlanePoint) (placed seen kept pushed : List Square) (b : Bounds) (s : Square) (corner side : ℕ) → seen ≡ placed → kept ≡ placed → IsBox points seen (length points) b
+    → s.left ≡ (if corner % 2 == 0 then b.across.low else (b.across.high -ℤ pos side)) → s.bottom ≡ (if corner / 2 == 0 then b.up.low else (b.up.high -ℤ pos side)) → s.side ≡ side → pushed ≡ kept ++ s ∷ []
+    → left_over pushed points ≡ model.outside (model.corner_square side corner (left_over placed points)) (left_over placed points)
+rest_is points placed seen kept pushed b s corner side same stays box left bottom wide is =
+    left_over-corner points placed pushed (length points) b s corner side (itself (length points)) (subst (λ ss. IsBox points ss (length points) b) same box) left bottom wide (is ∙ ap (λ ss. ss ++ s ∷ []) stays)
+  where
+    itself : (n : ℕ) → n ≤ n
+    itself n = omega arith
+
+at_most_two : (was depth : ℕ) → was + depth ≤ 2 → depth ≤ 2
+at_most_two was depth h = omega (arith, h)
+
+pub returns-then-not-are_leaves_below-clause-leaves : goal.returns-then-not-are_leaves_below-clause-leaves
+returns-then-not-are_leaves_below-clause-leaves t c = (
+  λ yes. absurd (cc yes),
+  λ leaves.
+      let points = points_of c.args.cloud in
+      let part = part_is c.args.depth (length c.args.leaves.now) c.if-depth-eq0.false c.requires.count in
+      let rest = rest_is points c.args.placed.now.items c.as_slice-2.result.now c.loop-corner.placed.items c.push.new.self.items c.in-Some.bounds c.corner_square.result c.loop-corner.corner c.args.side
+      c.as_slice-2.ensures.value c.loop-corner.invariant.stays c.in-Some.ensures c.corner_square.ensures.left c.corner_square.ensures.bottom c.corner_square.ensures.side c.push.ensures.items in
+      let below = below_one c.args.side c.args.depth c.loop-corner.corner (length c.args.leaves.now / 4) points (left_over c.args.placed.now.items points) (left_over c.push.new.self.items points) (map leaf_of c.args.leaves.now)
+      c.if-depth-eq0.false (at_most_two (length c.args.placed.now.items) c.args.depth c.requires.room) c.loop-corner-test.true part rest leaves in
+      let yes = c.are_leaves_below.ensures.leaves.1 (subst (AreLeavesAt c.args.side (c.args.depth - 1) points (left_over c.push.new.self.items points)) (sym (slice_is c.args.leaves.now c.from.result c.loop-corner.corner (length c.args.leaves.now / 4) c.from.ensures)) below) in
+      let no = c.if-not-are_leaves_below.true in
+      absurd (cc (yes, no)),
+)
+
+pub loop-corner-preserved : goal.loop-corner-preserved
+loop-corner-preserved t c =
+    let points = points_of c.args.cloud in
+    let part = part_is c.args.depth (length c.args.leaves.now) c.if-depth-eq0.false c.requires.count in
+    let rest = rest_is points c.args.placed.now.items c.as_slice-2.result.now c.loop-corner.placed.items c.push.new.self.items c.in-Some.bounds c.corner_square.result c.loop-corner.corner c.args.side
+    c.as_slice-2.ensures.value c.loop-corner.invariant.stays c.in-Some.ensures c.corner_square.ensures.left c.corner_square.ensures.bottom c.corner_square.ensures.side c.push.ensures.items in
+    let new = subst (AreLeavesAt c.args.side (c.args.depth - 1) points (left_over c.push.new.self.items points)) (slice_is c.args.leaves.now c.from.result c.loop-corner.corner (length c.args.leaves.now / 4) c.from.ensures)
+    (c.are_leaves_below.ensures.leaves.0 c.if-not-are_leaves_below.false) in
+    record {
+      stays = popped c.loop-corner.placed.items c.push.new.self.items c.are_leaves_below.new.placed.items c.pop.new.self.items c.corner_square.result c.push.ensures.items (c.are_leaves_below.ensures.same c.if-not-are_leaves_below.false) c.pop.ensures.rest
+          ∙ c.loop-corner.invariant.stays;
+      below = below_more c.args.side (c.args.depth - 1) c.loop-corner.corner (length c.args.leaves.now / 4) points (left_over c.args.placed.now.items points) (left_over c.push.new.self.items points) (map leaf_of c.args.leaves.now)
+          (let room = c.requires.room in omega (arith, room)) c.loop-corner-test.true part rest c.loop-corner.invariant.below new;
+    }
+
+pub returns-clause-leaves : goal.returns-clause-leaves
+returns-clause-leaves t c = (
+  λ yes. below_all c.args.side c.args.depth c.loop-corner.corner (points_of c.args.cloud) (left_over c.args.placed.now.items (points_of c.args.cloud)) (map leaf_of c.args.leaves.now) c.if-depth-eq0.false
+      (let some = c.loop-corner-test.false in let most = c.loop-corner.auto.corner-end in omega (arith, some, most)) (length-map c.args.leaves.now leaf_of ∙ c.requires.count)
+      (subst (λ n. AreBelowFirst c.args.side (c.args.depth - 1) c.loop-corner.corner (points_of c.args.cloud) (left_over c.args.placed.now.items (points_of c.args.cloud)) (take (c.loop-corner.corner * (n / 4)) (map leaf_of c.args.leaves.now)))
+      (sym (length-map c.args.leaves.now leaf_of)) c.loop-corner.invariant.below),
+  λ leaves. refl,
+)
