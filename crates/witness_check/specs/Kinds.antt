@@ -1,7 +1,7 @@
 -- The kinds that are checked.
 use Rattle.std.specs.Prelude.{⊤, ◌≤◌}
 use Rattle.bounded_coords.specs.declared.ask.Ask.{Ask}
-use Rattle.bounded_coords.specs.declared.ask.Ask.TheVariants.{Circle, Sphere, Rectangle, Strip, Annulus, Empty, Centres}
+use Rattle.bounded_coords.specs.declared.ask.Ask.TheVariants.{Circle, Sphere, Rectangle, Strip, Annulus, Empty, Distance, Centres}
 
 -- the kind is checked, and the question valid
 abbrev pub IsBuilt : Ask → Type 0
@@ -11,6 +11,7 @@ IsBuilt Rectangle = ⊤
 IsBuilt Strip = ⊤
 IsBuilt Annulus = ⊤
 IsBuilt (Empty frame) = ⊤
+IsBuilt Distance = ⊤
 IsBuilt (Centres p) = (1 ≤ p) × (p ≤ 3)
 IsBuilt ask = ⊥
 

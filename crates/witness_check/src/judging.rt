@@ -10,6 +10,7 @@ use answers::Answer;
 use ball_check::{check_circle, check_sphere};
 use bounded_coords::{Ask, OutOfMemory, Sets};
 use centres_check::check_centres;
+use distance_check::check_distance;
 use empty_check::check_empty;
 use fan_checks::{check_rectangle, check_strip};
 use optimality::answer::passing_answers_are_best;
@@ -33,6 +34,7 @@ pub fn check(alloc: Global, ask: &Ask, sets: Sets<'_>, answer: &Answer) -> Resul
             check_empty(alloc, Some(cloud), *frame, a)
         }
         (Ask::Empty(frame), Sets::Bare, Answer::Empty(a)) => check_empty(alloc, None, *frame, a),
+        (Ask::Distance, Sets::Two(p, q), Answer::Distance(a)) => Ok(check_distance(p, q, a)),
         (Ask::Centres(p), Sets::Plane(cloud), Answer::Centres(a)) => {
             Ok(check_centres(cloud, *p, a))
         }

@@ -11,6 +11,7 @@ mod tests;
 pub use annulus_check::check_annulus;
 pub use ball_check::{check_circle, check_sphere};
 pub use centres_check::check_centres;
+pub use distance_check::check_distance;
 pub use empty_check::check_empty;
 pub use fan_checks::{check_rectangle, check_strip};
 pub use judging::check;

@@ -1,0 +1,2 @@
+pub mod PairLimits
+pub mod DistancePassing

@@ -1,0 +1,10 @@
+pub mod Places
+pub mod WayAreas
+pub mod TableSteps
+pub mod Bests
+pub mod Tails
+pub mod HullCorners
+pub mod PassingPolygons
+pub mod Reading
+pub mod Reaching
+pub mod NextRows

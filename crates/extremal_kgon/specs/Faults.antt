@@ -1,0 +1,17 @@
+-- Why points have no polygon.
+use Rattle.std.specs.Prelude.{◌≡◌, ℕ, ◌<◌, ⊤, List, length}
+use Rattle.bounds_model.specs.Plane.{PlanePoint}
+use Rattle.bounds_model.specs.Hull.{AreCorners}
+use Rattle.extremal_kgon.specs.declared.polygon.KgonFault.{KgonFault}
+use Rattle.extremal_kgon.specs.declared.polygon.KgonFault.TheVariants.{TooManyCorners, OutOfMemory}
+
+-- the hull has so many corners, more than 128
+pub record HasTooMany (points : List PlanePoint) (count : ℕ) (corners : List PlanePoint) : Type 0 where
+  pub are_corners : AreCorners points corners
+  pub as_many : length corners ≡ count
+  pub too_many : 128 < count
+
+-- too many corners are told with their number; memory may be wanting at any time
+abbrev pub IsCause : List PlanePoint → KgonFault → Type 0
+IsCause points (TooManyCorners count) = (corners : List PlanePoint) × HasTooMany points count corners
+IsCause points OutOfMemory = ⊤

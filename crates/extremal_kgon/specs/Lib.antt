@@ -1,0 +1,5 @@
+pub mod Ways
+pub mod Rows
+pub mod Tables
+pub mod Choices
+pub mod Faults

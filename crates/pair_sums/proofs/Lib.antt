@@ -1,0 +1,7 @@
+pub mod SumSizes
+pub mod SumSteps
+pub mod PairWeights
+pub mod Products
+pub mod Directions
+pub mod Places
+pub mod WeightedMeans

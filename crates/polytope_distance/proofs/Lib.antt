@@ -1,0 +1,5 @@
+pub mod Listing
+pub mod SupportSums
+pub mod HeldDistances
+pub mod Passing
+pub mod Settled
