@@ -4,25 +4,37 @@ use Rattle.bounds_model.specs.Asks.{Ask, Sets}
 use Rattle.bounds_model.specs.Answers.{Answer, Passes, IsBest}
 use Rattle.bounds_model.specs.AnswerText.Spelling.{Spells}
 use Rattle.bnd_io.specs.Files.{Folder, bytes_of}
-use Rattle.bounds_tool.specs.Words.{solve_task, check_task}
-use Rattle.bounds_tool.specs.Judging.{Work, solving, checking, ◌>>=◌, points_in, answer_in, work_of}
+use Rattle.bounds_model.specs.Answers.{IsOptimum, size_of}
+use Rattle.bounds_model.specs.AnswerText.SpelledParts.{size_line}
+use Rattle.point_text.specs.declared.text.Form.{Form}
+use Rattle.command_line.specs.Words.{solve_task, check_task}
+use Rattle.bounds_tool.specs.Judging.{Work, solving, sizing, checking, wanted, ◌>>=◌, points_in, answer_in, work_of}
 use Rattle.bounds_tool.specs.Outputs as outputs
-use Rattle.bounds_tool.specs.Outputs.{IsSolution, IsDone, IsMeantAs}
+use Rattle.bounds_tool.specs.Outputs.{IsSolution, IsSize, IsDone, IsMeantAs}
 use Rattle.bounds_tool.specs.declared.output.Output.TheVariants.{Verdict}
 
 -- the text of an answer that passes is the output of a solving task
-pub solved : (told : Option Folder) (ask : Ask) (file : List ℕ) (sets : Sets) (answer : Answer) (text : List ℕ)
+pub solved : (told : Option Folder) (ask : Ask) (form : Form) (file : List ℕ) (sets : Sets) (answer : Answer) (text : List ℕ)
     → IfSome told (λ folder. points_in ask (bytes_of folder file) ≡ Ok sets)
     → Passes ask sets answer → IsBest ask sets answer → Spells text answer
-    → IfSome told (λ folder. (work : Work) × (work_of folder (solve_task ask file) ≡ Ok work) × IsDone work text)
-solved None ask file sets answer text points passes best spells = tt
-solved (Some folder) ask file sets answer text points passes best spells =
-    (solving ask sets, ap (λ r. r >>= λ sets. Ok (solving ask sets)) points, record { answer = answer; spells = spells; passes = passes; best = best })
+    → IfSome told (λ folder. (work : Work) × (work_of folder (solve_task ask form false file) ≡ Ok work) × IsDone work text)
+solved None ask form file sets answer text points passes best spells = tt
+solved (Some folder) ask form file sets answer text points passes best spells =
+    (solving ask sets, ap (λ r. r >>= λ sets. Ok (wanted false ask sets)) points, record { answer = answer; spells = spells; passes = passes; best = best })
+
+-- the line of the size of a best answer is the output of a task that asks for it alone
+pub sized : (told : Option Folder) (ask : Ask) (form : Form) (file : List ℕ) (sets : Sets) (answer : Answer) (text : List ℕ)
+    → IfSome told (λ folder. points_in ask (bytes_of folder file) ≡ Ok sets)
+    → IsBest ask sets answer → text ≡ size_line (size_of answer)
+    → IfSome told (λ folder. (work : Work) × (work_of folder (solve_task ask form true file) ≡ Ok work) × IsDone work text)
+sized None ask form file sets answer text points best line = tt
+sized (Some folder) ask form file sets answer text points best line =
+    (sizing ask sets, ap (λ r. r >>= λ sets. Ok (wanted true ask sets)) points, record { size = size_of answer; optimum = record { answer = answer; best = best; printed = refl }; line = line })
 
 -- where both files are accepted, the answer is to be judged
-check_work : (folder : Folder) (ask : Ask) (points answer : List ℕ) (sets : Sets) (a : Answer) → points_in ask (bytes_of folder points) ≡ Ok sets → answer_in (bytes_of folder answer) ≡ Ok a
-    → work_of folder (check_task ask points answer) ≡ Ok (checking ask sets a)
-check_work folder ask points answer sets a p q =
+check_work : (folder : Folder) (ask : Ask) (form : Form) (points answer : List ℕ) (sets : Sets) (a : Answer) → points_in ask (bytes_of folder points) ≡ Ok sets → answer_in (bytes_of folder answer) ≡ Ok a
+    → work_of folder (check_task ask form points answer) ≡ Ok (checking ask sets a)
+check_work folder ask form points answer sets a p q =
     ap (λ r. r >>= λ sets. answer_in (bytes_of folder answer) >>= λ a. Ok (checking ask sets a)) p ∙ ap (λ r. r >>= λ a. Ok (checking ask sets a)) q
 
 -- a test that fails is not true
@@ -30,13 +42,13 @@ not_true : IsTrue false → ⊥
 not_true e = cc
 
 -- what a checker says is the output of a task that checks
-pub checked : (told : Option Folder) (ask : Ask) (points answer : List ℕ) (sets : Sets) (a : Answer) (passing : Bool)
+pub checked : (told : Option Folder) (ask : Ask) (form : Form) (points answer : List ℕ) (sets : Sets) (a : Answer) (passing : Bool)
     → IfSome told (λ folder. points_in ask (bytes_of folder points) ≡ Ok sets)
     → IfSome told (λ folder. answer_in (bytes_of folder answer) ≡ Ok a)
     → (IsTrue passing ↔ Passes ask sets a) → (IsTrue passing → IsBest ask sets a)
-    → IfSome told (λ folder. (work : Work) × (work_of folder (check_task ask points answer) ≡ Ok work) × IsMeantAs (Verdict passing) work (outputs.bytes_of (Verdict passing)))
-checked None ask points answer sets a passing p q passes best = tt
-checked (Some folder) ask points answer sets a true p q passes best =
-    (checking ask sets a, check_work folder ask points answer sets a p q, record { passes = passes.0 refl; best = best refl; yes = refl })
-checked (Some folder) ask points answer sets a false p q passes best =
-    (checking ask sets a, check_work folder ask points answer sets a p q, record { fails = λ h. not_true (passes.1 h); no = refl })
+    → IfSome told (λ folder. (work : Work) × (work_of folder (check_task ask form points answer) ≡ Ok work) × IsMeantAs (Verdict passing) work (outputs.bytes_of (Verdict passing)))
+checked None ask form points answer sets a passing p q passes best = tt
+checked (Some folder) ask form points answer sets a true p q passes best =
+    (checking ask sets a, check_work folder ask form points answer sets a p q, record { passes = passes.0 refl; best = best refl; yes = refl })
+checked (Some folder) ask form points answer sets a false p q passes best =
+    (checking ask sets a, check_work folder ask form points answer sets a p q, record { fails = λ h. not_true (passes.1 h); no = refl })

@@ -1,9 +1,10 @@
 -- Why a run gives no whole output, in the words of the model.
 use Rattle.bounds_model.specs.ErrorLines as model
+use Rattle.command_line.specs.Faults.{meant_fault}
 use Rattle.bounds_tool.specs.declared.cause.InputFile.{InputFile}
 use Rattle.bounds_tool.specs.declared.cause.InputFile.TheVariants.{Points, Answer}
 use Rattle.bounds_tool.specs.declared.cause.Cause.{Cause}
-use Rattle.bounds_tool.specs.declared.cause.Cause.TheVariants.{Words, NotOpened, NotRead, TooLong, BadLine, OutOfRange, TooMany, NoPoints, WrongSets, BadAnswer, BigNumber, OutputNotWritten, OutOfMemory}
+use Rattle.bounds_tool.specs.declared.cause.Cause.TheVariants.{Usage, NotOpened, NotRead, TooLong, BadLine, OutOfRange, TooMany, NoPoints, WrongSets, BadAnswer, BigNumber, OutputNotWritten, OutOfMemory}
 
 -- the file
 abbrev pub meant_file : InputFile → model.InputFile
@@ -12,7 +13,7 @@ meant_file Answer = model.answer_file
 
 -- the cause
 abbrev pub meant : Cause → model.Cause
-meant Words = model.words_not_understood
+meant (Usage fault) = meant_fault fault
 meant (NotOpened file) = model.open_fault (meant_file file)
 meant (NotRead file) = model.read_fault (meant_file file)
 meant (TooLong file) = model.too_long (meant_file file)

@@ -1,7 +1,5 @@
 -- What words and files call for: a work to do, or the cause for which there is none.
-use Rattle.std.specs.Prelude.{ℕ, ◌^◌, nat_le, List, length, if◌then◌else◌}
-use Rattle.std.specs.declared.option.Option.{Option}
-use Rattle.std.specs.declared.option.Option.TheVariants.{Some, None}
+use Rattle.std.specs.Prelude.{ℕ, Bool, true, false, ◌^◌, nat_le, List, length, if◌then◌else◌}
 use Rattle.std.specs.declared.result.Result.{Result}
 use Rattle.std.specs.declared.result.Result.TheVariants.{Ok, Err}
 use Rattle.bounds_model.specs.Asks.{Ask, Sets}
@@ -11,10 +9,10 @@ use Rattle.bounds_model.specs.PointText.{sets_of_text}
 use Rattle.bounds_model.specs.AnswerText.Formats as format
 use Rattle.bounds_model.specs.AnswerText.Reading.{reading_of}
 use Rattle.bounds_model.specs.Demo.{demo_sets}
-use Rattle.bounds_model.specs.ErrorLines.{Cause, InputFile, points_file, answer_file, words_not_understood, too_long, bad_line, out_of_range, too_many_points, no_points, wrong_sets, bad_answer, big_number}
+use Rattle.bounds_model.specs.ErrorLines.{Cause, InputFile, points_file, answer_file, too_long, bad_line, out_of_range, too_many_points, no_points, wrong_sets, bad_answer, big_number}
 use Rattle.witness_format.specs.Kinds.{known_kinds}
 use Rattle.bnd_io.specs.Files.{Folder, bytes_of}
-use Rattle.bounds_tool.specs.Words.{Task, solve_task, check_task, demo_task, task_of}
+use Rattle.command_line.specs.Words.{Task, solve_task, check_task, demo_task, task_of}
 
 -- one step after another, up to the first cause
 infixl 10 ◌>>=◌
@@ -25,6 +23,7 @@ abbrev pub ◌>>=◌ : {A B : Type 0} → Result A Cause → (A → Result B Cau
 -- what is to be done with accepted files
 pub data Work : Type 0 where
   solving : Ask → Sets → Work  -- to answer what is asked of these points
+  sizing : Ask → Sets → Work  -- to tell the size of an answer alone
   checking : Ask → Sets → Answer → Work  -- to judge this answer
   demonstrating : Ask → ℕ → Sets → Work  -- to answer what is asked of these points, which were made, so many in each set
 
@@ -70,21 +69,26 @@ answer_in bytes = do
   whole ← bytes_within answer_file bytes
   read_answer (reading_of known_kinds whole)
 
+-- the answer is wanted, or its size alone
+abbrev pub wanted : Bool → Ask → Sets → Work
+wanted false = solving
+wanted true = sizing
+
 -- the work of a task: the point file is judged whole before the answer file
 abbrev pub work_of : Folder → Task → Result Work Cause
-work_of folder (solve_task ask file) = do
+work_of folder (solve_task ask form brief file) = do
   sets ← points_in ask (bytes_of folder file)
-  Ok (solving ask sets)
-work_of folder (check_task ask points answer) = do
+  Ok (wanted brief ask sets)
+work_of folder (check_task ask form points answer) = do
   sets ← points_in ask (bytes_of folder points)
   a ← answer_in (bytes_of folder answer)
   Ok (checking ask sets a)
 work_of folder (demo_task ask seed count) = Ok (demonstrating ask count (demo_sets ask seed count))
 
 -- the work that the words call for, which are judged before any file
-abbrev pub judge_task : Folder → Option Task → Result Work Cause
-judge_task folder None = Err words_not_understood
-judge_task folder (Some task) = work_of folder task
+abbrev pub judge_task : Folder → Result Task Cause → Result Work Cause
+judge_task folder (Err cause) = Err cause
+judge_task folder (Ok task) = work_of folder task
 
 abbrev pub judge : List (List ℕ) → Folder → Result Work Cause
 judge words folder = judge_task folder (task_of words)

@@ -4,7 +4,7 @@ use Rattle.std.specs.declared.option.Option.{Option}
 use Rattle.bnd_io.specs.Faults.{Rose}
 use Rattle.bnd_io.specs.Sinks.{SinkState, Appended, AppendedPrefix}
 use Rattle.bounds_tool.specs.declared.telling.Line.{Line}
-use Rattle.bounds_tool.specs.declared.telling.Line.TheVariants.{Whole, Numbered}
+use Rattle.bounds_tool.specs.declared.telling.Line.TheVariants.{Whole, Numbered, Named}
 
 -- it received exactly this line, or a prefix of it where its count of faults rose
 pub record Told (last : Option ℕ) (line : List ℕ) (before now : SinkState) : Type 0 where
@@ -15,3 +15,4 @@ pub record Told (last : Option ℕ) (line : List ℕ) (before now : SinkState) :
 abbrev pub line_text : Line → List ℕ
 line_text (Whole text) = text.now
 line_text (Numbered before number after) = before.now ++ (decimal number ++ after.now)
+line_text (Named before name after) = before.now ++ (name.now ++ after.now)

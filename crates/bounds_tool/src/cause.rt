@@ -4,6 +4,7 @@ ghost use Rattle.bounds_tool.specs.Causes.{meant};
 ghost use Rattle.bounds_tool.specs.Run.{cause_status};
 
 use crate::Status;
+use command_line::UsageFault;
 
 /// A file that a command names.
 #[derive(Clone, Copy, Debug, PartialEq, Eq)]
@@ -17,8 +18,8 @@ pub(crate) enum InputFile {
 /// Why a run gives no whole output. Lines and sets are counted from 1.
 #[derive(Clone, Copy, Debug, PartialEq, Eq)]
 pub(crate) enum Cause {
-    /// The words are not understood.
-    Words,
+    /// The words are no task.
+    Usage(UsageFault),
     /// The file was not opened.
     NotOpened(InputFile),
     /// The file was not read.
@@ -51,7 +52,8 @@ impl Cause {
         ensures { result ≡ cause_status (meant self) }
     {
         match self {
-            Cause::Words => Status::Usage,
+            Cause::Usage(UsageFault::OutOfMemory) => Status::Memory,
+            Cause::Usage(_) => Status::Usage,
             Cause::NotOpened(_) | Cause::NotRead(_) => Status::Read,
             Cause::TooLong(_)
             | Cause::BadLine(_)

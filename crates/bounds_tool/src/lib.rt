@@ -1,11 +1,10 @@
-//! The command line tool as a library: from words, files and sinks to the status of a run.
+//! The command line tool as a library: from words, files and sinks to the status of a run. The words are read by `command_line`.
 //!
 //! - `command`: the top call, with the contract of the whole program
 //! - `status`: how a run ends
-//! - `words`: the words of a command line
 //! - `reading`: the files that a command names
 //! - `solving`: the answer to what is asked
-//! - `demo_points`, `demo_text`: points made from a seed, and what is told of them
+//! - `demo_points`, `demo_text`: points made from a seed, and what is told of them; a size alone
 //! - `output`: what a run writes
 //! - `cause`, `telling`: why there is no whole output, and the line that says so
 #![tactic(auto)]
@@ -19,9 +18,9 @@ mod reading;
 mod solving;
 mod status;
 mod telling;
-mod words;
 
 pub use command::run;
+pub use command_line::{Name, Opt, Task, UsageFault, read_words};
 pub use demo_points::make;
-pub use solving::{KgonFault, solve};
+pub use solving::solve;
 pub use status::Status;

@@ -10,6 +10,8 @@ use witness_format::AnswerBytes;
 pub(crate) enum Output {
     /// The text of an answer.
     Solution(AnswerBytes),
+    /// The line of the size of a best answer.
+    Size(Vec<u8>),
     /// Whether an answer that was to be judged passes.
     Verdict(bool),
     /// How many points were made, and the size of a best answer.
@@ -23,6 +25,7 @@ impl Output {
     {
         match self {
             Output::Solution(text) => text.as_slice(),
+            Output::Size(text) => text.as_slice(),
             Output::Verdict(true) => b"yes\n",
             Output::Verdict(false) => b"no\n",
             Output::Demonstration(text) => text.as_slice(),
@@ -34,7 +37,10 @@ impl Output {
         ensures { result ≡ status_of self.now }
     {
         match self {
-            Output::Solution(_) | Output::Verdict(true) | Output::Demonstration(_) => Status::Done,
+            Output::Solution(_)
+            | Output::Size(_)
+            | Output::Verdict(true)
+            | Output::Demonstration(_) => Status::Done,
             Output::Verdict(false) => Status::No,
         }
     }

@@ -52,10 +52,11 @@ fn read_file<F: Files>(
     }
 }
 
-/// The points of a point file, for what is asked.
+/// The points of a point file of this form, for what is asked.
 pub(crate) fn read_points<F: Files>(
     alloc: Global,
     ask: &Ask,
+    form: Form,
     name: &str,
     files: &mut F,
 ) -> Result<OwnedSets, Cause>
@@ -68,7 +69,7 @@ pub(crate) fn read_points<F: Files>(
     ensures cause { IfErr result (λ cause. PointsCause F.last_count (asked ask.now) name.now (F.state files.old) (F.state files.new) (meant cause)) }
 {
     let bytes = read_file(alloc, InputFile::Points, name, files)?;
-    match parse(alloc, bytes.as_slice(), Form::Text, ask) {
+    match parse(alloc, bytes.as_slice(), form, ask) {
         Ok(sets) => Ok(sets),
         Err(TextFault::BadLine(line)) => Err(Cause::BadLine(line)),
         Err(TextFault::OutOfRange(line)) => Err(Cause::OutOfRange(line)),

@@ -1,47 +1,55 @@
 //! The answer to what is asked.
-ghost use Rattle.std.specs.Prelude.{◌≡◌, ℕ, ◌+◌, ◌*◌, ◌≤◌, IsOkAnd};
+ghost use Rattle.std.specs.Prelude.{◌≡◌, ℕ, ◌+◌, ◌*◌, ◌≤◌, IfOk, OnErr};
 ghost use Rattle.bounds_model.specs.Asks.{Suits, ask_centres};
 ghost use Rattle.bounds_model.specs.Answers.{Passes, IsBest};
 ghost use Rattle.bounded_coords.specs.Asked.{asked, lent};
 ghost use Rattle.answers.specs.Answers.{answer_of};
 ghost use Rattle.witness_check.specs.Kinds.{IsBuilt};
-ghost use Rattle.bounds_tool.specs.Solving.{point_count};
+ghost use Rattle.bounds_tool.specs.Solving.{point_count, WantsMemory};
 
-use bounded_coords::{Ask, Sets, Steps};
+use answers::Answer;
+use bounded_coords::{Ask, OutOfMemory, Sets, Steps};
+use empty_rectangle::largest;
+use min_annulus::annulus;
 use min_ball::{circle, sphere};
+use min_rectangle::rectangle;
 use optimality::answer::passing_answers_are_best;
 use p_centres::centres;
+use parallelogram_strip::strip;
+use polytope_distance::distance;
 use std::alloc::Global;
 use std::sync::ledger::Ledger;
-use answers::Answer;
-
-/// Why a question has no answer. Only that of a k-gon may have none.
-#[derive(Clone, Copy, Debug, PartialEq, Eq)]
-pub enum KgonFault {
-    /// The hull has so many corners, more than 128.
-    TooManyCorners(u32),
-    /// Memory was refused.
-    OutOfMemory,
-}
 
 /// Answers what is asked of these points: with one object of the kind that fits them, its exact size, and a witness that
-/// passes the checker, so that no object of the kind has a better size. Circle, sphere and centres take no memory.
+/// passes the checker, so that no object of the kind has a better size. The only error is that memory is wanting; circle, sphere,
+/// annulus, distance and centres take none.
 pub fn solve<L: Ledger>(
-    _alloc: Global,
+    alloc: Global,
     ask: &Ask,
     sets: Sets<'_>,
     steps: &mut Steps<L>,
-) -> Result<Answer, KgonFault>
+) -> Result<Answer, OutOfMemory>
     requires kind { IsBuilt ask.now }
     requires suits { Suits (asked ask.now) (lent sets) }
-    ensures passes { IsOkAnd result (λ answer. Passes (asked ask.now) (lent sets.entry) (answer_of answer)) }
-    ensures best { IsOkAnd result (λ answer. IsBest (asked ask.now) (lent sets.entry) (answer_of answer)) }
+    ensures passes { IfOk result (λ answer. Passes (asked ask.now) (lent sets.entry) (answer_of answer)) }
+    ensures best { IfOk result (λ answer. IsBest (asked ask.now) (lent sets.entry) (answer_of answer)) }
+    ensures memory { OnErr result (WantsMemory ask.now) }
     ensures cost { (p : ℕ) → asked ask.now ≡ ask_centres p → steps.new ≤ steps.old + 1000 * point_count (lent sets.entry) }
 {
     passing_answers_are_best();
     match (ask, sets) {
         (Ask::Circle, Sets::Plane(cloud)) => Ok(Answer::Circle(circle(cloud).answer())),
         (Ask::Sphere, Sets::Space(cloud)) => Ok(Answer::Sphere(sphere(cloud).answer())),
+        (Ask::Rectangle, Sets::Plane(cloud)) => {
+            Ok(Answer::Rectangle(rectangle(alloc, cloud, steps)?))
+        }
+        (Ask::Strip, Sets::Plane(cloud)) => Ok(Answer::Strip(strip(alloc, cloud, steps)?)),
+        (Ask::Annulus, Sets::Plane(cloud)) => Ok(Answer::Annulus(annulus(cloud))),
+        (Ask::Empty(frame), Sets::Plane(cloud)) => {
+            Ok(Answer::Empty(largest(alloc, Some(cloud), *frame)?))
+        }
+        (Ask::Empty(frame), Sets::Bare) => Ok(Answer::Empty(largest(alloc, None, *frame)?)),
+        (Ask::Distance, Sets::Two(p, q)) => Ok(Answer::Distance(distance(p, q))),
         (Ask::Centres(p), Sets::Plane(cloud)) => {
             Ok(Answer::Centres(centres(cloud.counted(), *p, steps)))
         }

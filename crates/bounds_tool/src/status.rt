@@ -9,7 +9,7 @@ pub enum Status {
     Done,
     /// The answer that was to be judged does not pass, and the line that says so was written.
     No,
-    /// The words are not understood.
+    /// The words are no task.
     Usage,
     /// A file is too long, or its text is refused.
     Input,

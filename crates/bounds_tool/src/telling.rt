@@ -1,13 +1,15 @@
 //! The error line of a cause.
-ghost use Rattle.std.specs.Prelude.{◌≡◌, ◌++◌, decimal, OnOk, OnErr};
-ghost use Rattle.bounds_model.specs.ErrorLines.{error_line};
+ghost use Rattle.std.specs.Prelude.{◌≡◌, ◌++◌, OnOk, OnErr};
+ghost use Rattle.bounds_model.specs.ErrorLines.{error_line, option_name};
 ghost use Rattle.bnd_io.specs.Faults.{Rose};
 ghost use Rattle.bnd_io.specs.Sinks.{SinkContinues, Appended, AppendedPrefix};
+ghost use Rattle.command_line.specs.Faults.{meant_fault, meant_option};
 ghost use Rattle.bounds_tool.specs.Causes.{meant};
 ghost use Rattle.bounds_tool.specs.Telling.{Told, line_text};
 
 use crate::cause::{Cause, InputFile};
 use bnd_io::{Sink, WriteFault, write_all};
+use command_line::{Opt, UsageFault};
 use itoa::Buffer;
 
 /// Writes the line that says why there is no whole output. It takes no memory. Where the sink fails, a prefix of the line
@@ -18,11 +20,12 @@ pub(crate) fn tell<E: Sink>(err: &mut E, cause: Cause)
     let _ = write_line(err, line_of(cause));
 }
 
-/// A line of fixed bytes, or one with a number between two pieces of fixed bytes.
+/// A line of fixed bytes, or one with a number or a name between two pieces of fixed bytes.
 #[derive(Clone, Copy)]
 enum Line {
     Whole(&'static [u8]),
     Numbered(&'static [u8], u32, &'static [u8]),
+    Named(&'static [u8], &'static [u8], &'static [u8]),
 }
 
 // The line of a cause.
@@ -31,7 +34,7 @@ fn line_of(cause: Cause) -> Line
     ensures { line_text result ≡ error_line (meant cause) }
 {
     match cause {
-        Cause::Words => Line::Whole(b"bounds: usage: words are not understood\n"),
+        Cause::Usage(fault) => usage_line(fault),
         Cause::NotOpened(InputFile::Points) => {
             Line::Whole(b"bounds: points: cannot be opened\n")
         }
@@ -70,6 +73,50 @@ fn line_of(cause: Cause) -> Line
     }
 }
 
+// The line of words that are no task.
+#[tactic(auto, unfolding(bounds_model::specs::ErrorLines::error_line))]
+fn usage_line(fault: UsageFault) -> Line
+    ensures { line_text result ≡ error_line (meant_fault fault) }
+{
+    match fault {
+        UsageFault::Words => Line::Whole(b"bounds: usage: words are not understood\n"),
+        UsageFault::UnknownCommand => Line::Whole(b"bounds: usage: unknown command\n"),
+        UsageFault::FileCount => Line::Whole(b"bounds: usage: wrong number of files\n"),
+        UsageFault::MissingOption(option) => Line::Named(
+            b"bounds: usage: option --",
+            name_of(option),
+            b" is missing\n",
+        ),
+        UsageFault::UnneededOption(option) => Line::Named(
+            b"bounds: usage: option --",
+            name_of(option),
+            b" is not used here\n",
+        ),
+        UsageFault::BadValue(option) => Line::Named(
+            b"bounds: usage: option --",
+            name_of(option),
+            b" has a bad value\n",
+        ),
+        UsageFault::OutOfMemory => Line::Whole(b"bounds: out of memory\n"),
+    }
+}
+
+// The word of an option without its dashes.
+fn name_of(option: Opt) -> &'static [u8]
+    ensures { result.now ≡ option_name (meant_option option) }
+{
+    match option {
+        Opt::Kind => b"kind",
+        Opt::Form => b"form",
+        Opt::P => b"p",
+        Opt::K => b"k",
+        Opt::Frame => b"box",
+        Opt::Seed => b"seed",
+        Opt::Count => b"count",
+        Opt::Brief => b"brief",
+    }
+}
+
 fn write_line<E: Sink>(err: &mut E, line: Line) -> Result<(), WriteFault>
     ensures written { OnOk result (Appended (E.state err.old) (E.state err.new) (line_text line)) }
     ensures prefix { OnErr result (AppendedPrefix (E.state err.old) (E.state err.new) (line_text line)) }
@@ -77,23 +124,25 @@ fn write_line<E: Sink>(err: &mut E, line: Line) -> Result<(), WriteFault>
 {
     match line {
         Line::Whole(text) => write_all(err, text),
-        Line::Numbered(before, number, after) => write_numbered(err, before, number, after),
+        Line::Numbered(before, number, after) => {
+            write_parted(err, before, Buffer::new().format(number).as_bytes(), after)
+        }
+        Line::Named(before, name, after) => write_parted(err, before, name, after),
     }
 }
 
-// Writes a number between two texts.
-fn write_numbered<E: Sink>(
+// Writes three pieces, one behind the other.
+fn write_parted<E: Sink>(
     err: &mut E,
     before: &[u8],
-    number: u32,
+    middle: &[u8],
     after: &[u8],
 ) -> Result<(), WriteFault>
-    ensures written { OnOk result (Appended (E.state err.old) (E.state err.new) (before.now ++ (decimal number ++ after.now))) }
-    ensures prefix { OnErr result (AppendedPrefix (E.state err.old) (E.state err.new) (before.now ++ (decimal number ++ after.now))) }
+    ensures written { OnOk result (Appended (E.state err.old) (E.state err.new) (before.now ++ (middle.now ++ after.now))) }
+    ensures prefix { OnErr result (AppendedPrefix (E.state err.old) (E.state err.new) (before.now ++ (middle.now ++ after.now))) }
     ensures cause { OnErr result (Rose E.last_count (E.state err.old).faults (E.state err.new).faults) }
 {
     write_all(err, before)?;
-    let mut digits = Buffer::new();
-    write_all(err, digits.format(number).as_bytes())?;
+    write_all(err, middle)?;
     write_all(err, after)
 }

@@ -3,3 +3,4 @@ pub mod Boxes
 pub mod Parsed
 pub mod FirstCauses
 pub mod Judged
+pub mod NoKind

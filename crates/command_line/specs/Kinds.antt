@@ -9,10 +9,12 @@ use Rattle.command_line.specs.declared.kind.Kind.TheVariants.{Circle, Sphere, Re
 
 -- the kinds that are answered, each with its word
 abbrev pub known_kinds : List (List ℕ × Kind)
-known_kinds = (codes "circle", Circle) ∷ (codes "sphere", Sphere) ∷ (codes "centres", Centres) ∷ []
+known_kinds =
+    (codes "circle", Circle) ∷ (codes "sphere", Sphere) ∷ (codes "rectangle", Rectangle) ∷ (codes "strip", Strip) ∷ (codes "annulus", Annulus)
+    ∷ (codes "empty", Empty) ∷ (codes "distance", Distance) ∷ (codes "centres", Centres) ∷ []
 
 -- the kind that a word names
-abbrev pub kind_named : List ℕ → Option Kind
+unfoldable pub kind_named : List ℕ → Option Kind
 kind_named word = option_map (λ known. known.1) (find (λ known. bytes_eq known.0 word) known_kinds)
 
 -- the kind is one of these

@@ -18,6 +18,7 @@ pub(crate) enum Kind {
 }
 
 /// The kind that the word names, of those that are answered.
+#[tactic(auto, unfolding(crate::specs::Kinds::kind_named))]
 pub(crate) fn kind_named(word: &str) -> Option<Kind>
     ensures kind { result ≡ kind_named word.now }
     ensures known { IfSome result IsKnown }
@@ -25,6 +26,11 @@ pub(crate) fn kind_named(word: &str) -> Option<Kind>
     match word {
         "circle" => Some(Kind::Circle),
         "sphere" => Some(Kind::Sphere),
+        "rectangle" => Some(Kind::Rectangle),
+        "strip" => Some(Kind::Strip),
+        "annulus" => Some(Kind::Annulus),
+        "empty" => Some(Kind::Empty),
+        "distance" => Some(Kind::Distance),
         "centres" => Some(Kind::Centres),
         _ => None,
     }

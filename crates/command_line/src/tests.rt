@@ -16,13 +16,10 @@ static WORDS: [(&[&str], &str); 19] = [
         &["--p=2", "centres", "a"],
         "Ok(Solve { ask: Centres(2), form: Text, brief: false, file: Name { text: \"a\" } })",
     ),
+    (&["circle", "a", "--form", "csv"], "Err(BadValue(Form))"),
     (
-        &["circle", "a", "--form", "csv"],
-        "Ok(Solve { ask: Circle, form: Csv, brief: false, file: Name { text: \"a\" } })",
-    ),
-    (
-        &["--brief", "--form", "csv", "circle", "a"],
-        "Ok(Solve { ask: Circle, form: Csv, brief: true, file: Name { text: \"a\" } })",
+        &["--brief", "--form", "text", "circle", "a"],
+        "Ok(Solve { ask: Circle, form: Text, brief: true, file: Name { text: \"a\" } })",
     ),
     (
         &["circle", "--", "-a"],
@@ -42,9 +39,9 @@ static WORDS: [(&[&str], &str); 19] = [
     ),
     (
         &[
-            "check", "a", "b", "--kind", "centres", "--p", "3", "--form", "csv",
+            "check", "a", "b", "--kind", "centres", "--p", "3", "--form", "text",
         ],
-        "Ok(Check { ask: Centres(3), form: Csv, points: Name { text: \"a\" }, answer: Name { text: \"b\" } })",
+        "Ok(Check { ask: Centres(3), form: Text, points: Name { text: \"a\" }, answer: Name { text: \"b\" } })",
     ),
     (
         &["--kind", "circle", "check", "--", "a", "-b"],

@@ -95,7 +95,6 @@ pub(crate) fn form_named(word: &str) -> Option<Form>
 {
     match word {
         "text" => Some(Form::Text),
-        "csv" => Some(Form::Csv),
         _ => None,
     }
 }
