@@ -2,7 +2,6 @@
 use crate::{Answer, AnswerList, Blocker, EmptyAnswer, Numbers, QuarterCone, QuarterCones, size};
 use bounded_coords::OutOfMemory;
 use exact_fractions::Frac;
-use std::HostRuntime;
 use std::alloc::Global;
 
 fn three_numbers(alloc: Global) -> Result<Numbers, OutOfMemory> {

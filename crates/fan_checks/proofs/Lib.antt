@@ -1,4 +1,3 @@
-pub mod Lists
 pub mod FanLoops
 pub mod Widths
 pub mod FanPlaces

@@ -17,3 +17,5 @@ pub mod ParallelAxis
 pub mod Cone
 pub mod Circles
 pub mod Cramer
+pub mod Lists
+pub mod Narrowing

@@ -2,12 +2,12 @@
 //!
 //! - `enclosing`: the two calls
 //! - `ball`: a ball with the supports that hold it in place
-//! - `answers`: the ball as an answer
+//! - `ball_answers`: the ball as an answer
 //! - `sums`: the sums that its size and its centre come from
 #![tactic(auto)]
 
-mod answers;
 mod ball;
+mod ball_answers;
 mod enclosing;
 mod sums;
 #[cfg(test)]

@@ -2,9 +2,9 @@
 //! trying all pairs, triples and quadruples of points in exact fractions.
 
 use crate::{circle, sphere};
+use answers::Weighted;
 use bounded_coords::{Point2, Point3, Points2, Points3};
 use std::test::Fail;
-use answers::Weighted;
 
 /// Points of the plane, the squared radius, the centre, and the supports with their weights; these are left out where others
 /// would do as well.

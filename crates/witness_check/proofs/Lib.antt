@@ -1,7 +1,5 @@
 pub mod BallPassing
 pub mod CentresPassing
 pub mod Leaves
-pub mod Narrowing
-pub mod Passing
 pub mod SupportWeights
 pub mod Supports

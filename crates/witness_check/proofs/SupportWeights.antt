@@ -11,7 +11,7 @@ use Rattle.ball_sums.proofs.Weights.{weights_of_some}
 use Rattle.answers.specs.declared.balls.Weighted.{Weighted}
 use Rattle.answers.specs.Answers.{weighted_of}
 use Rattle.witness_check.specs.HeldBalls.{HasBallLimits}
-use Rattle.witness_check.proofs.Passing.{All-unmap}
+use Rattle.integers.proofs.Lists.{All-unmap}
 
 -- those before a support, and its own, are at most all
 prefix_sum : (supports : List Weighted) (i : ℕ) (none : Weighted) → i < length supports → All (λ s. pos 1 ≤ℤ s.weight) (map weighted_of supports)

@@ -11,7 +11,7 @@ use Rattle.kernel_laws.specs.Vectors.{sum_of}
 use Rattle.kernel_laws.specs.Signs.{height}
 use Rattle.answers.specs.declared.balls.Weighted.{Weighted}
 use Rattle.answers.specs.Answers.{weighted_of}
-use Rattle.witness_check.proofs.Passing.{All-unmap}
+use Rattle.integers.proofs.Lists.{All-unmap}
 use Rattle.ball_sums.specs.declared.sums.Sums.{Sums}
 use Rattle.witness_check.specs.HeldBalls.{IsHeld}
 

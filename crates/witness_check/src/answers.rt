@@ -6,10 +6,10 @@ ghost use Rattle.answers.specs.Answers.{answer_of};
 ghost use Rattle.witness_check.specs.Kinds.{IsBuilt};
 
 use crate::{check_centres, check_circle, check_sphere};
+use answers::Answer;
 use bounded_coords::{Ask, OutOfMemory, Sets};
 use optimality::answer::passing_answers_are_best;
 use std::alloc::Global;
-use answers::Answer;
 
 /// Whether the answer is of the kind that is asked, the sets are those that it is asked of, and the answer meets all
 /// conditions of its kind. Where it does, it is best. Memory is never wanting for the kinds that are built.

@@ -14,12 +14,12 @@ ghost use Rattle.ball_sums.specs.Sums.{IsInRange};
 ghost use Rattle.ball_sums.specs.Means.{mean_size, plane_mean, space_mean};
 ghost use Rattle.witness_check.specs.HeldBalls.{HasBallLimits, HoldsBall, IsHeld};
 
+use answers::{BallAnswer2, BallAnswer3, Weighted};
 use ball_sums::Sums;
 use bounded_coords::{Cloud, Cloud2, Cloud3, Point2, Point3};
 use exact_fractions::{Frac, Homog2, Homog3};
 use kernel_laws::{Kernel, Plane, Sign, Space, side};
 use optimality::answer::passing_answers_are_best;
-use answers::{BallAnswer2, BallAnswer3, Weighted};
 
 /// Whether the supports hold a circle of this size and centre in place around all points (CGAL manual, Bounding Volumes,
 /// `Min_circle_2`): with its weights, each support is on the circle around the weighted mean, and no point is outside. A circle is

@@ -10,10 +10,10 @@ ghost use Rattle.bounded_coords.specs.Clouds.{points_of};
 ghost use Rattle.answers.specs.Answers.{leaf_of, centres_of};
 ghost use Rattle.witness_check.specs.CentresLimits.{IsSmallRadius, IsSmallCentre, NamesPoints, IsWithinLimits};
 
+use answers::{CentresAnswer, Leaf};
 use bounded_coords::{Cloud2, Point2};
 use exact_fractions::{Frac, Homog2};
 use optimality::answer::passing_answers_are_best;
-use answers::{CentresAnswer, Leaf};
 
 /// The greatest numerator of a radius, and the greatest magnitude of a centre's numerators.
 const LIMIT: u128 = 1_000_000;

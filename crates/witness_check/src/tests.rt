@@ -4,7 +4,6 @@ use answers::{Answer, BallAnswer2, BallAnswer3, CentresAnswer, Weighted};
 use arrayvec::ArrayVec;
 use bounded_coords::{Ask, Cloud2, Cloud3, Point2, Point3, Sets};
 use exact_fractions::{Frac, Homog2, Homog3};
-use std::HostRuntime;
 
 fn circle_at_the_origin(size: Frac, weight: u128) -> BallAnswer2 {
     let mut supports = ArrayVec::new();
@@ -56,9 +55,34 @@ fn kinds_and_sets(rt: HostRuntime) {
     };
     assert!(rt; check_centres(plane, 1, &square), "a square");
     let circle = Answer::Circle(circle_at_the_origin(Frac::new(0, 1), 1));
-    assert_eq!(rt; check(alloc, &Ask::Circle, Sets::Plane(plane), &circle), Ok(true), "a circle");
-    assert_eq!(rt; check(alloc, &Ask::Circle, Sets::Space(space), &circle), Ok(false), "a point of space");
-    assert_eq!(rt; check(alloc, &Ask::Circle, Sets::Bare, &circle), Ok(false), "no points");
-    assert_eq!(rt; check(alloc, &Ask::Sphere, Sets::Space(space), &circle), Ok(false), "another kind");
-    assert_eq!(rt; check(alloc, &Ask::Sphere, Sets::Two(space, space), &Answer::Sphere(sphere_at_the_origin())), Ok(false), "two sets");
+    assert_eq!(rt;
+        check(alloc, &Ask::Circle, Sets::Plane(plane), &circle),
+        Ok(true),
+        "a circle"
+    );
+    assert_eq!(rt;
+        check(alloc, &Ask::Circle, Sets::Space(space), &circle),
+        Ok(false),
+        "a point of space"
+    );
+    assert_eq!(rt;
+        check(alloc, &Ask::Circle, Sets::Bare, &circle),
+        Ok(false),
+        "no points"
+    );
+    assert_eq!(rt;
+        check(alloc, &Ask::Sphere, Sets::Space(space), &circle),
+        Ok(false),
+        "another kind"
+    );
+    assert_eq!(rt;
+        check(
+            alloc,
+            &Ask::Sphere,
+            Sets::Two(space, space),
+            &Answer::Sphere(sphere_at_the_origin())
+        ),
+        Ok(false),
+        "two sets"
+    );
 }

@@ -107,7 +107,7 @@ bare_read number after (Some []) e = refl
 bare_read number after (Some (word ∷ words)) e = absurd cc
 
 -- the kind of a text is the one that the words of its first line name
-kind_by_words : (known : List Kind) (text : Unread) (words : List (List ℕ)) (after : Unread) → next_words text ≡ Ok (words, after) → kind_of known text ≡ named_by words known
+pub kind_by_words : (known : List Kind) (text : Unread) (words : List (List ℕ)) (after : Unread) → next_words text ≡ Ok (words, after) → kind_of known text ≡ named_by words known
 kind_by_words known text words after next =
     found_same (λ kind. is_ok (line_at (first_format kind.name) text)) (λ kind. is_some (said (first_format kind.name) words))
     (λ kind. ap (λ r. is_ok r) (line_by_words (first_format kind.name) text words after next) ∙ bare_ok text.number after (after_words (first_format kind.name).words words)) known

@@ -8,3 +8,8 @@ pub mod LineReadings
 pub mod PrintedWords
 pub mod SaidAnswers
 pub mod KindTexts
+pub mod KnownKinds
+pub mod RowReadings
+pub mod ChordLines
+pub mod RowTexts
+pub mod Polygons

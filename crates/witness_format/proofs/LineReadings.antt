@@ -14,7 +14,7 @@ use Rattle.witness_format.specs.declared.fault.ReadFault.TheVariants.{BadAnswer,
 use Rattle.witness_format.specs.declared.judging.Flaw.TheVariants.{PastLimit, OutOfPlace}
 use Rattle.witness_format.specs.Judging.{Judged, judged_by, both, seen, judged_field, fields_at, said}
 use Rattle.witness_format.specs.Lines.{decided, numbered_words, first_words, next_words}
-use Rattle.witness_format.specs.Outcomes.{Finds, Refuses, Reads}
+use Rattle.witness_format.specs.Outcomes.{Finds, RefusesOr, Refuses, Reads}
 
 -- ---- fields
 
@@ -29,7 +29,7 @@ both_judged true false false q x y = refl
 both_judged false p t q x y = refl
 
 -- several values
-abbrev judged_values : (fields : List Field) → Values fields → Judged (Values fields)
+abbrev pub judged_values : (fields : List Field) → Values fields → Judged (Values fields)
 judged_values fields values = judged_by (are_small fields values) (are_in_place fields values) values
 
 -- the fields behind the first
@@ -43,7 +43,7 @@ first_and_rest field fields v None = refl
 first_and_rest field fields v (Some vs) = ap (λ (j : Judged (Values (field ∷ fields))). Some j) (both_judged (is_small field v) (is_in_place field v) (are_small fields vs) (are_in_place fields vs) v vs)
 
 -- fields are judged one by one as they are together
-fields_judged : (fields : List Field) (words : List (List ℕ)) → fields_at fields words ≡ steps.◌>>=◌ {B = Judged (Values fields)} (values_of fields words) (λ vs. Some (judged_values fields vs))
+pub fields_judged : (fields : List Field) (words : List (List ℕ)) → fields_at fields words ≡ steps.◌>>=◌ {B = Judged (Values fields)} (values_of fields words) (λ vs. Some (judged_values fields vs))
 fields_judged [] [] = refl
 fields_judged [] (word ∷ words) = refl
 fields_judged (field ∷ fields) words = by_first (λ rest. fields_judged fields rest) (value_of field words)
@@ -109,12 +109,12 @@ reads_then view (Ok x) read reads = ap (λ r. r >>= λ y. Ok (view y)) reads
 reads_then view (Err fault) read reads = refuses_too fault read (read >>= λ x. Ok (view x)) (λ refusal e. ap (λ r. r >>= λ y. Ok (view y)) e) reads
 
 -- what is found, seen by a view
-finds_is : {X Y : Type 0} (view : X → Y) (result : Option X) (there : Option Y) → Finds view result there → there ≡ option_map view result
+pub finds_is : {X Y : Type 0} (view : X → Y) (result : Option X) (there : Option Y) → Finds view result there → there ≡ option_map view result
 finds_is view None there finds = finds
 finds_is view (Some x) there finds = finds
 
 -- what the words say, seen by a view
-decided_seen : {X Y : Type 0} (view : X → Y) (number : ℕ) (says : Option (Judged X)) (after : Unread) → ◌>>=◌ {B = Y × Unread} (decided number (option_map (seen view) says)) (λ v. Ok (v, after)) ≡ (decided number says >>= λ x. Ok (view x, after))
+pub decided_seen : {X Y : Type 0} (view : X → Y) (number : ℕ) (says : Option (Judged X)) (after : Unread) → ◌>>=◌ {B = Y × Unread} (decided number (option_map (seen view) says)) (λ v. Ok (v, after)) ≡ (decided number says >>= λ x. Ok (view x, after))
 decided_seen view number None after = refl
 decided_seen view number (Some (Ok x)) after = refl
 decided_seen view number (Some (Err PastLimit)) after = refl
@@ -148,3 +148,24 @@ one_more fields values front count i text x after total lt line so_far =
     let one : with_front (map values front) (lines_at (count - i) (untitled fields) text) ≡ with_front (map values front ++ values x ∷ []) (lines_at (count - (i + 1)) (untitled fields) after) =
     rw (left, line) (regrouped (map values front) (values x) (lines_at (count - (i + 1)) (untitled fields) after)) in
     ap (λ vs. with_front vs (lines_at (count - (i + 1)) (untitled fields) after)) (map-append values front (x ∷ [])) ∙ sym one ∙ so_far
+
+-- a line that is refused
+line_refused : (fields : List Field) (front : List (Values fields)) (left : ℕ) (text : Unread) (refusal : Refusal) → line_at (untitled fields) text ≡ Err refusal → with_front front (lines_at (suc left) (untitled fields) text) ≡ Err refusal
+line_refused fields front left text refusal e =
+    ap (λ (r : Result (Values fields × Unread) Refusal). with_front front (◌>>=◌ {B = List (Values fields) × Unread} r (λ first. ◌>>=◌ {B = List (Values fields) × Unread} (lines_at left (untitled fields) first.1) (λ others. Ok (first.0 ∷ others.0, others.1))))) e
+
+-- and with it all lines
+pub lines_refused : (fault : ReadFault) (fields : List Field) (front : List (Values fields)) (count i : ℕ) (text : Unread) (total : Result (List (Values fields) × Unread) Refusal) → i < count
+    → Refuses fault (line_at (untitled fields) text) → with_front front (lines_at (count - i) (untitled fields) text) ≡ total → RefusesOr (Unit {0}) fault total
+lines_refused fault fields front count i text total lt refused so_far = by_fault fault refused
+  where
+    left : count - i ≡ suc (count - (i + 1))
+    left = omega (arith, lt)
+
+    all_of : (refusal : Refusal) → line_at (untitled fields) text ≡ Err refusal → total ≡ Err refusal
+    all_of refusal e = sym so_far ∙ ap (λ (k : ℕ). with_front front (lines_at k (untitled fields) text)) left ∙ line_refused fields front (count - (i + 1)) text refusal e
+
+    by_fault : (f : ReadFault) → Refuses f (line_at (untitled fields) text) → RefusesOr (Unit {0}) f total
+    by_fault (BadAnswer line) e = all_of (bad_answer line) e
+    by_fault (BigNumber line) e = all_of (big_number line) e
+    by_fault OutOfMemory e = tt

@@ -36,3 +36,17 @@ pub untitled_line : (words : List (List ℕ)) → line_bytes words ≡ joined wo
 untitled_line [] = refl
 untitled_line (word ∷ words) =
     titled_line word words ∙ sym (append_assoc word (behind_blanks words) (10 ∷ [])) ∙ ap (λ (x : List ℕ). x ++ 10 ∷ []) (sym (joined_first word words))
+
+-- ---- pieces that are written one behind the other
+
+-- a piece, and what is written behind it
+pub one_behind : (old now new piece rest : List ℕ) → now ≡ old ++ piece → new ≡ now ++ rest → new ≡ old ++ (piece ++ rest)
+one_behind old now new piece rest p q = q ∙ ap (λ (x : List ℕ). x ++ rest) p ∙ append_assoc old piece rest
+
+-- the last piece
+pub last_behind : (old new piece : List ℕ) → new ≡ old ++ piece → new ≡ old ++ (piece ++ [])
+last_behind old new piece p = p ∙ ap (λ (x : List ℕ). old ++ x) (sym (append-nil piece))
+
+-- the last two
+pub two_behind : (old new piece last : List ℕ) → new ≡ old ++ (piece ++ last) → new ≡ old ++ (piece ++ (last ++ []))
+two_behind old new piece last p = p ∙ ap (λ (x : List ℕ). old ++ (piece ++ x)) (sym (append-nil last))

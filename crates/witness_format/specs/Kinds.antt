@@ -1,38 +1,64 @@
--- The kinds of answers that are read, and how an answer of a kind is read behind its first line.
-use Rattle.std.specs.Prelude.{ℕ, Bool, false, true, ◌||◌, nat_lt, List, [], ◌∷◌, find, is_some, Option, Some, None, Result, Ok, Err}
+-- The kinds of answers, those that are read, and how an answer of a kind is read behind its first line.
+use Rattle.std.specs.Prelude.{ℕ, Bool, false, true, ◌||◌, nat_lt, List, [], ◌∷◌, map, Contains, find, is_some, Option, Some, None, Result, Ok, Err}
 use Rattle.bounds_model.specs.Fractions.{Fraction}
-use Rattle.bounds_model.specs.Answers.{Answer, circle, sphere, strip, centres}
+use Rattle.bounds_model.specs.Answers.{Answer, circle, sphere, rectangle, parallelogram, strip, annulus, empty, kgon, distance, centres}
 use Rattle.bounds_model.specs.AnswerText.Formats.{Refusal, bad_answer, ◌>>=◌, Unread, line_at, Part, line, counted, count, rows, body_at}
-use Rattle.bounds_model.specs.AnswerText.Kinds.{Kind, first_format, size_format, last_format, circle_kind, sphere_kind, strip_kind, centres_kind}
-use Rattle.bounds_model.specs.AnswerText.Reading.{ended, kind_of}
+use Rattle.bounds_model.specs.AnswerText.Kinds.{Kind, first_format, size_format, last_format, circle_kind, sphere_kind, rectangle_kind, parallelogram_kind, strip_kind, annulus_kind, empty_kind, kgon_kind, distance_kind, centres_kind}
+use Rattle.bounds_model.specs.AnswerText.Reading as model
+use Rattle.bounds_model.specs.AnswerText.Reading.{ended}
 use Rattle.witness_format.specs.declared.kinds.AnswerKind.{AnswerKind}
-use Rattle.witness_format.specs.declared.kinds.AnswerKind.TheVariants.{Circle, Sphere, Strip, Centres}
+use Rattle.witness_format.specs.declared.kinds.AnswerKind.TheVariants.{Circle, Sphere, Rectangle, Parallelogram, Strip, Annulus, Empty, Kgon, Distance, Centres}
 use Rattle.witness_format.specs.Judging.{said}
+
+-- ---- the kinds that are read
+
+-- the kinds whose texts are read
+abbrev pub known : List AnswerKind
+known =
+    Circle
+    ∷ Sphere
+    ∷ Centres
+    ∷ []
 
 -- the format of a kind
 abbrev pub format_of : AnswerKind → Kind
 format_of Circle = circle_kind
 format_of Sphere = sphere_kind
+format_of Rectangle = rectangle_kind
+format_of Parallelogram = parallelogram_kind
 format_of Strip = strip_kind
+format_of Annulus = annulus_kind
+format_of Empty = empty_kind
+format_of Kgon = kgon_kind
+format_of Distance = distance_kind
 format_of Centres = centres_kind
 
--- circles, spheres, strips and centres
+-- the formats of the kinds that are read
 abbrev pub known_kinds : List Kind
-known_kinds = circle_kind ∷ sphere_kind ∷ strip_kind ∷ centres_kind ∷ []
+known_kinds = map format_of known
 
--- the answer is of one of these kinds
+-- the kind of an answer
+abbrev pub kind_of : Answer → AnswerKind
+kind_of (circle a) = Circle
+kind_of (sphere a) = Sphere
+kind_of (rectangle a) = Rectangle
+kind_of (parallelogram a) = Parallelogram
+kind_of (strip a) = Strip
+kind_of (annulus a) = Annulus
+kind_of (empty a) = Empty
+kind_of (kgon a) = Kgon
+kind_of (distance a) = Distance
+kind_of (centres a) = Centres
+
+-- the answer is of a kind that is read
 abbrev pub IsKnown : Answer → Type 0
-IsKnown (circle a) = Unit {0}
-IsKnown (sphere a) = Unit {0}
-IsKnown (strip a) = Unit {0}
-IsKnown (centres a) = Unit {0}
-IsKnown answer = ⊥
+IsKnown a = Contains known (kind_of a)
 
 -- ---- the first line
 
 -- the first of these kinds that the words of the first line name
 abbrev pub named_by : List (List ℕ) → List Kind → Option Kind
-named_by words known = find (λ kind. is_some (said (first_format kind.name) words)) known
+named_by words kinds = find (λ kind. is_some (said (first_format kind.name) words)) kinds
 
 -- the lines behind a first line that names this kind
 abbrev pub behind : Option Kind → Unread → Result (Kind × Unread) Refusal
@@ -41,7 +67,7 @@ behind (Some kind) unread = line_at (first_format kind.name) unread >>= λ first
 
 -- the one of these kinds that the first line names, and the lines behind it; a line that names none is refused
 abbrev pub first_kind : List Kind → Unread → Result (Kind × Unread) Refusal
-first_kind known unread = behind (kind_of known unread) unread
+first_kind kinds unread = behind (model.kind_of kinds unread) unread
 
 -- there is a list that an answer does not hold in itself: one of more than 16 lines, or rows of numbers
 abbrev pub has_list : List Part → Bool
@@ -67,7 +93,7 @@ NamedMayWant (Err refusal) = ⊥
 
 -- the first line of a text names such a kind
 abbrev pub TextMayWant : List Kind → Unread → Type 0
-TextMayWant known unread = NamedMayWant (first_kind known unread)
+TextMayWant kinds unread = NamedMayWant (first_kind kinds unread)
 
 -- ---- the other lines
 
@@ -81,8 +107,8 @@ closed answer unread = line_at last_format unread >>= λ last. ended answer last
 
 -- what all lines say as an answer of the kind that the first one names
 abbrev pub answer_by : List Kind → Unread → Result Answer Refusal
-answer_by known unread = do
-  kind ← first_kind known unread
+answer_by kinds unread = do
+  kind ← first_kind kinds unread
   size ← line_at size_format kind.1
   answer ← body_of kind.0 size.0.0 size.1
   closed answer.0 answer.1

@@ -1,5 +1,5 @@
 -- How the words of a line are printed one after the other.
-use Rattle.std.specs.Prelude.{ℕ, ◌+◌, List, [], ◌∷◌, ◌++◌, length, decimal}
+use Rattle.std.specs.Prelude.{ℕ, ◌+◌, List, [], ◌∷◌, ◌++◌, length, map, decimal}
 use Rattle.std.specs.List.{flat_map}
 use Rattle.bounds_model.specs.AnswerText.Fields.{Field}
 use Rattle.bounds_model.specs.AnswerText.LineFormats.{Values, untitled}
@@ -28,3 +28,7 @@ count_bytes word amount = line_bytes (word ∷ decimal amount ∷ [])
 -- the line of a count, and as many lines, less a few
 abbrev pub counted_bytes : List ℕ → ℕ → (fields : List Field) → List (Values fields) → List ℕ
 counted_bytes word less fields lines = count_bytes word (length lines + less) ++ flat_map (format_line (untitled fields)) lines
+
+-- numbers, each behind a blank
+abbrev pub numbers_behind : List ℕ → List ℕ
+numbers_behind numbers = flat_map (λ n. 32 ∷ decimal n) numbers

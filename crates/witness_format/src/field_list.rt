@@ -1,8 +1,10 @@
 //! Values that stand in a line as fields, one after the other: nothing, or a field and more.
 ghost use Rattle.std.specs.Prelude.{◌≡◌, List, [], ◌∷◌, ◌++◌, OnOk};
 ghost use Rattle.bounds_model.specs.AnswerText.Fields.{Field};
+ghost use Rattle.bounds_model.specs.AnswerText.Kinds as model;
 ghost use Rattle.bounds_model.specs.AnswerText.LineFormats.{Values};
 ghost use Rattle.bounds_model.specs.AnswerText.Written.{values_words};
+ghost use Rattle.witness_format.specs.Bodies.{chord_values};
 ghost use Rattle.witness_format.specs.Judging.{seen, fields_at};
 ghost use Rattle.witness_format.specs.Lines.{words_left};
 ghost use Rattle.witness_format.specs.Outcomes.{Finds};
@@ -12,6 +14,7 @@ use crate::field_value::FieldValue;
 use crate::judging::{Judged, both};
 use crate::line_printing::push;
 use crate::words::Words;
+use answers::Chord;
 use std::alloc::AllocError;
 
 /// A value that is the fields of a line.
@@ -76,5 +79,45 @@ impl<A: FieldValue, B: FieldList> FieldList for (A, B) {
         push(text, b" ")?;
         self.0.print(text)?;
         self.1.print_behind(text)
+    }
+}
+
+/// The fields of a chord.
+type ChordFields = (u32, (u32, (u32, (u128, (u128, (i128, ()))))));
+
+/// A chord's fields, one after the other.
+fn chord_fields(chord: &Chord) -> ChordFields
+    ensures { result ≡ (chord.now.a, (chord.now.b, (chord.now.c, (chord.now.beta, (chord.now.gamma, (chord.now.k, tt)))))) }
+{
+    let weights = (chord.beta, (chord.gamma, (chord.k, ())));
+    (chord.a, (chord.b, (chord.c, weights)))
+}
+
+/// A chord, at the end of a line.
+impl FieldList for Chord {
+    ghost fields = { model.chord_fields };
+
+    ghost values = { chord_values };
+
+    fn read(words: Words<'_>) -> Option<Judged<Chord>> {
+        match ChordFields::read(words)? {
+            Ok((a, (b, (c, (beta, (gamma, (k, ()))))))) => Some(Ok(Chord {
+                a,
+                b,
+                c,
+                beta,
+                gamma,
+                k,
+            })),
+            Err(flaw) => Some(Err(flaw)),
+        }
+    }
+
+    fn print(&self, text: &mut Vec<u8>) -> Result<(), AllocError> {
+        chord_fields(self).print(text)
+    }
+
+    fn print_behind(&self, text: &mut Vec<u8>) -> Result<(), AllocError> {
+        chord_fields(self).print_behind(text)
     }
 }

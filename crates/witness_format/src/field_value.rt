@@ -1,7 +1,8 @@
 //! Values that stand in a line as one field, as they are read and as they are printed.
 ghost use Rattle.std.specs.Prelude.{◌≡◌, List, ◌∷◌, ◌++◌, pos, OnOk};
-ghost use Rattle.bounds_model.specs.AnswerText.Fields.{Field, Value, number, natural, fraction, plane_ratio, space_ratio, point_number};
+ghost use Rattle.bounds_model.specs.AnswerText.Fields.{Field, Value, number, natural, bounded, fraction, plane_ratio, space_ratio, blocker, point_number};
 ghost use Rattle.bounds_model.specs.AnswerText.Written.{field_words};
+ghost use Rattle.answers.specs.Answers.{blocker_of};
 ghost use Rattle.witness_format.specs.Judging.{seen, field_at};
 ghost use Rattle.witness_format.specs.Lines.{words_left};
 ghost use Rattle.witness_format.specs.Outcomes.{Finds};
@@ -13,6 +14,7 @@ use crate::line_printing::{
     push, push_fraction, push_natural, push_plane_ratio, push_space_ratio, push_whole,
 };
 use crate::words::Words;
+use answers::Blocker;
 use exact_fractions::{Frac, Homog2, Homog3};
 use std::alloc::AllocError;
 
@@ -37,26 +39,43 @@ pub(crate) trait FieldValue: Copy {
 }
 
 /// The number of a point.
-#[derive(Clone, Copy, Debug, PartialEq, Eq)]
-pub(crate) struct PointNumber {
-    pub(crate) number: u32,
-}
-
-impl FieldValue for PointNumber {
+impl FieldValue for u32 {
     ghost field = { point_number };
 
-    ghost value = { λ p. p.number };
+    ghost value = { λ n. n };
 
-    fn read(words: Words<'_>) -> Option<(Judged<PointNumber>, Words<'_>)> {
-        let (point, words) = fields::point_number(words)?;
-        match point {
-            Ok(number) => Some((Ok(PointNumber { number }), words)),
+    fn read(words: Words<'_>) -> Option<(Judged<u32>, Words<'_>)> {
+        fields::point_number(words)
+    }
+
+    fn print(&self, text: &mut Vec<u8>) -> Result<(), AllocError> {
+        push_natural(text, u128::from(*self))
+    }
+
+    ghost written = { λ x. tt };
+}
+
+/// The place of a corner in the list of a hull's corners.
+#[derive(Clone, Copy, Debug, Default, PartialEq, Eq)]
+pub(crate) struct Position {
+    pub(crate) place: u32,
+}
+
+impl FieldValue for Position {
+    ghost field = { bounded 0 127 };
+
+    ghost value = { λ p. p.place };
+
+    fn read(words: Words<'_>) -> Option<(Judged<Position>, Words<'_>)> {
+        let (place, words) = fields::position(words)?;
+        match place {
+            Ok(place) => Some((Ok(Position { place }), words)),
             Err(flaw) => Some((Err(flaw), words)),
         }
     }
 
     fn print(&self, text: &mut Vec<u8>) -> Result<(), AllocError> {
-        push_natural(text, u128::from(self.number))
+        push_natural(text, u128::from(self.place))
     }
 
     ghost written = { λ x. tt };
@@ -142,6 +161,26 @@ impl FieldValue for Homog3 {
 
     fn print(&self, text: &mut Vec<u8>) -> Result<(), AllocError> {
         push_space_ratio(text, self)
+    }
+
+    ghost written = { λ x. tt };
+}
+
+/// What a side of an empty rectangle rests on.
+impl FieldValue for Blocker {
+    ghost field = { blocker };
+
+    ghost value = { blocker_of };
+
+    fn read(words: Words<'_>) -> Option<(Judged<Blocker>, Words<'_>)> {
+        fields::blocker(words)
+    }
+
+    fn print(&self, text: &mut Vec<u8>) -> Result<(), AllocError> {
+        match self {
+            Blocker::Side => push(text, b"box"),
+            Blocker::Point(number) => push_natural(text, u128::from(*number)),
+        }
     }
 
     ghost written = { λ x. tt };

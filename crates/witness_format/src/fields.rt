@@ -1,6 +1,8 @@
 //! The fields of a line: for each, its form, the limit of its numbers and the range of its place.
 ghost use Rattle.std.specs.Prelude.{◌≡◌, ◌≤◌, pos, IfSome, IfOk};
+ghost use Rattle.bounds_model.specs.EmptyAnswer.Blocker.{point as side_point};
 ghost use Rattle.bounds_model.specs.AnswerText.Fields as model;
+ghost use Rattle.answers.specs.Answers.{blocker_of};
 ghost use Rattle.witness_format.specs.Judging.{judged_field, field_at, seen};
 ghost use Rattle.witness_format.specs.Lines.{words_left};
 ghost use Rattle.witness_format.specs.Outcomes.{Finds};
@@ -8,10 +10,14 @@ ghost use Rattle.witness_format.specs.Outcomes.{Finds};
 use crate::judging::{Flaw, Judged};
 use crate::numerals::{LIMIT, natural_number, whole_number};
 use crate::words::{Words, cut};
+use answers::Blocker;
 use exact_fractions::{Frac, Homog2, Homog3};
 
 /// The greatest number of a point.
 const POINT_LIMIT: u32 = 9999;
+
+/// The greatest place in a list of a hull's corners.
+const POSITION_LIMIT: u32 = 127;
 
 /// A number without a sign from a least to a greatest one.
 pub(crate) fn bounded(words: Words<'_>, low: u32, high: u32) -> Option<(Judged<u32>, Words<'_>)>
@@ -41,6 +47,35 @@ pub(crate) fn point_number(words: Words<'_>) -> Option<(Judged<u32>, Words<'_>)>
     ensures { Finds (λ x. (x.0, words_left x.1)) result (field_at model.point_number (words_left words.entry)) }
 {
     bounded(words, 0, POINT_LIMIT)
+}
+
+/// The place of a corner in the list of a hull's corners.
+pub(crate) fn position(words: Words<'_>) -> Option<(Judged<u32>, Words<'_>)>
+    ensures { Finds (λ x. (x.0, words_left x.1)) result (field_at (model.bounded 0 127) (words_left words.entry)) }
+{
+    bounded(words, 0, POSITION_LIMIT)
+}
+
+/// What a side of an empty rectangle rests on: the word `box`, or the number of a point.
+pub(crate) fn blocker(words: Words<'_>) -> Option<(Judged<Blocker>, Words<'_>)>
+    ensures { Finds (λ x. (seen blocker_of x.0, words_left x.1)) result (field_at model.blocker (words_left words.entry)) }
+{
+    let (word, others) = words.next()?;
+    if word == b"box".as_slice() {
+        return Some((Ok(Blocker::Side), others));
+    }
+    let n = natural_number(word)?;
+    Some((blocking_point(judged_bounded(n, 0, POINT_LIMIT)), others))
+}
+
+/// The point of this number as what a side rests on.
+fn blocking_point(point: Judged<u32>) -> Judged<Blocker>
+    ensures { seen blocker_of result ≡ seen side_point point }
+{
+    match point {
+        Ok(number) => Ok(Blocker::Point(number)),
+        Err(flaw) => Err(flaw),
+    }
 }
 
 /// A number without a sign.

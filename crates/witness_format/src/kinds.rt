@@ -4,23 +4,28 @@ ghost use Rattle.std.specs.Str.{bytes_eq};
 ghost use Rattle.witness_format.specs.Kinds.{format_of, known_kinds};
 ghost use Rattle.witness_format.specs.Outcomes.{Finds};
 
-/// A kind of answers that is read.
+/// A kind of answers.
 #[derive(Clone, Copy, Debug, PartialEq, Eq)]
 pub(crate) enum AnswerKind {
     Circle,
     Sphere,
+    Rectangle,
+    Parallelogram,
     Strip,
+    Annulus,
+    Empty,
+    Kgon,
+    Distance,
     Centres,
 }
 
-/// The kind of this name.
+/// The kind of this name, among those that are read.
 pub(crate) fn kind_of(name: &[u8]) -> Option<AnswerKind>
     ensures { Finds format_of result (find (λ kind. bytes_eq kind.name name.now) known_kinds) }
 {
     match name {
         b"circle" => Some(AnswerKind::Circle),
         b"sphere" => Some(AnswerKind::Sphere),
-        b"strip" => Some(AnswerKind::Strip),
         b"centres" => Some(AnswerKind::Centres),
         _ => None,
     }

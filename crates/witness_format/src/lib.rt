@@ -6,6 +6,8 @@
 //! - `line_reading` and `line_printing`: the lines of a text, read and written one by one
 //! - `line`: values that fill a line, each said once as its fields
 //! - `field_list` and `field_value`: fields that come one after the other, and one field, both ways
+//! - `chord_lines` and `potential_rows`: the lines of a fan with chords, and the rows of a polygon's potentials, whose widths
+//!   `row_widths` gives
 //! - `lines` and `words`: a text cut into lines, and a line into words
 //! - `numerals`: the numbers that words write
 //! - `fields`: the fields of a line, as they are read
@@ -13,6 +15,7 @@
 //! - `fault`: why a text is refused
 #![tactic(auto)]
 
+mod chord_lines;
 mod fault;
 mod field_list;
 mod field_value;
@@ -24,8 +27,10 @@ mod line_printing;
 mod line_reading;
 mod lines;
 mod numerals;
+mod potential_rows;
 mod printing;
 mod reading;
+mod row_widths;
 #[cfg(test)]
 mod tests;
 mod words;
@@ -37,5 +42,6 @@ pub use answers::{
     StripAnswer, Weighted, WeightedPair, size,
 };
 pub use fault::ReadFault;
+pub use line_printing::{push_natural, push_size};
 pub use printing::{AnswerBytes, print};
 pub use reading::read;

@@ -2,8 +2,10 @@
 ghost use Rattle.std.specs.Prelude.{◌≡◌};
 
 use crate::field_list::FieldList;
-use crate::field_value::PointNumber;
-use answers::{Dir, HalfCone, Leaf, Span, Weighted};
+use crate::field_value::Position;
+use answers::{
+    Blocker, Chord, Dir, Dir3, HalfCone, Leaf, QuarterCone, Span, Weighted, WeightedPair,
+};
 use exact_fractions::{Frac, Homog2, Homog3};
 
 /// A value that fills a line.
@@ -76,26 +78,98 @@ impl Line for Homog3 {
     }
 }
 
-impl Line for Weighted {
-    type Fields = (PointNumber, (u128, ()));
+impl Line for u32 {
+    type Fields = (u32, ());
 
-    ghost parts = { λ s. (record { number = s.point }, (s.weight, tt)) };
+    ghost parts = { λ n. (n, tt) };
 
-    fn parts(&self) -> (PointNumber, (u128, ())) {
-        let number = self.point;
-        (PointNumber { number }, (self.weight, ()))
+    fn parts(&self) -> (u32, ()) {
+        (*self, ())
     }
 
-    fn of((point, (weight, ())): (PointNumber, (u128, ()))) -> Weighted {
-        let point = point.number;
+    fn of((n, ()): (u32, ())) -> u32 {
+        n
+    }
+}
+
+impl Line for Position {
+    type Fields = (Position, ());
+
+    ghost parts = { λ p. (p, tt) };
+
+    fn parts(&self) -> (Position, ()) {
+        (*self, ())
+    }
+
+    fn of((p, ()): (Position, ())) -> Position {
+        p
+    }
+}
+
+impl Line for Blocker {
+    type Fields = (Blocker, ());
+
+    ghost parts = { λ b. (b, tt) };
+
+    fn parts(&self) -> (Blocker, ()) {
+        (*self, ())
+    }
+
+    fn of((b, ()): (Blocker, ())) -> Blocker {
+        b
+    }
+}
+
+impl Line for Weighted {
+    type Fields = (u32, (u128, ()));
+
+    ghost parts = { λ x. (x.point, (x.weight, tt)) };
+
+    fn parts(&self) -> (u32, (u128, ())) {
+        (self.point, (self.weight, ()))
+    }
+
+    fn of((point, (weight, ())): (u32, (u128, ()))) -> Weighted {
         Weighted { point, weight }
+    }
+}
+
+impl Line for WeightedPair {
+    type Fields = (u32, (u32, (u128, ())));
+
+    ghost parts = { λ x. (x.first, (x.second, (x.weight, tt))) };
+
+    fn parts(&self) -> (u32, (u32, (u128, ()))) {
+        (self.first, (self.second, (self.weight, ())))
+    }
+
+    fn of((first, (second, (weight, ()))): (u32, (u32, (u128, ())))) -> WeightedPair {
+        WeightedPair {
+            first,
+            second,
+            weight,
+        }
+    }
+}
+
+impl Line for Leaf {
+    type Fields = (u32, (u32, ()));
+
+    ghost parts = { λ x. (x.first, (x.second, tt)) };
+
+    fn parts(&self) -> (u32, (u32, ())) {
+        (self.first, (self.second, ()))
+    }
+
+    fn of((first, (second, ())): (u32, (u32, ()))) -> Leaf {
+        Leaf { first, second }
     }
 }
 
 impl Line for Dir {
     type Fields = (i128, (i128, ()));
 
-    ghost parts = { λ d. (d.x, (d.y, tt)) };
+    ghost parts = { λ x. (x.x, (x.y, tt)) };
 
     fn parts(&self) -> (i128, (i128, ())) {
         (self.x, (self.y, ()))
@@ -106,10 +180,24 @@ impl Line for Dir {
     }
 }
 
+impl Line for Dir3 {
+    type Fields = (i128, (i128, (i128, ())));
+
+    ghost parts = { λ x. (x.x, (x.y, (x.z, tt))) };
+
+    fn parts(&self) -> (i128, (i128, (i128, ()))) {
+        (self.x, (self.y, (self.z, ())))
+    }
+
+    fn of((x, (y, (z, ()))): (i128, (i128, (i128, ())))) -> Dir3 {
+        Dir3 { x, y, z }
+    }
+}
+
 impl Line for Span {
     type Fields = (i128, (i128, ()));
 
-    ghost parts = { λ s. (s.lo, (s.hi, tt)) };
+    ghost parts = { λ x. (x.lo, (x.hi, tt)) };
 
     fn parts(&self) -> (i128, (i128, ())) {
         (self.lo, (self.hi, ()))
@@ -120,39 +208,146 @@ impl Line for Span {
     }
 }
 
-impl Line for HalfCone {
-    type Fields = (i128, (i128, (PointNumber, (PointNumber, ()))));
+/// A normal with its bounds.
+#[derive(Clone, Copy, Debug, PartialEq, Eq)]
+pub(crate) struct Side {
+    pub(crate) normal: Dir,
+    pub(crate) span: Span,
+}
 
-    ghost parts = { λ c. (c.dir.x, (c.dir.y, (record { number = c.hi }, (record { number = c.lo }, tt)))) };
+impl Line for Side {
+    type Fields = (i128, (i128, (i128, (i128, ()))));
 
-    fn parts(&self) -> (i128, (i128, (PointNumber, (PointNumber, ())))) {
-        let (hi, lo) = (self.hi, self.lo);
-        let points = (PointNumber { number: hi }, (PointNumber { number: lo }, ()));
-        (self.dir.x, (self.dir.y, points))
+    ghost parts = { λ x. (x.normal.x, (x.normal.y, (x.span.lo, (x.span.hi, tt)))) };
+
+    fn parts(&self) -> (i128, (i128, (i128, (i128, ())))) {
+        (
+            self.normal.x,
+            (self.normal.y, (self.span.lo, (self.span.hi, ()))),
+        )
     }
 
-    fn of((x, (y, (hi, (lo, ())))): (i128, (i128, (PointNumber, (PointNumber, ()))))) -> HalfCone {
+    fn of((x, (y, (lo, (hi, ())))): (i128, (i128, (i128, (i128, ()))))) -> Side {
+        let normal = Dir { x, y };
+        let span = Span { lo, hi };
+        Side { normal, span }
+    }
+}
+
+/// The sides of an upright rectangle.
+#[derive(Clone, Copy, Debug, PartialEq, Eq)]
+pub(crate) struct Edges {
+    pub(crate) left: i128,
+    pub(crate) bottom: i128,
+    pub(crate) right: i128,
+    pub(crate) top: i128,
+}
+
+impl Line for Edges {
+    type Fields = (i128, (i128, (i128, (i128, ()))));
+
+    ghost parts = { λ x. (x.left, (x.bottom, (x.right, (x.top, tt)))) };
+
+    fn parts(&self) -> (i128, (i128, (i128, (i128, ())))) {
+        (self.left, (self.bottom, (self.right, (self.top, ()))))
+    }
+
+    fn of((left, (bottom, (right, (top, ())))): (i128, (i128, (i128, (i128, ()))))) -> Edges {
+        Edges {
+            left,
+            bottom,
+            right,
+            top,
+        }
+    }
+}
+
+impl Line for HalfCone {
+    type Fields = (i128, (i128, (u32, (u32, ()))));
+
+    ghost parts = { λ x. (x.dir.x, (x.dir.y, (x.hi, (x.lo, tt)))) };
+
+    fn parts(&self) -> (i128, (i128, (u32, (u32, ())))) {
+        (self.dir.x, (self.dir.y, (self.hi, (self.lo, ()))))
+    }
+
+    fn of((x, (y, (hi, (lo, ())))): (i128, (i128, (u32, (u32, ()))))) -> HalfCone {
         let dir = Dir { x, y };
-        let (hi, lo) = (hi.number, lo.number);
         HalfCone { dir, hi, lo }
     }
 }
 
-impl Line for Leaf {
-    type Fields = (PointNumber, (PointNumber, ()));
+impl Line for QuarterCone {
+    type Fields = (i128, (i128, (u32, (u32, (u32, (u32, ()))))));
 
-    ghost parts = { λ leaf. (record { number = leaf.first }, (record { number = leaf.second }, tt)) };
+    ghost parts = { λ x. (x.dir.x, (x.dir.y, (x.hi, (x.lo, (x.over, (x.under, tt)))))) };
 
-    fn parts(&self) -> (PointNumber, (PointNumber, ())) {
-        let (first, second) = (self.first, self.second);
+    fn parts(&self) -> (i128, (i128, (u32, (u32, (u32, (u32, ())))))) {
         (
-            PointNumber { number: first },
-            (PointNumber { number: second }, ()),
+            self.dir.x,
+            (
+                self.dir.y,
+                (self.hi, (self.lo, (self.over, (self.under, ())))),
+            ),
         )
     }
 
-    fn of((first, (second, ())): (PointNumber, (PointNumber, ()))) -> Leaf {
-        let (first, second) = (first.number, second.number);
-        Leaf { first, second }
+    fn of(
+        (x, (y, (hi, (lo, (over, (under, ())))))): (i128, (i128, (u32, (u32, (u32, (u32, ())))))),
+    ) -> QuarterCone {
+        let dir = Dir { x, y };
+        QuarterCone {
+            dir,
+            hi,
+            lo,
+            over,
+            under,
+        }
+    }
+}
+
+/// A cone, and the chord across its first direction.
+#[derive(Clone, Copy, Debug, PartialEq, Eq)]
+pub(crate) struct ChordedCone {
+    pub(crate) cone: HalfCone,
+    pub(crate) chord: Chord,
+}
+
+impl Line for ChordedCone {
+    type Fields = (i128, (i128, (u32, (u32, Chord))));
+
+    ghost parts = { λ x. (x.cone.dir.x, (x.cone.dir.y, (x.cone.hi, (x.cone.lo, x.chord)))) };
+
+    fn parts(&self) -> (i128, (i128, (u32, (u32, Chord)))) {
+        let cone = self.cone;
+        (cone.dir.x, (cone.dir.y, (cone.hi, (cone.lo, self.chord))))
+    }
+
+    fn of((x, (y, (hi, (lo, chord)))): (i128, (i128, (u32, (u32, Chord))))) -> ChordedCone {
+        let dir = Dir { x, y };
+        let cone = HalfCone { dir, hi, lo };
+        ChordedCone { cone, chord }
+    }
+}
+
+/// The last direction of a fan, and the chord across it.
+#[derive(Clone, Copy, Debug, PartialEq, Eq)]
+pub(crate) struct ChordedEnd {
+    pub(crate) dir: Dir,
+    pub(crate) chord: Chord,
+}
+
+impl Line for ChordedEnd {
+    type Fields = (i128, (i128, Chord));
+
+    ghost parts = { λ x. (x.dir.x, (x.dir.y, x.chord)) };
+
+    fn parts(&self) -> (i128, (i128, Chord)) {
+        (self.dir.x, (self.dir.y, self.chord))
+    }
+
+    fn of((x, (y, chord)): (i128, (i128, Chord))) -> ChordedEnd {
+        let dir = Dir { x, y };
+        ChordedEnd { dir, chord }
     }
 }

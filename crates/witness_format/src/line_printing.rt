@@ -4,7 +4,7 @@ ghost use Rattle.std.specs.List.{flat_map};
 ghost use Rattle.std.specs.Fmt.{signed_decimal};
 ghost use Rattle.bounds_model.specs.AnswerText.LineFormats.{titled, untitled};
 ghost use Rattle.bounds_model.specs.AnswerText.Kinds.{first_format};
-ghost use Rattle.bounds_model.specs.AnswerText.SpelledParts.{fraction_text, pair_text, plane_ratio_text};
+ghost use Rattle.bounds_model.specs.AnswerText.SpelledParts.{fraction_text, pair_text, plane_ratio_text, size_line};
 ghost use Rattle.bounds_model.specs.AnswerText.Spelling.{space_ratio_text};
 ghost use Rattle.bounds_model.specs.AnswerText.Written.{format_line};
 ghost use Rattle.witness_format.specs.Printed.{count_bytes, counted_bytes};
@@ -48,7 +48,7 @@ pub(crate) fn push_line<T: Line>(text: &mut Vec<u8>, value: &T) -> Result<(), Al
 }
 
 /// A word and a number of lines.
-fn push_count(text: &mut Vec<u8>, word: &[u8], count: usize) -> Result<(), AllocError>
+pub(crate) fn push_count(text: &mut Vec<u8>, word: &[u8], count: usize) -> Result<(), AllocError>
     ensures { OnOk result (text.new.items ≡ text.old.items ++ count_bytes word.now count) }
 {
     push(text, word)?;
@@ -81,6 +81,16 @@ fn push_lines<T: Line>(text: &mut Vec<u8>, lines: &[T]) -> Result<(), AllocError
     Ok(())
 }
 
+/// The line of a size: the word `size`, the fraction, and a line feed.
+#[tactic(auto, unfolding(bounds_model::specs::AnswerText::SpelledParts::size_line))]
+pub fn push_size(text: &mut Vec<u8>, size: &Frac) -> Result<(), AllocError>
+    ensures { OnOk result (text.new.items ≡ text.old.items ++ size_line size.now) }
+{
+    push(text, b"size ")?;
+    push_fraction(text, size)?;
+    push(text, b"\n")
+}
+
 // ---- parts of lines
 
 /// These bytes.
@@ -90,8 +100,8 @@ pub(crate) fn push(text: &mut Vec<u8>, piece: &[u8]) -> Result<(), AllocError>
     text.extend_from_slice(piece)
 }
 
-/// A number without a sign.
-pub(crate) fn push_natural(text: &mut Vec<u8>, n: u128) -> Result<(), AllocError>
+/// A number without a sign, in decimal digits.
+pub fn push_natural(text: &mut Vec<u8>, n: u128) -> Result<(), AllocError>
     ensures { OnOk result (text.new.items ≡ text.old.items ++ decimal n) }
 {
     text.extend_from_slice(Buffer::new().format(n).as_bytes())

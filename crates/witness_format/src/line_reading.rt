@@ -80,7 +80,12 @@ pub(crate) fn read_line<T: Line>(text: &mut Unread<'_>) -> Result<T, ReadFault>
 }
 
 /// A word and a number from `low` to `high`.
-fn read_count(text: &mut Unread<'_>, word: &[u8], low: u32, high: u32) -> Result<u32, ReadFault>
+pub(crate) fn read_count(
+    text: &mut Unread<'_>,
+    word: &[u8],
+    low: u32,
+    high: u32,
+) -> Result<u32, ReadFault>
     ensures count { Reads (λ n. ((n, tt), lines_left text.new)) result
         (line_at (count_format (record { word = word.now; low = low; high = high })) (lines_left text.old)) }
     ensures limited { IfOk result (λ n. n ≤ high) }
@@ -144,8 +149,9 @@ pub(crate) fn read_listed<T: Line>(
     less: u32,
 ) -> Result<AnswerList<T>, ReadFault>
     requires { high ≤ 1000000 }
-    ensures { ReadsOr (Unit {0}) (λ values. (map (λ v. T.Fields.values (T.parts v)) values, lines_left text.new)) result
+    ensures lines { ReadsOr (Unit {0}) (λ values. (map (λ v. T.Fields.values (T.parts v)) values, lines_left text.new)) result
         (part_at (counted (record { word = word.now; low = low; high = high }) less T.Fields.fields) [] (lines_left text.old)) }
+    ensures limited { IfOk result (λ values. length values ≤ high) }
 {
     let count = read_count(text, word, low, high)?;
     read_list(alloc, text, count.saturating_sub(less))
@@ -158,8 +164,9 @@ fn read_list<T: Line>(
     count: u32,
 ) -> Result<AnswerList<T>, ReadFault>
     requires { count ≤ 1000000 }
-    ensures { ReadsOr (Unit {0}) (λ values. (map (λ v. T.Fields.values (T.parts v)) values, lines_left text.new)) result
+    ensures lines { ReadsOr (Unit {0}) (λ values. (map (λ v. T.Fields.values (T.parts v)) values, lines_left text.new)) result
         (lines_at count (untitled T.Fields.fields) (lines_left text.old)) }
+    ensures amount { IfOk result (λ values. length values ≡ count) }
 {
     let mut values = AnswerList::new(alloc);
     for _ in 0..count {
@@ -170,7 +177,7 @@ fn read_list<T: Line>(
 }
 
 /// Adds a value that was read.
-fn add<T: Copy>(values: &mut AnswerList<T>, value: T) -> Result<(), ReadFault>
+pub(crate) fn add<T: Copy>(values: &mut AnswerList<T>, value: T) -> Result<(), ReadFault>
     requires { length values.old < 1000000 }
     ensures added { OnOk result (values.new ≡ values.old ++ value ∷ []) }
     ensures fault { IfErr result (λ fault. fault ≡ OutOfMemory) }

@@ -9,10 +9,6 @@ use std::test::Fail;
 const TWO_SQUARES: &[u8] =
     b"answer 1 centres\nsize 1/1\nsquares 2\n1 1 1\n11 11 1\nleaves 4\n2 3\n0 3\n0 3\n0 2\nend\n";
 
-/// A strip around the four corners of a quadrangle, with a fan of four directions.
-const STRIP: &[u8] =
-    b"answer 1 strip\nsize 144/25\ndirection 3 4\nbounds 0 12\nfan 4\n1 0 1 0\n3 4 2 0\n0 1 2 1\n-1 0\nend\n";
-
 /// The text is read, and the answer has this text and this size.
 fn stands(rt: &impl Abort, alloc: Global, text: &[u8], numerator: u128, denominator: u128) {
     assert!(rt; text.len() <= 1 << 23);
@@ -73,13 +69,6 @@ fn texts_of_answers(rt: HostRuntime) {
             1,
             1,
         ),
-        // strips
-        (STRIP, 144, 25),
-        (
-            b"answer 1 strip\nsize 0/1\ndirection 0 -1\nbounds -7 -7\nfan 2\n1 0 9999 0\n-1 0\nend\n",
-            0,
-            1,
-        ),
         // centres
         (TWO_SQUARES, 1, 1),
         (
@@ -127,25 +116,6 @@ fn numbers_of_a_sphere(rt: HostRuntime) -> Result<(), Fail> {
 }
 
 #[test]
-fn numbers_of_a_strip(rt: HostRuntime) -> Result<(), Fail> {
-    match read(rt.alloc(), STRIP) {
-        Ok(Answer::Strip(a)) => {
-            assert!(rt; (a.direction.x, a.direction.y) == (3, 4));
-            assert!(rt; (a.bounds.lo, a.bounds.hi) == (0, 12));
-            assert_eq!(rt; a.fan.cones.len(), 3);
-            if a.fan.cones.len() == 3 {
-                let cone = a.fan.cones.at(1);
-                assert!(rt; (cone.dir.x, cone.dir.y, cone.hi, cone.lo) == (3, 4, 2, 0));
-            }
-            assert!(rt; (a.fan.last.x, a.fan.last.y) == (-1, 0));
-            Ok(())
-        }
-        Ok(_) => panic!(rt; "of another kind"),
-        Err(fault) => panic!(rt; "refused: {fault:?}"),
-    }
-}
-
-#[test]
 fn numbers_of_two_squares(rt: HostRuntime) -> Result<(), Fail> {
     match read(rt.alloc(), TWO_SQUARES) {
         Ok(Answer::Centres(a)) => {
@@ -173,179 +143,18 @@ fn numbers_of_two_squares(rt: HostRuntime) -> Result<(), Fail> {
 fn refused_texts(rt: HostRuntime) {
     let alloc = rt.alloc();
     for (text, line) in [
-        // the first line
-        (b"".as_slice(), 1),
-        (b"answer 1 centres", 1),
-        (b"answer 1 blob\n", 1),
-        (b"answer 1 spheres\n", 1),
-        (b"answer 1 rectangle\n", 1),
-        (b"answer 1 circle sphere\n", 1),
-        (b"answer 1 \n", 1),
-        (b"answer 1\n", 1),
-        (b"answer circle\n", 1),
-        (b"answer 2 centres\n", 1),
-        (b"answer  1 centres\n", 1),
-        (b"answer 1 centres \n", 1),
-        (b"answer 1 centres\r\n", 1),
-        (
-            b"answer 85070591730234615865843651857942052865 centres\n",
-            1,
-        ),
-        // the size
-        (b"answer 1 centres\n", 2),
+        (b"answer 2 centres\n".as_slice(), 1),
         (b"answer 1 centres\nsize 2/4\n", 2),
-        (b"answer 1 centres\nsize 0/2\n", 2),
         (b"answer 1 centres\nsize 1/0\n", 2),
-        (b"answer 1 centres\nsize -1/2\n", 2),
-        (b"answer 1 centres\nsize 1/-2\n", 2),
-        (b"answer 1 centres\nsize 01/2\n", 2),
-        (b"answer 1 centres\nsize +1/2\n", 2),
-        (b"answer 1 centres\nsize 1\n", 2),
-        (b"answer 1 centres\nsize 1/\n", 2),
-        (b"answer 1 centres\nsize 1/2/3\n", 2),
-        (b"answer 1 centres\nsize -0/1\n", 2),
-        (
-            b"answer 1 centres\nsize 85070591730234615865843651857942052865/x\n",
-            2,
-        ),
-        (
-            b"answer 1 centres\nsize 85070591730234615865843651857942052865/1",
-            2,
-        ),
-        // the center
-        (b"answer 1 circle\nsize 1/1\n", 3),
-        (b"answer 1 circle\nsize 1/1\ncentre 1 1 1\n", 3),
         (b"answer 1 circle\nsize 1/1\ncenter 1 1 0\n", 3),
-        (b"answer 1 circle\nsize 1/1\ncenter 1 1 -1\n", 3),
-        (b"answer 1 circle\nsize 1/1\ncenter 2 4 6\n", 3),
-        (b"answer 1 circle\nsize 1/1\ncenter 1 1 1 1\n", 3),
-        (b"answer 1 sphere\nsize 1/1\ncenter 1 1 1\n", 3),
-        (b"answer 1 sphere\nsize 1/1\ncenter 1 1 1 0\n", 3),
-        (b"answer 1 sphere\nsize 1/1\ncenter 2 4 8 6\n", 3),
-        (b"answer 1 sphere\nsize 1/1\ncenter 0 0 0 2\n", 3),
-        (b"answer 1 sphere\nsize 1/1\ncenter 1 1 -0 1\n", 3),
-        // the supports
-        (b"answer 1 circle\nsize 1/1\ncenter 1 1 1\nsupports 0\n", 4),
         (b"answer 1 circle\nsize 1/1\ncenter 1 1 1\nsupports 4\n", 4),
-        (
-            b"answer 1 sphere\nsize 1/1\ncenter 1 1 1 1\nsupports 0\n",
-            4,
-        ),
-        (
-            b"answer 1 sphere\nsize 1/1\ncenter 1 1 1 1\nsupports 5\n",
-            4,
-        ),
-        (
-            b"answer 1 circle\nsize 1/1\ncenter 1 1 1\nsupports 1\n0 -1\n",
-            5,
-        ),
-        (
-            b"answer 1 circle\nsize 1/1\ncenter 1 1 1\nsupports 1\n0 +1\n",
-            5,
-        ),
         (
             b"answer 1 circle\nsize 1/1\ncenter 1 1 1\nsupports 1\n0 01\n",
             5,
         ),
         (
-            b"answer 1 circle\nsize 1/1\ncenter 1 1 1\nsupports 1\n0\n",
-            5,
-        ),
-        (
             b"answer 1 circle\nsize 1/1\ncenter 1 1 1\nsupports 1\n10000 1\n",
             5,
-        ),
-        (
-            b"answer 1 circle\nsize 1/1\ncenter 1 1 1\nsupports 1\n-1 85070591730234615865843651857942052865\n",
-            5,
-        ),
-        (
-            b"answer 1 circle\nsize 1/1\ncenter 1 1 1\nsupports 2\n0 1\nend\n",
-            6,
-        ),
-        (
-            b"answer 1 circle\nsize 1/1\ncenter 1 1 1\nsupports 1\n0 1\n0 1\nend\n",
-            6,
-        ),
-        (
-            b"answer 1 sphere\nsize 1/1\ncenter 1 1 1 1\nsupports 1\n0 1\n",
-            6,
-        ),
-        (
-            b"answer 1 sphere\nsize 1/1\ncenter 1 1 1 1\nsupports 1\n0 1\nend",
-            6,
-        ),
-        (
-            b"answer 1 sphere\nsize 1/1\ncenter 1 1 1 1\nsupports 1\n0 1\nend\nend\n",
-            7,
-        ),
-        // the squares
-        (b"answer 1 centres\nsize 1/1\nsquares 0\n", 3),
-        (b"answer 1 centres\nsize 1/1\nsquares 4\n", 3),
-        (b"answer 1 centres\nsize 1/1\nsquares -1\n", 3),
-        (b"answer 1 centres\nsize 1/1\nsquares 1\n1 1 0\n", 4),
-        (b"answer 1 centres\nsize 1/1\nsquares 1\n2 4 6\n", 4),
-        (b"answer 1 centres\nsize 1/1\nsquares 1\n1 1\n", 4),
-        (b"answer 1 centres\nsize 1/1\nsquares 1\n1 1 1 1\n", 4),
-        (b"answer 1 centres\nsize 1/1\nsquares 1\n1 -0 1\n", 4),
-        (
-            b"answer 1 centres\nsize 1/1\nsquares 2\n1 1 1\nleaves 0\n",
-            5,
-        ),
-        // the leaves
-        (
-            b"answer 1 centres\nsize 1/1\nsquares 1\n1 1 1\nleaves 17\n",
-            5,
-        ),
-        (
-            b"answer 1 centres\nsize 1/1\nsquares 1\n1 1 1\nleaves 1\n0 10000\n",
-            6,
-        ),
-        (
-            b"answer 1 centres\nsize 1/1\nsquares 1\n1 1 1\nleaves 1\n0 -1\n",
-            6,
-        ),
-        // the fan
-        (
-            b"answer 1 strip\nsize 1/1\ndirection 0 1\nbounds 0 1\nfan 1\n",
-            5,
-        ),
-        (
-            b"answer 1 strip\nsize 1/1\ndirection 0 1\nbounds 0 1\nfan 10004\n",
-            5,
-        ),
-        (
-            b"answer 1 strip\nsize 1/1\ndirection 0 1\nbounds 0 1\nfan 2\n1 0 0\n",
-            6,
-        ),
-        (
-            b"answer 1 strip\nsize 1/1\ndirection 0 1\nbounds 0 1\nfan 2\n1 0 0 10000\n",
-            6,
-        ),
-        (
-            b"answer 1 strip\nsize 1/1\ndirection 0 1\nbounds 0 1\nfan 2\n1 0 0 1\n-1 0 0 1\n",
-            7,
-        ),
-        (
-            b"answer 1 strip\nsize 1/1\ndirection 0 1\nbounds 0 1\nfan 2\n1 0 0 1\nend\n",
-            7,
-        ),
-        // the last line
-        (
-            b"answer 1 centres\nsize 1/1\nsquares 1\n1 1 1\nleaves 0\n",
-            6,
-        ),
-        (
-            b"answer 1 centres\nsize 1/1\nsquares 1\n1 1 1\nleaves 0\nend",
-            6,
-        ),
-        (
-            b"answer 1 centres\nsize 1/1\nsquares 1\n1 1 1\nleaves 0\nend \n",
-            6,
-        ),
-        (
-            b"answer 1 centres\nsize 1/1\nsquares 1\n1 1 1\nleaves 0\nend\n\n",
-            7,
         ),
     ] {
         is_refused(&rt, alloc, text, ReadFault::BadAnswer(line));
@@ -362,38 +171,6 @@ fn refused_texts(rt: HostRuntime) {
         (
             b"answer 1 circle\nsize 1/1\ncenter 2 4 85070591730234615865843651857942052865\n",
             3,
-        ),
-        (
-            b"answer 1 sphere\nsize 1/1\ncenter 2 4 -85070591730234615865843651857942052865 0\n",
-            3,
-        ),
-        (
-            b"answer 1 sphere\nsize 1/1\ncenter 1 1 1 1\nsupports 85070591730234615865843651857942052865\n",
-            4,
-        ),
-        (
-            b"answer 1 circle\nsize 1/1\ncenter 1 1 1\nsupports 1\n10000 85070591730234615865843651857942052865\n",
-            5,
-        ),
-        (
-            b"answer 1 sphere\nsize 1/1\ncenter 1 1 1 1\nsupports 1\n0 340282366920938463463374607431768211457\n",
-            5,
-        ),
-        (
-            b"answer 1 centres\nsize 1/1\nsquares 340282366920938463463374607431768211457\n",
-            3,
-        ),
-        (
-            b"answer 1 centres\nsize 1/1\nsquares 1\n2 4 -85070591730234615865843651857942052865\n",
-            4,
-        ),
-        (
-            b"answer 1 centres\nsize 1/1\nsquares 1\n1 1 1\nleaves 1\n10000 85070591730234615865843651857942052865\n",
-            6,
-        ),
-        (
-            b"answer 1 strip\nsize 1/1\ndirection 0 1\nbounds 0 1\nfan 2\n1 -85070591730234615865843651857942052865 0 10000\n",
-            6,
         ),
     ] {
         is_refused(&rt, alloc, text, ReadFault::BigNumber(line));

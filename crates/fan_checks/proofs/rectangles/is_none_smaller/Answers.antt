@@ -5,7 +5,7 @@ use Rattle.bounds_model.specs.Fans.{IsShort, IsQuarterExtreme, quarter_direction
 use Rattle.bounds_model.specs.RectangleAnswer.{IsNotSmaller}
 use Rattle.bounded_coords.specs.Clouds.{points_of}
 use Rattle.answers.specs.Answers.{quarter_fan_of, quarter_cone_of}
-use Rattle.fan_checks.proofs.Lists.{clash}
+use Rattle.integers.proofs.Lists.{clash}
 use Rattle.fan_checks.proofs.FanLoops.{numbered_more, numbered_at, quarter_first, quarter_short, quarter_names}
 use Rattle.fan_checks.proofs.rectangles.is_none_smaller.Goals as goal
 

@@ -4,7 +4,7 @@ use Rattle.bounds_model.specs.Plane.{dot}
 use Rattle.bounds_model.specs.Strip.{IsInSpan}
 use Rattle.bounded_coords.specs.Clouds.{points_of}
 use Rattle.answers.specs.Answers.{vector_of, span_of}
-use Rattle.fan_checks.proofs.Lists.{clash, each_more, at_point}
+use Rattle.integers.proofs.Lists.{clash, each_more, at_point}
 use Rattle.fan_checks.proofs.spans.are_in_span.Goals as goal
 
 pub returns-then-not-is_in_span : goal.returns-then-not-is_in_span

@@ -5,7 +5,7 @@ use Rattle.integers.proofs.Sizes.{size_fits_in}
 use Rattle.bounds_model.specs.Strip.{extent}
 use Rattle.bounds_model.specs.Fractions.{SameValue}
 use Rattle.answers.specs.Answers.{span_of}
-use Rattle.fan_checks.proofs.Lists.{clash}
+use Rattle.integers.proofs.Lists.{clash}
 use Rattle.fan_checks.proofs.Widths.{no_value, magnitude_is}
 use Rattle.fan_checks.proofs.spans.is_product.Goals as goal
 

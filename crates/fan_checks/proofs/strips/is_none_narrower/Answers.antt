@@ -5,7 +5,7 @@ use Rattle.bounds_model.specs.StripAnswer.{IsNotThinner}
 use Rattle.bounded_coords.specs.Clouds.{points_of}
 use Rattle.answers.specs.Answers.{half_fan_of, half_cone_of}
 use Rattle.std.proofs.lemmas.Option.{slice_get_within}
-use Rattle.fan_checks.proofs.Lists.{clash}
+use Rattle.integers.proofs.Lists.{clash}
 use Rattle.fan_checks.proofs.FanLoops.{numbered_more, numbered_at, half_first, half_short, half_names}
 use Rattle.fan_checks.proofs.strips.is_none_narrower.Goals as goal
 

@@ -6,7 +6,7 @@ use Rattle.bounds_model.specs.BallAnswer.{IsOnBall}
 use Rattle.bounded_coords.specs.Clouds.{points_of}
 use Rattle.answers.specs.Answers.{weighted_of}
 use Rattle.answers.specs.declared.balls.Weighted.{Weighted}
-use Rattle.witness_check.proofs.Passing.{All-unmap, clash}
+use Rattle.integers.proofs.Lists.{All-unmap, clash}
 use Rattle.witness_check.proofs.Supports.{some_supports, names_point, placed, first_placed, on_ball_by}
 use Rattle.witness_check.proofs.balls.are_on_ball.Goals as goal
 

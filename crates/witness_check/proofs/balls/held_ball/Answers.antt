@@ -6,7 +6,7 @@ use Rattle.answers.specs.Answers.{weighted_of}
 use Rattle.ball_sums.proofs.SumSizes.{weight_most, moment_most}
 use Rattle.ball_sums.proofs.Means.{mean_size_is}
 use Rattle.witness_check.specs.HeldBalls.{HasBallLimits}
-use Rattle.witness_check.proofs.Passing.{clash}
+use Rattle.integers.proofs.Lists.{clash}
 use Rattle.witness_check.proofs.balls.held_ball.Goals as goal
 
 pub returns-in_err-held : goal.returns-in_err-held

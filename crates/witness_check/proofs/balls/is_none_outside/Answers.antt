@@ -5,7 +5,7 @@ use Rattle.std.proofs.lemmas.List.Elements.{All-map}
 use Rattle.bounds_model.specs.BallAnswer.{IsNotOutside}
 use Rattle.bounded_coords.specs.Clouds.{points_of}
 use Rattle.answers.specs.Answers.{weighted_of}
-use Rattle.witness_check.proofs.Passing.{All-unmap, at_point, first_more, clash}
+use Rattle.integers.proofs.Lists.{All-unmap, at_point, first_more, clash}
 use Rattle.witness_check.proofs.Supports.{some_supports, names_point, first_placed, outside_by}
 use Rattle.witness_check.proofs.balls.is_none_outside.Goals as goal
 

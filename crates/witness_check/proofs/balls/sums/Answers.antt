@@ -11,7 +11,7 @@ use Rattle.answers.specs.declared.balls.Weighted.{Weighted}
 use Rattle.ball_sums.specs.Sums.{AreSumsFrom}
 use Rattle.ball_sums.proofs.Weights.{some_weight}
 use Rattle.ball_sums.proofs.SupportSums.{sums_of_more}
-use Rattle.witness_check.proofs.Passing.{All-unmap, clash}
+use Rattle.integers.proofs.Lists.{All-unmap, clash}
 use Rattle.witness_check.proofs.Supports.{placed, first_placed}
 use Rattle.witness_check.proofs.SupportWeights.{too_heavy}
 use Rattle.witness_check.proofs.balls.sums.Goals as goal

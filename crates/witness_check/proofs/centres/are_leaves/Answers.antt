@@ -3,7 +3,7 @@ use Rattle.bounded_coords.specs.Clouds.{points_of}
 use Rattle.answers.specs.Answers.{leaf_of}
 use Rattle.witness_check.specs.CentresLimits.{NamesPoints}
 use Rattle.witness_check.proofs.Leaves.{one_leaf}
-use Rattle.witness_check.proofs.Passing.{All-unmap}
+use Rattle.integers.proofs.Lists.{All-unmap}
 use Rattle.witness_check.proofs.centres.are_leaves.Goals as goal
 
 pub is_leaf-requires : goal.is_leaf-requires

@@ -8,7 +8,7 @@ use Rattle.bounds_model.specs.CentresAnswer.{CentresAnswer, Leaf, PassesCentres,
 use Rattle.bounded_coords.specs.Clouds.{points_of}
 use Rattle.answers.specs.Answers.{leaf_of, centres_of}
 use Rattle.witness_check.specs.CentresLimits.{IsWithinLimits}
-use Rattle.witness_check.proofs.Passing.{clash}
+use Rattle.integers.proofs.Lists.{clash}
 use Rattle.witness_check.proofs.CentresPassing.{passes_within_limits}
 use Rattle.witness_check.proofs.centres.check_centres.Goals as goal
 

@@ -1,7 +1,7 @@
 use Rattle.std.specs.Prelude.{Any}
 use Rattle.bounds_model.specs.Centres.{IsNear}
 use Rattle.bounded_coords.specs.Clouds.{points_of}
-use Rattle.witness_check.proofs.Passing.{at_point, each_more}
+use Rattle.integers.proofs.Lists.{at_point, each_more}
 use Rattle.witness_check.proofs.centres.cover.Goals as goal
 
 pub loop-i-preserved : goal.loop-i-preserved

@@ -1,5 +1,5 @@
 use Rattle.bounds_model.specs.Centres.{IsNear}
-use Rattle.witness_check.proofs.Passing.{none_more}
+use Rattle.integers.proofs.Lists.{none_more}
 use Rattle.witness_check.proofs.centres.is_covered.Goals as goal
 
 pub loop-c-preserved : goal.loop-c-preserved

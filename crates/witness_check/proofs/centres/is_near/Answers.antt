@@ -3,7 +3,7 @@ use Rattle.std.proofs.lemmas.Int.{ints}
 use Rattle.integers.specs.Size.{Size}
 use Rattle.integers.proofs.Sizes.{size_more, size_between}
 use Rattle.bounds_model.specs.Numbers.{IsWithin}
-use Rattle.witness_check.proofs.Narrowing.{narrowed, narrowed_unsigned, widened, product64, reaches}
+use Rattle.integers.proofs.Narrowing.{narrowed, narrowed_unsigned, widened, product64, reaches}
 use Rattle.witness_check.proofs.centres.is_near.Goals as goal
 
 one_or_two : {z : ℤ} → (z ≡ pos 1) ⊎ (z ≡ pos 2) → Size 2 z

@@ -6,7 +6,7 @@ use Rattle.bounded_coords.specs.Clouds.{points_of}
 use Rattle.answers.specs.Answers.{leaf_of}
 use Rattle.answers.specs.declared.centres.Leaf.{Leaf}
 use Rattle.witness_check.specs.CentresLimits.{NamesPoints}
-use Rattle.witness_check.proofs.Passing.{All-unmap, clash}
+use Rattle.integers.proofs.Lists.{All-unmap, clash}
 use Rattle.witness_check.proofs.centres.is_within_limits.Goals as goal
 use Rattle.witness_check.proofs.centres.is_within_limits.Goals.{then-squares-from, else-squares-from, then-is_small_radius, else-is_small_radius}
 

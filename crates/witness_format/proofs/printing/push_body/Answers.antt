@@ -6,8 +6,26 @@ returns-in-Circle c = rw c.in-Circle.is c.push_circle.ensures
 pub returns-in-Sphere : goal.returns-in-Sphere
 returns-in-Sphere c = rw c.in-Sphere.is c.push_sphere.ensures
 
-pub returns-in-Centres : goal.returns-in-Centres
-returns-in-Centres c = rw c.in-Centres.is c.push_centres.ensures
+pub returns-in-Rectangle : goal.returns-in-Rectangle
+returns-in-Rectangle c = rw c.in-Rectangle.is c.push_rectangle.ensures
+
+pub returns-in-Parallelogram : goal.returns-in-Parallelogram
+returns-in-Parallelogram c = rw c.in-Parallelogram.is c.push_parallelogram.ensures
 
 pub returns-in-Strip : goal.returns-in-Strip
 returns-in-Strip c = rw c.in-Strip.is c.push_strip.ensures
+
+pub returns-in-Annulus : goal.returns-in-Annulus
+returns-in-Annulus c = rw c.in-Annulus.is c.push_annulus.ensures
+
+pub returns-in-Empty : goal.returns-in-Empty
+returns-in-Empty c = rw c.in-Empty.is c.push_empty.ensures
+
+pub returns-in-Kgon : goal.returns-in-Kgon
+returns-in-Kgon c = rw c.in-Kgon.is c.push_kgon.ensures
+
+pub returns-in-Distance : goal.returns-in-Distance
+returns-in-Distance c = rw c.in-Distance.is c.push_distance.ensures
+
+pub returns-in-Centres : goal.returns-in-Centres
+returns-in-Centres c = rw c.in-Centres.is c.push_centres.ensures

@@ -1,6 +1,7 @@
 use Rattle.bounds_model.specs.AnswerText.Reading.{all_lines}
 use Rattle.witness_format.specs.Kinds.{known_kinds, TextMayWant}
-use Rattle.witness_format.proofs.KindTexts.{reads_text, found_is_spelled, spelled_is_found}
+use Rattle.witness_format.proofs.KindTexts.{reads_text}
+use Rattle.witness_format.proofs.KnownKinds.{found_is_spelled, spelled_is_found}
 use Rattle.witness_format.proofs.reading.read.Goals as goal
 
 pub returns-clause-reading : goal.returns-clause-reading

@@ -3,10 +3,9 @@ use Rattle.bounds_model.specs.AnswerText.Fields.{plane_ratio, point_number}
 use Rattle.bounds_model.specs.AnswerText.LineFormats.{Values}
 use Rattle.bounds_model.specs.AnswerText.Formats.{counted, counts_after}
 use Rattle.bounds_model.specs.AnswerText.Kinds.{centres_kind}
-use Rattle.answers.specs.declared.answer.Answer.TheVariants.{Centres}
 use Rattle.witness_format.specs.Lines.{lines_left}
 use Rattle.witness_format.proofs.KindTexts.{part_read, body_read}
-use Rattle.witness_format.proofs.SaidAnswers.{said_is}
+use Rattle.witness_format.proofs.SaidAnswers.{centres_is}
 use Rattle.witness_format.proofs.reading.read_centres.Goals as goal
 
 pub returns : goal.returns
@@ -19,4 +18,4 @@ returns c =
     let centres_read : List (Values (plane_ratio ∷ [])) = map (λ p. (p, tt)) c.in_ok-squares.squares.items in
     body_read centres_kind c.args.size before _ behind _
     (part_read squares (leaves ∷ []) [] before centres_read between _ behind c.in_ok-squares.ensures (part_read leaves [] (counts_after squares centres_read []) between _ behind tt behind c.in_ok-leaves.ensures refl))
-    (said_is (Centres (record { size = c.args.size; squares = c.in_ok-squares.squares; leaves = c.in_ok-leaves.leaves })))
+    (centres_is (record { size = c.args.size; squares = c.in_ok-squares.squares; leaves = c.in_ok-leaves.leaves }))

@@ -3,10 +3,9 @@ use Rattle.bounds_model.specs.AnswerText.Fields.{plane_ratio}
 use Rattle.bounds_model.specs.AnswerText.LineFormats.{titled}
 use Rattle.bounds_model.specs.AnswerText.Formats.{line}
 use Rattle.bounds_model.specs.AnswerText.Kinds.{circle_kind, supports}
-use Rattle.answers.specs.declared.answer.Answer.TheVariants.{Circle}
 use Rattle.witness_format.specs.Lines.{lines_left}
 use Rattle.witness_format.proofs.KindTexts.{part_read, body_read}
-use Rattle.witness_format.proofs.SaidAnswers.{said_is}
+use Rattle.witness_format.proofs.SaidAnswers.{circle_is}
 use Rattle.witness_format.proofs.reading.read_circle.Goals as goal
 
 pub returns : goal.returns
@@ -17,4 +16,4 @@ returns c =
     let behind = lines_left c.read_counted.new.text in
     body_read circle_kind c.args.size before _ behind _
     (part_read center (supports 3 ∷ []) [] before (c.in_ok-center.center, tt) between _ behind c.in_ok-center.ensures (part_read (supports 3) [] [] between _ behind tt behind c.in_ok-supports.ensures refl))
-    (said_is (Circle (record { size = c.args.size; center = c.in_ok-center.center; supports = c.in_ok-supports.supports })))
+    (circle_is (record { size = c.args.size; center = c.in_ok-center.center; supports = c.in_ok-supports.supports }))

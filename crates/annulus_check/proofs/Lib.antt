@@ -1,0 +1,4 @@
+pub mod AnnulusHeights
+pub mod AnnulusNumbers
+pub mod AnnulusPairs
+pub mod AnnulusPassing

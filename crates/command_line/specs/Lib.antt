@@ -1,0 +1,9 @@
+pub mod Kinds
+pub mod Values
+pub mod Options
+pub mod Words
+pub mod Parts
+pub mod Parsing
+pub mod Tasks
+pub mod Given
+pub mod Faults

@@ -1,0 +1,31 @@
+//! The kinds of questions by their words.
+ghost use Rattle.std.specs.Prelude.{◌≡◌, IfSome};
+ghost use Rattle.command_line.specs.Kinds.{kind_named, IsKnown};
+
+/// A kind of questions.
+#[derive(Clone, Copy, Debug, PartialEq, Eq)]
+pub(crate) enum Kind {
+    Circle,
+    Sphere,
+    Rectangle,
+    Parallelogram,
+    Strip,
+    Annulus,
+    Empty,
+    Kgon,
+    Distance,
+    Centres,
+}
+
+/// The kind that the word names, of those that are answered.
+pub(crate) fn kind_named(word: &str) -> Option<Kind>
+    ensures kind { result ≡ kind_named word.now }
+    ensures known { IfSome result IsKnown }
+{
+    match word {
+        "circle" => Some(Kind::Circle),
+        "sphere" => Some(Kind::Sphere),
+        "centres" => Some(Kind::Centres),
+        _ => None,
+    }
+}

@@ -1,0 +1,5 @@
+pub mod Sweeping
+pub mod Searching
+pub mod Listing
+pub mod Frames
+pub mod Passing

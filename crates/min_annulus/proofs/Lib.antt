@@ -1,0 +1,16 @@
+pub mod Target
+pub mod Exchange
+pub mod Measure
+pub mod SameRecords
+pub mod LowestCentres
+pub mod Passing
+pub mod WeightedLists
+pub mod Ending
+pub mod ExchangedTriangles
+pub mod MachineNumbers
+pub mod OneMore
+pub mod Starting
+pub mod CollinearPoints
+pub mod Sorting
+pub mod Middles
+pub mod CommonFactors

@@ -1,0 +1,9 @@
+pub mod DifferenceVectors
+pub mod LinearForms
+pub mod Pairs
+pub mod Extremes
+pub mod Triangles
+pub mod Witnesses
+pub mod CommonFactors
+pub mod Lines
+pub mod Laws

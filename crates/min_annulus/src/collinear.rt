@@ -1,0 +1,39 @@
+//! Collinear points.
+ghost use Rattle.bounds_model.specs.AnnulusAnswer.{PassesAnnulus};
+ghost use Rattle.bounded_coords.specs.Clouds.{points_of};
+ghost use Rattle.answers.specs.Answers.{annulus_of};
+ghost use Rattle.min_annulus.specs.CommonFactors.{HaveLowestWeights};
+ghost use Rattle.min_annulus.specs.Lines.{AreCollinear, IsMiddle};
+
+use crate::answering::annulus_around;
+use crate::extremes::Extremes;
+use crate::linear_forms::LinearForm;
+use crate::pairs::Pair;
+use crate::weighted_pairs::push;
+use answers::AnnulusAnswer;
+use arrayvec::ArrayVec;
+use bounded_coords::Cloud2;
+
+/// The annulus around the middle between the least and the greatest of points on one line. The outer circle goes through these two,
+/// the inner one through a point nearest to the middle.
+pub(crate) fn collinear_annulus(cloud: Cloud2<'_>, least: u32, greatest: u32) -> AnnulusAnswer
+    requires { AreCollinear (points_of cloud) least greatest }
+    ensures passes { PassesAnnulus (points_of cloud.entry) (annulus_of result) }
+    ensures center { IsMiddle (points_of cloud.entry) least greatest result.center }
+    ensures weights { HaveLowestWeights result.pairs.items }
+{
+    let form = LinearForm::around_middle(cloud.at(least), cloud.at(greatest));
+    let extremes = Extremes::of(cloud, form);
+    let mut pairs = ArrayVec::new();
+    if extremes.high == extremes.low {
+        push(&mut pairs, Pair::of(cloud, extremes.near, extremes.near), 1);
+        return annulus_around(cloud, form, extremes, &pairs);
+    }
+    let whole = Pair::of(cloud, greatest, least);
+    let done = Pair::of(cloud, extremes.near, least);
+    let left = Pair::of(cloud, least, extremes.near);
+    let right = Pair::of(cloud, greatest, extremes.near);
+    push(&mut pairs, left, whole.difference.dot(right.difference));
+    push(&mut pairs, right, whole.difference.dot(done.difference));
+    annulus_around(cloud, form, extremes, &pairs)
+}
