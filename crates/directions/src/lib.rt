@@ -8,5 +8,7 @@
 mod products;
 mod spans;
 
-pub use products::{along, beyond, cross, quarter_turn, reach, squared_length, turn};
+pub use products::{
+    along, beyond, cross, cross_directions, quarter_turn, reach, squared_length, turn,
+};
 pub use spans::span;

@@ -60,6 +60,16 @@ pub fn cross(d: Dir, a: &Point2, b: &Point2) -> i64
     d.x as i64 * y - d.y as i64 * x
 }
 
+/// The cross product of two directions, above 0 where the second is to the left of the first.
+pub fn cross_directions(d: Dir, e: Dir) -> i64
+    requires first { IsShort (vector_of d) }
+    requires second { IsShort (vector_of e) }
+    ensures value { result ≡ cross_of (vector_of d) (vector_of e) }
+    ensures size { Size 320000000000 result }
+{
+    d.x as i64 * e.y as i64 - d.y as i64 * e.x as i64
+}
+
 /// The square of a direction's length.
 pub fn squared_length(d: Dir) -> u128
     requires { IsShort (vector_of d) }

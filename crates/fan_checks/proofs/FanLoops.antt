@@ -12,7 +12,7 @@ use Rattle.answers.specs.declared.fans.HalfCone.{HalfCone}
 use Rattle.answers.specs.declared.fans.QuarterCone.{QuarterCone}
 use Rattle.answers.specs.declared.fans.HalfFan as halves
 use Rattle.answers.specs.declared.fans.QuarterFan as quarters
-use Rattle.fan_test.proofs.FanLists.{cone_at, direction_at, seen_at}
+use Rattle.directions.proofs.FanLists.{cone_at, direction_at, seen_at}
 use Rattle.fan_checks.specs.Limits.{NamesFour}
 
 below_or_at : (k i : ℕ) → k < i + 1 → (k < i) ⊎ (k ≡ i)

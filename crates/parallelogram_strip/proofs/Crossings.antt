@@ -7,39 +7,11 @@ use Rattle.integers.proofs.Order.{nonneg_difference, nonneg_from_positive, le_an
 use Rattle.bounds_model.specs.Plane.{PlanePoint, origin, point_at, vector, dot, cross, turn, plus, times, quarter_turn}
 use Rattle.bounds_model.specs.Fans.{HalfCone, AreExtreme, reach}
 use Rattle.bounds_model.specs.ParallelogramAnswer.{Chord, IsAcross}
-use Rattle.directions.proofs.Reading.{reach_parts}
+use Rattle.directions.proofs.Reaches.{reach_turned, reach_nonneg}
 use Rattle.parallelogram_strip.specs.FullTurn.{opposite}
 use Rattle.parallelogram_strip.specs.Crossings.{reach_of}
 use Rattle.parallelogram_strip.proofs.Turning.{dot_between}
 use Rattle.parallelogram_strip.proofs.FullTurn.{IsFullTurn}
-
--- ---- reaches
-
--- two points reach as far as their numbers exchanged, the other way
-pub reach_turned : (points : List PlanePoint) (d : PlanePoint) (high low : ℕ) → reach points d low high ≡ neg_ℤ (reach points d high low)
-reach_turned points d high low = plain d.x d.y (point_at points low).x (point_at points low).y (point_at points high).x (point_at points high).y
-  where
-    plain : (dx dy px py qx qy : ℤ) → dx *ℤ (px -ℤ qx) +ℤ dy *ℤ (py -ℤ qy) ≡ neg_ℤ (dx *ℤ (qx -ℤ px) +ℤ dy *ℤ (qy -ℤ py))
-    plain dx dy px py qx qy = read (dx ∷ dy ∷ px ∷ py ∷ qx ∷ qy ∷ []) (λ xs a b c d e f. simp (a, b, c, d, e, f, polys) (den-ring xs _ _ tt))
-
--- and in the opposite direction
-pub reach_opposite : (points : List PlanePoint) (d : PlanePoint) (high low : ℕ) → reach points (opposite d) low high ≡ reach points d high low
-reach_opposite points d high low = plain d.x d.y (point_at points low).x (point_at points low).y (point_at points high).x (point_at points high).y
-  where
-    plain : (dx dy px py qx qy : ℤ) → neg_ℤ dx *ℤ (px -ℤ qx) +ℤ neg_ℤ dy *ℤ (py -ℤ qy) ≡ dx *ℤ (qx -ℤ px) +ℤ dy *ℤ (qy -ℤ py)
-    plain dx dy px py qx qy = read (dx ∷ dy ∷ px ∷ py ∷ qx ∷ qy ∷ []) (λ xs a b c d e f. simp (a, b, c, d, e, f, polys) (den-ring xs _ _ tt))
-
--- a highest point is not below a lowest one
-pub reach_nonneg : (points : List PlanePoint) (d : PlanePoint) (high low : ℕ) → low < length points → AreExtreme points d high low → pos 0 ≤ℤ reach points d high low
-reach_nonneg points d high low named extreme = subst (λ z. pos 0 ≤ℤ z) (sym (reach_parts points d high low)) (nonneg_difference (extreme.highest low origin named))
-
--- two pairs that are extreme in a direction reach equally far, and so do one's highest point and the other's lowest
-pub highest_same : (points : List PlanePoint) (d : PlanePoint) {high low high' low' : ℕ} → high < length points → high' < length points → AreExtreme points d high low → AreExtreme points d high' low' → dot d (point_at points high) ≡ dot d (point_at points high')
-highest_same points d {high} {low} {high'} {low'} n n' h h' = le_antisymm_ℤ (h'.highest high origin n) (h.highest high' origin n')
-
--- likewise the lowest
-pub lowest_same : (points : List PlanePoint) (d : PlanePoint) {high low high' low' : ℕ} → low < length points → low' < length points → AreExtreme points d high low → AreExtreme points d high' low' → dot d (point_at points low) ≡ dot d (point_at points low')
-lowest_same points d {high} {low} {high'} {low'} n n' h h' = le_antisymm_ℤ (h.lowest low' origin n') (h'.lowest low origin n)
 
 -- ---- ahead and behind, as the direction turns
 

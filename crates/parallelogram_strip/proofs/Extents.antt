@@ -13,16 +13,16 @@ use Rattle.answers.specs.Answers.{chord_of}
 use Rattle.directions.proofs.Signs.{magnitude_is}
 use Rattle.parallelogram_strip.proofs.FullTurn.{IsFullTurn, magnitude_back}
 use Rattle.directions.proofs.Reading.{reach_parts}
-use Rattle.parallelogram_strip.proofs.Crossings.{reach_turned, highest_same, lowest_same, chord_extent}
+use Rattle.directions.proofs.Reaches.{reach_turned, lowest_same, reach_same}
+use Rattle.parallelogram_strip.proofs.Crossings.{chord_extent}
 
 -- two pairs that are extreme in one direction: the highest of either reaches beyond the lowest of either equally far
 pub reach_mixed : (points : List PlanePoint) (e : PlanePoint) (c c' : HalfCone) → c.high < length points → c.low < length points → c'.high < length points → c'.low < length points → AreExtreme points e c.high c.low → AreExtreme points e c'.high c'.low
     → (reach points e c.high c.low ≡ reach_of points e c') × (reach points e c'.high c.low ≡ reach_of points e c')
 reach_mixed points e c c' nh nl nh' nl' h h' =
-    let high = highest_same points e nh nh' h h' in
-    let low = lowest_same points e nl nl' h h' in (
-      reach_parts points e c.high c.low ∙ ap₂ (λ u v. u -ℤ v) high low ∙ sym (reach_parts points e c'.high c'.low),
-      reach_parts points e c'.high c.low ∙ ap (λ v. dot e (point_at points c'.high) -ℤ v) low ∙ sym (reach_parts points e c'.high c'.low),
+    (
+      reach_same points e c.high c.low c'.high c'.low nh nl nh' nl' h h',
+      reach_parts points e c'.high c.low ∙ ap (λ v. dot e (point_at points c'.high) -ℤ v) (lowest_same points e nl nl' h h') ∙ sym (reach_parts points e c'.high c'.low),
     )
 
 -- a chord between two cones, both extreme in e: weights times the reach is the factor times the cross product, up to sign

@@ -12,6 +12,7 @@ use Rattle.bounds_model.specs.Numbers.{IsWithin}
 use Rattle.bounds_model.specs.Plane.{PlanePoint, origin, point_at, cross}
 use Rattle.bounds_model.specs.Fractions.{HaveNoCommonFactor}
 use Rattle.bounds_model.specs.Fans.{HalfFan, HalfCone, half_directions, AreExtreme, IsShort, east, west}
+use Rattle.directions.proofs.Reaches.{extreme_opposite}
 use Rattle.parallelogram_strip.specs.FullTurn.{opposite, other_side, no_cone, cone_at}
 use Rattle.parallelogram_strip.specs.PlainFan.{IsPlainFan}
 use Rattle.parallelogram_strip.proofs.Turning.{left_of_earlier}
@@ -71,16 +72,6 @@ pub record IsFullTurn (points : List PlanePoint) (m : ℕ) (at : ℕ → HalfCon
   pub left : (i k : ℕ) → i < m → i < k → k < i + m → pos 0 <ℤ cross (at i).direction (at k).direction
   pub back : (i : ℕ) → i < m → at (i + m) ≡ other_side (at i)
 
--- the other way the highest and the lowest points change their parts
-extreme_back : (points : List PlanePoint) (d : PlanePoint) (high low : ℕ) → AreExtreme points d high low → AreExtreme points (opposite d) low high
-extreme_back points d high low h = record {
-  highest = λ i e l. plain d.x d.y (point_at points low).x (point_at points low).y (slice_index_or points i e).x (slice_index_or points i e).y (h.lowest i e l);
-  lowest = λ i e l. plain d.x d.y (slice_index_or points i e).x (slice_index_or points i e).y (point_at points high).x (point_at points high).y (h.highest i e l);
-}
-  where
-    plain : (x y px py qx qy : ℤ) → (x *ℤ px +ℤ y *ℤ py) ≤ℤ (x *ℤ qx +ℤ y *ℤ qy) → (neg_ℤ x *ℤ qx +ℤ neg_ℤ y *ℤ qy) ≤ℤ (neg_ℤ x *ℤ px +ℤ neg_ℤ y *ℤ py)
-    plain x y px py qx qy h = le_by (nonneg_difference h) (read (x ∷ y ∷ px ∷ py ∷ qx ∷ qy ∷ []) (λ xs a b c d e f. simp (a, b, c, d, e, f, polys) (den-ring xs _ _ tt)))
-
 -- the direction on the other side of east is west
 opposite_east : (d e : PlanePoint) → d ≡ east → e ≡ west → opposite d ≡ e
 opposite_east d e h k = ap opposite h ∙ sym k
@@ -116,7 +107,7 @@ ends_around points fan h i l =
           let at_k = inner_before k (omega arith) in
           subst (λ (cone : HalfCone). AreExtreme points (cone_at fan (i + 1)).direction cone.high cone.low) (sym (second_half fan i k e (omega arith)))
           (subst (λ (cone : HalfCone). AreExtreme points cone.direction (cone_at fan k).low (cone_at fan k).high) (sym (second_half fan (i + 1) (k + 1) f (omega arith)))
-          (extreme_back points (cone_at fan (k + 1)).direction (cone_at fan k).high (cone_at fan k).low at_k))
+          (extreme_opposite points (cone_at fan (k + 1)).direction (cone_at fan k).high (cone_at fan k).low at_k))
     ]
   where
     at_end : (k : ℕ) → k < length fan.cones → AreExtreme points (point_at (half_directions fan) (k + 1)) (cone_at fan k).high (cone_at fan k).low
@@ -199,7 +190,7 @@ full_turn_of points fan h =
       named = each_around fan (λ cone. (cone.high < length points) × (cone.low < length points)) (λ k l. h.numbers k no_cone l) (λ cone n. (n.1, n.0));
       short = each_around fan (λ cone. IsShort cone.direction) (of_direction fan IsShort h.short) (λ cone s. record { x = within_back s.x; y = within_back s.y });
       lowest = each_around fan (λ cone. HaveNoCommonFactor (cone.direction.x ∷ cone.direction.y ∷ [])) (of_direction fan (λ d. HaveNoCommonFactor (d.x ∷ d.y ∷ [])) h.lowest) (λ cone l k divides. l k (no_sign cone.direction k divides));
-      begins = each_around fan (λ cone. AreExtreme points cone.direction cone.high cone.low) begins (λ cone e. extreme_back points cone.direction cone.high cone.low e);
+      begins = each_around fan (λ cone. AreExtreme points cone.direction cone.high cone.low) begins (λ cone e. extreme_opposite points cone.direction cone.high cone.low e);
       ends = ends_around points fan h;
       left = left_around points fan h;
       back = λ i l. second_half fan (i + length fan.cones) i (omega arith) l;

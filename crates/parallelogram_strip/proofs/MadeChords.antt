@@ -80,32 +80,6 @@ level_chord points d a b c k p q r ha hb hc is_k size_k = record {
     once : (v w : PlanePoint) → plus (times (pos 1) v) (times (pos 0) w) ≡ v
     once v w = λ i. record { x = one v.x w.x i; y = one v.y w.y i }
 
--- a number is 0, or its square is above 0
-zero_or : (z : ℤ) → (z ≡ pos 0) ⊎ (pos 0 <ℤ (z *ℤ z))
-zero_or (pos zero) = inl refl
-zero_or (pos (suc n)) = inr (square_positive (pos (suc n)) (λ e. absurd (omega (arith, ints, e))))
-zero_or (negsuc n) = inr (square_positive (negsuc n) (λ e. absurd (omega (arith, ints, e))))
-
--- a direction in lowest terms has a length
-pub lowest_long : (d : PlanePoint) → HaveNoCommonFactor (d.x ∷ d.y ∷ []) → pos 0 <ℤ squared_length d
-lowest_long d lowest =
-    elim (zero_or d.x) [
-      | inl x ↦ elim (zero_or d.y) [
-        | inl y ↦ absurd (two (lowest 2 (All-cons (λ e. 2 ∣ nat_abs e) d.x (d.y ∷ []) (zero_divides d.x x) (All-cons (λ e. 2 ∣ nat_abs e) d.y [] (zero_divides d.y y) (All-nil (λ e. 2 ∣ nat_abs e))))))
-        | inr y ↦ other (square_nonneg d.x) y
-      ]
-      | inr x ↦ positive_add x (square_nonneg d.y)
-    ]
-  where
-    zero_divides : (z : ℤ) → z ≡ pos 0 → 2 ∣ nat_abs z
-    zero_divides z e = subst (λ y. 2 ∣ nat_abs y) (sym e) (dvd-zero 2)
-
-    two : ◌≡◌ {A = ℕ} 2 1 → ⊥
-    two e = omega arith
-
-    other : {a b : ℤ} → pos 0 ≤ℤ a → pos 0 <ℤ b → pos 0 <ℤ (a +ℤ b)
-    other h k = omega (arith, ints)
-
 -- a quotient is not greater than what was divided
 pub quotient_size : {n s : ℕ} {r c : ℤ} → 0 < s → pos s *ℤ r ≡ c → Size n c → Size n r
 quotient_size {n} {s} {r} {c} some e size = record { abs = most (nat_abs r) (nat_abs c) (sym (unsigned_abs-mul (pos s) r) ∙ ap nat_abs e) size.abs }
@@ -116,20 +90,6 @@ quotient_size {n} {s} {r} {c} some e size = record { abs = most (nat_abs r) (nat
         least : (s x y : ℕ) → 0 < s → s * x ≡ y → y ≤ n → x ≤ n
         least zero x y some e l = absurd (omega arith)
         least (suc s) x y some e l = omega arith
-
--- what reaches forward is not behind
-pub not_behind : (points : List PlanePoint) (d : PlanePoint) (a b : ℕ) (p q : PlanePoint) → slice_get points a ≡ Some p → slice_get points b ≡ Some q → pos 0 ≤ℤ reach points d b a → dot d p ≤ℤ dot d q
-not_behind points d a b p q ha hb h = subst (λ o. dot d o ≤ℤ dot d q) (point_is points a p ha) (subst (λ o. dot d (point_at points a) ≤ℤ dot d o) (point_is points b q hb) (plain (dot d (point_at points b)) (dot d (point_at points a)) (subst (λ z. pos 0 ≤ℤ z) (reach_parts points d b a) h)))
-  where
-    plain : (x y : ℤ) → pos 0 ≤ℤ (x -ℤ y) → y ≤ℤ x
-    plain x y h = omega (arith, ints)
-
--- and what reaches back is not ahead
-pub not_ahead : (points : List PlanePoint) (d : PlanePoint) (a c : ℕ) (p r : PlanePoint) → slice_get points a ≡ Some p → slice_get points c ≡ Some r → reach points d c a ≤ℤ pos 0 → dot d r ≤ℤ dot d p
-not_ahead points d a c p r ha hc h = subst (λ o. dot d r ≤ℤ dot d o) (point_is points a p ha) (subst (λ o. dot d o ≤ℤ dot d (point_at points a)) (point_is points c r hc) (plain (dot d (point_at points c)) (dot d (point_at points a)) (subst (λ z. z ≤ℤ pos 0) (reach_parts points d c a) h)))
-  where
-    plain : (x y : ℤ) → (x -ℤ y) ≤ℤ pos 0 → x ≤ℤ y
-    plain x y h = omega (arith, ints)
 
 -- points that are as far out are level
 pub level : (d p q : PlanePoint) (n : ℕ) → pos n ≡ dot d q -ℤ dot d p → n ≡ 0 → dot d (vector p q) ≡ pos 0

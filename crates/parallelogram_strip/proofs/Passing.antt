@@ -24,22 +24,9 @@ use Rattle.parallelogram_strip.specs.Crossings.{reach_of, area_of, weight_of, Is
 use Rattle.parallelogram_strip.specs.declared.crossing.Crossing.{Crossing}
 use Rattle.parallelogram_strip.specs.Flat.{AreWide, IsFlatAt, point_chord}
 use Rattle.parallelogram_strip.proofs.FullTurn.{full_turn_of, first_half, each_around, length-directions, direction_at, two_cones}
-use Rattle.directions.proofs.Reading.{reach_parts}
-use Rattle.parallelogram_strip.proofs.Crossings.{reach_opposite}
+use Rattle.directions.proofs.Reaches.{reach_opposite}
+use Rattle.directions.proofs.SpanBounds.{within_more, short_pair, short_span, AreBounds, bounds_hold, extent_is}
 use Rattle.parallelogram_strip.proofs.Extents.{reach_mixed, crossing_extent, not_along, area_same}
-
--- a range holds a smaller one
-pub within_more : {m n : ℕ} {z : ℤ} → IsWithin m z → T (leb m n) → IsWithin n z
-within_more {m} {n} h t = let l = leb→le m n t in record { low = omega (arith, ints, h.low); high = omega (arith, ints, h.high) }
-
--- bounds that two points give
-pub record AreBounds (points : List PlanePoint) (d : PlanePoint) (high low : ℕ) (span : Span) : Type 0 where
-  pub is : span ≡ record { low = dot d (point_at points low); high = dot d (point_at points high) }
-  pub short : IsShortSpan span
-
--- all points are between the bounds that extreme points give
-pub bounds_hold : (points : List PlanePoint) (d : PlanePoint) (high low : ℕ) (span : Span) → AreExtreme points d high low → AreBounds points d high low span → All (λ p. IsInSpan span (dot d p)) points
-bounds_hold points d high low span h b = λ i e l. subst (λ (s : Span). IsInSpan s (dot d (slice_index_or points i e))) (sym b.is) (record { above = h.lowest i e l; below = h.highest i e l })
 
 -- ---- the chords
 
@@ -76,10 +63,10 @@ answer_passes points fan size u v s t hu lu hv lv chords limited h fraction coun
     record {
       places = record {
         size = fraction;
-        first = record { x = within_more short_u.x tt; y = within_more short_u.y tt };
-        first_bounds = record { low = within_more bounds_s.short.low tt; high = within_more bounds_s.short.high tt };
-        second = record { x = within_more short_v.x tt; y = within_more short_v.y tt };
-        second_bounds = record { low = within_more bounds_t.short.low tt; high = within_more bounds_t.short.high tt };
+        first = short_pair u short_u;
+        first_bounds = short_span s bounds_s.short;
+        second = short_pair v short_v;
+        second_bounds = short_span t bounds_t.short;
         fan = h.places;
         chord_for_each = omega (arith, count, many);
         chords = λ i d l. placed (slice_index_or chords i d) (good i d l);
@@ -142,13 +129,10 @@ answer_passes points fan size u v s t hu lu hv lv chords limited h fraction coun
         (ap₂ (λ d c. reach_of points d c) (direction_at points fan h (i + 1) (omega arith)) e
         ∙ (reach_mixed points (cone_at fan (i + 1)).direction (cone_at fan i) (cone_at fan (i + 1)) (turn.named i n).0 (turn.named i n).1 (turn.named (i + 1) m).0 (turn.named (i + 1) m).1 (turn.ends i m) (turn.begins (i + 1) m)).0)
 
-    extent_is : (d : PlanePoint) (high low : ℕ) (span : Span) → AreBounds points d high low span → span.high -ℤ span.low ≡ reach points d high low
-    extent_is d high low span b = ap (λ (x : Span). x.high -ℤ x.low) b.is ∙ sym (reach_parts points d high low)
-
     same_size : size.n *ℤ (pos 1 *ℤ pos 1 *ℤ pos (nat_abs (cross u v))) ≡ ((s.high -ℤ s.low) *ℤ (t.high -ℤ t.low)) *ℤ size.d
     same_size =
         ap (λ x. size.n *ℤ x) (once (pos (nat_abs (cross u v)))) ∙ area
-        ∙ ap (λ x. x *ℤ size.d) (ap₂ (λ x y. x *ℤ y) (sym (extent_is u hu lu s bounds_s)) (sym (extent_is v hv lv t bounds_t)))
+        ∙ ap (λ x. x *ℤ size.d) (ap₂ (λ x y. x *ℤ y) (sym (extent_is points u hu lu s bounds_s)) (sym (extent_is points v hv lv t bounds_t)))
       where
         once : (x : ℤ) → pos 1 *ℤ pos 1 *ℤ x ≡ x
         once x = omega (arith, ints)

@@ -16,7 +16,8 @@ use Rattle.parallelogram_strip.specs.FullTurn.{opposite, other_side, cone_at}
 use Rattle.parallelogram_strip.specs.Crossings.{reach_of, area_of, weight_of, IsChord, IsNotAbove, IsCrossing, IsServed, AreServed}
 use Rattle.parallelogram_strip.specs.AllChords.{turned_chord}
 use Rattle.parallelogram_strip.specs.declared.crossing.Crossing.{Crossing}
-use Rattle.parallelogram_strip.proofs.Crossings.{ahead_at_start, ahead_at_next, reach_opposite}
+use Rattle.parallelogram_strip.proofs.Crossings.{ahead_at_start, ahead_at_next}
+use Rattle.directions.proofs.Reaches.{reach_opposite}
 use Rattle.parallelogram_strip.proofs.FullTurn.{IsFullTurn, magnitude_back, within_back}
 
 -- what holds at each place of a list, and of one element more at its place, holds of the list with that element

@@ -18,11 +18,10 @@ use Rattle.parallelogram_strip.specs.Crossings.{reach_of}
 use Rattle.parallelogram_strip.specs.Widths.{IsWidth, IsNotWider}
 use Rattle.parallelogram_strip.specs.declared.thinnest.Width.{Width}
 use Rattle.parallelogram_strip.proofs.FullTurn.{IsFullTurn, full_turn_of, direction_at, two_cones}
-use Rattle.directions.proofs.Reading.{reach_parts}
-use Rattle.parallelogram_strip.proofs.Crossings.{reach_opposite}
+use Rattle.directions.proofs.Reaches.{reach_opposite, lowest_long, long_some}
+use Rattle.directions.proofs.SpanBounds.{short_pair, short_span, AreBounds, bounds_hold, extent_is}
 use Rattle.parallelogram_strip.proofs.Extents.{reach_mixed}
-use Rattle.parallelogram_strip.proofs.MadeChords.{lowest_long}
-use Rattle.parallelogram_strip.proofs.Passing.{AreBounds, bounds_hold, cone_any, within_more}
+use Rattle.parallelogram_strip.proofs.Passing.{cone_any}
 
 -- the square of the reach times the best's length is at least that of the best's reach times the length, along the direction of this number
 pub record IsNotThinnerAt (points : List PlanePoint) (fan : HalfFan) (best : Width) (i : ℕ) : Type 0 where
@@ -87,15 +86,15 @@ strip_passes points fan best size span h is_best seen fraction same bounds =
     record {
       places = record {
         size = fraction;
-        direction = record { x = within_more short.x tt; y = within_more short.y tt };
-        bounds = record { low = within_more bounds.short.low tt; high = within_more bounds.short.high tt };
+        direction = short_pair d short;
+        bounds = short_span span bounds.short;
         fan = h.places;
       };
       numbers = h.numbers;
       short_directions = h.short;
       short_direction = short;
       short_bounds = bounds.short;
-      normal = λ e. not_origin d (lowest_long d (turn.lowest j listed)) e;
+      normal = long_some d (lowest_long d (turn.lowest j listed));
       fan = h.holds;
       not_thinner = λ i e l. (
         by_reach i (slice_index_or fan.cones i e) (omega arith) (ap (λ c. reach_of points (cone_at fan i).direction c) (cone_any fan i e l)),
@@ -105,12 +104,6 @@ strip_passes points fan best size span h is_best seen fraction same bounds =
       size = same_size;
     }
   where
-    not_origin : (d : PlanePoint) → pos 0 <ℤ squared_length d → d ≡ origin → ⊥
-    not_origin d long e = never (subst (λ x. pos 0 <ℤ squared_length x) e long)
-      where
-        never : pos 0 <ℤ squared_length origin → ⊥
-        never h = absurd h.lt
-
     at_any : (i : ℕ) → i ≤ length fan.cones → IsNotThinnerAt points fan best i
     at_any i l =
         elim (cases_lt i (length fan.cones)) [
@@ -139,13 +132,13 @@ strip_passes points fan best size span h is_best seen fraction same bounds =
         let m : i + 1 < length fan.cones + length fan.cones = omega (arith, two_cones points fan h) in
         (reach_mixed points (cone_at fan (i + 1)).direction (cone_at fan i) (cone_at fan (i + 1)) (turn.named i n).0 (turn.named i n).1 (turn.named (i + 1) m).0 (turn.named (i + 1) m).1 (turn.ends i m) (turn.begins (i + 1) m)).0
 
-    extent_is : span.high -ℤ span.low ≡ pos best.reach
-    extent_is = ap (λ (x : Span). x.high -ℤ x.low) bounds.is ∙ sym (reach_parts points (cone_at fan best.direction).direction (cone_at fan best.direction).high (cone_at fan best.direction).low) ∙ sym is_best.is_reach
+    width : span.high -ℤ span.low ≡ pos best.reach
+    width = extent_is points (cone_at fan best.direction).direction (cone_at fan best.direction).high (cone_at fan best.direction).low span bounds ∙ sym is_best.is_reach
 
     same_size : size.n *ℤ (pos 1 *ℤ pos 1 *ℤ squared_length (cone_at fan best.direction).direction) ≡ ((span.high -ℤ span.low) *ℤ (span.high -ℤ span.low)) *ℤ size.d
     same_size =
         ap (λ x. size.n *ℤ x) (once (squared_length (cone_at fan best.direction).direction) ∙ sym is_best.is_length) ∙ same
-        ∙ ap (λ x. x *ℤ size.d) (sym (ap₂ (λ x y. x *ℤ y) extent_is extent_is))
+        ∙ ap (λ x. x *ℤ size.d) (sym (ap₂ (λ x y. x *ℤ y) width width))
       where
         once : (x : ℤ) → pos 1 *ℤ pos 1 *ℤ x ≡ x
         once x = omega (arith, ints)

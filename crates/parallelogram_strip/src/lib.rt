@@ -1,6 +1,7 @@
-//! The smallest parallelogram around points of the plane, from a fan over half a turn.
+//! The thinnest strip and the smallest parallelogram around points of the plane, from the hull's fan over half a turn.
 //!
-//! - `smallest`: the answer
+//! - `solvers`: the answers for a cloud
+//! - `smallest`: the parallelogram of a fan
 //! - `thinnest`: the strip of least width
 //! - `flat`: the answer for points on one line
 //! - `chords`: the chords of all directions in one way around the fan, and the best
@@ -15,7 +16,7 @@ mod chords;
 mod crossing;
 mod flat;
 mod smallest;
+mod solvers;
 mod thinnest;
 
-pub use smallest::parallelogram;
-pub use thinnest::strip;
+pub use solvers::{parallelogram, strip};

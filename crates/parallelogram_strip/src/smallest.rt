@@ -38,7 +38,7 @@ fn best_answer(cloud: Cloud2<'_>, fan: HalfFan, all: AllChords) -> ParaAnswer
 }
 
 /// A parallelogram of least area around the points, with a chord for each direction of the fan.
-pub fn parallelogram(
+pub(crate) fn parallelogram_of_fan(
     alloc: Global,
     cloud: Cloud2<'_>,
     fan: HalfFan,

@@ -50,8 +50,8 @@ fn thinner(a: Width, b: Width) -> Width
     if q < p { b } else { a }
 }
 
-/// A strip of least width around the points, with the fan.
-pub fn strip(cloud: Cloud2<'_>, fan: HalfFan) -> StripAnswer
+/// The strip of least width along a direction of the fan, which no strip around the points is below.
+pub(crate) fn strip_of_fan(cloud: Cloud2<'_>, fan: HalfFan) -> StripAnswer
     requires { IsPlainFan (points_of cloud) (half_fan_of fan) }
     ensures { PassesStrip (points_of cloud.entry) (strip_of result) }
 {

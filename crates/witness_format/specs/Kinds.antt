@@ -17,6 +17,11 @@ abbrev pub known : List AnswerKind
 known =
     Circle
     ∷ Sphere
+    ∷ Rectangle
+    ∷ Strip
+    ∷ Annulus
+    ∷ Empty
+    ∷ Distance
     ∷ Centres
     ∷ []
 

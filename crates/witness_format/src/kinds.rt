@@ -26,6 +26,11 @@ pub(crate) fn kind_of(name: &[u8]) -> Option<AnswerKind>
     match name {
         b"circle" => Some(AnswerKind::Circle),
         b"sphere" => Some(AnswerKind::Sphere),
+        b"rectangle" => Some(AnswerKind::Rectangle),
+        b"strip" => Some(AnswerKind::Strip),
+        b"annulus" => Some(AnswerKind::Annulus),
+        b"empty" => Some(AnswerKind::Empty),
+        b"distance" => Some(AnswerKind::Distance),
         b"centres" => Some(AnswerKind::Centres),
         _ => None,
     }

@@ -1,6 +1,6 @@
 use Rattle.std.proofs.Common.{sym}
 use Rattle.answers.specs.Answers.{quarter_cone_of, vector_of}
-use Rattle.fan_test.proofs.FanLists.{direction_at}
+use Rattle.directions.proofs.FanLists.{direction_at}
 use Rattle.fan_test.proofs.fans.quarter_direction.Goals as goal
 
 pub returns : goal.returns

@@ -3,7 +3,7 @@ use Rattle.std.specs.Prelude.{All, map}
 use Rattle.bounds_model.specs.Fans.{HalfCone}
 use Rattle.bounded_coords.specs.Clouds.{points_of}
 use Rattle.answers.specs.Answers.{half_cone_of}
-use Rattle.fan_test.proofs.FanLists.{first_more, seen_at, all_seen}
+use Rattle.directions.proofs.FanLists.{first_more, seen_at, all_seen}
 use Rattle.fan_test.proofs.Comparisons.{clash}
 use Rattle.fan_test.proofs.limits.names_points.Goals as goal
 

@@ -3,7 +3,8 @@ use mir.Syntax.{w128}
 use Rattle.integers.proofs.Sizes.{size_fits_in}
 use Rattle.bounded_coords.specs.Clouds.{points_of}
 use Rattle.answers.specs.Answers.{vector_of}
-use Rattle.parallelogram_strip.proofs.MadeChords.{made_chord, level_chord, not_behind, not_ahead, level}
+use Rattle.directions.proofs.Reaches.{not_behind, not_ahead}
+use Rattle.parallelogram_strip.proofs.MadeChords.{made_chord, level_chord, level}
 use Rattle.parallelogram_strip.proofs.chord.chord.Goals as goal
 
 pub beyond-beta-requires-clause-order : goal.beyond-beta-requires-clause-order

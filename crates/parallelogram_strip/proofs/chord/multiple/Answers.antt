@@ -7,7 +7,8 @@ use Rattle.integers.proofs.Sizes.{size_fits_in, size_more}
 use Rattle.bounds_model.specs.Plane.{vector, cross, squared_length}
 use Rattle.answers.specs.Answers.{vector_of}
 use Rattle.directions.proofs.Bounds.{within_of_size}
-use Rattle.parallelogram_strip.proofs.MadeChords.{lowest_long, quotient_size}
+use Rattle.directions.proofs.Reaches.{lowest_long}
+use Rattle.parallelogram_strip.proofs.MadeChords.{quotient_size}
 use Rattle.parallelogram_strip.proofs.Multiples.{length_divides, multiple_is}
 use Rattle.parallelogram_strip.proofs.chord.multiple.Goals as goal
 

@@ -5,7 +5,7 @@ use Rattle.integers.proofs.Sizes.{size_fits_in}
 use Rattle.bounded_coords.specs.Clouds.{points_of}
 use Rattle.answers.specs.Answers.{vector_of}
 use Rattle.directions.proofs.Signs.{nonneg_neg}
-use Rattle.parallelogram_strip.proofs.Crossings.{reach_turned}
+use Rattle.directions.proofs.Reaches.{reach_turned}
 use Rattle.parallelogram_strip.proofs.crossing.chord_between.Goals as goal
 
 pub chord-requires-else-reach-le0-clause-ahead : goal.chord-requires-else-reach-le0-clause-ahead

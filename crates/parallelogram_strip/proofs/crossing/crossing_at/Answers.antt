@@ -9,7 +9,7 @@ use Rattle.answers.specs.Answers.{vector_of, half_cone_of, half_fan_of, chord_of
 use Rattle.parallelogram_strip.specs.FullTurn.{cone_at}
 use Rattle.parallelogram_strip.specs.Crossings.{reach_of, IsChord, Joins}
 use Rattle.parallelogram_strip.proofs.Crossings.{ahead_at_start}
-use Rattle.parallelogram_strip.proofs.MadeChords.{not_behind}
+use Rattle.directions.proofs.Reaches.{not_behind}
 use Rattle.directions.proofs.Reading.{reach_is}
 use Rattle.parallelogram_strip.proofs.ConesRead.{around_first, around_named, around_short, cones_length, turn_of}
 use Rattle.parallelogram_strip.proofs.crossing.crossing_at.Goals as goal

@@ -5,7 +5,8 @@ use Rattle.bounded_coords.specs.Clouds.{points_of}
 use Rattle.answers.specs.Answers.{vector_of, half_fan_of, chord_of, span_of}
 use Rattle.parallelogram_strip.specs.FullTurn.{cone_at}
 use Rattle.parallelogram_strip.proofs.ConesRead.{around_first, around_named, around_short, cones_length}
-use Rattle.parallelogram_strip.proofs.Passing.{AreBounds, flat_passes}
+use Rattle.directions.proofs.SpanBounds.{AreBounds}
+use Rattle.parallelogram_strip.proofs.Passing.{flat_passes}
 use Rattle.parallelogram_strip.proofs.flat.flat.Goals as goal
 
 pub span-requires : goal.span-requires

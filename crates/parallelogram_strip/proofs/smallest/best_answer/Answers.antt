@@ -7,7 +7,8 @@ use Rattle.answers.specs.Answers.{vector_of, half_fan_of, chord_of, span_of}
 use Rattle.parallelogram_strip.specs.FullTurn.{cone_at}
 use Rattle.parallelogram_strip.specs.Crossings.{weight_of}
 use Rattle.parallelogram_strip.proofs.ConesRead.{around_first, around_named, around_short, cones_length, turn_of}
-use Rattle.parallelogram_strip.proofs.Passing.{AreBounds, best_passes}
+use Rattle.directions.proofs.SpanBounds.{AreBounds}
+use Rattle.parallelogram_strip.proofs.Passing.{best_passes}
 use Rattle.parallelogram_strip.proofs.smallest.best_answer.Goals as goal
 
 pub span-requires : goal.span-requires

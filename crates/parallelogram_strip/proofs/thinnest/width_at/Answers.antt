@@ -8,7 +8,7 @@ use Rattle.answers.specs.Answers.{vector_of, half_fan_of}
 use Rattle.parallelogram_strip.specs.FullTurn.{cone_at}
 use Rattle.parallelogram_strip.specs.Crossings.{reach_of}
 use Rattle.parallelogram_strip.proofs.Crossings.{ahead_at_start}
-use Rattle.parallelogram_strip.proofs.MadeChords.{not_behind, lowest_long}
+use Rattle.directions.proofs.Reaches.{not_behind, reach_within, lowest_long}
 use Rattle.directions.proofs.Reading.{reach_is}
 use Rattle.parallelogram_strip.proofs.ConesRead.{around_first, around_named, around_short, cones_length, turn_of}
 use Rattle.parallelogram_strip.proofs.thinnest.width_at.Goals as goal
@@ -37,10 +37,6 @@ beyond-requires c =
 pub squared_length-requires : goal.squared_length-requires
 squared_length-requires c = around_short c.args.fan.now c.args.j c.at-cone.result c.requires.fan.short c.at-cone.ensures
 
--- a difference of bounded numbers is bounded
-difference_within : (n : ℕ) (x y : ℤ) → pos n ≡ x -ℤ y → Size 160000000000 x → Size 160000000000 y → n ≤ 320000000000
-difference_within n x y e sx sy = let lx = sx.abs in let ly = sy.abs in omega (arith, ints)
-
 -- a number that is above 0 as a whole number
 above : {n : ℕ} {z : ℤ} → pos n ≡ z → pos 0 <ℤ z → 0 < n
 above e h = omega (arith, ints)
@@ -58,6 +54,6 @@ returns-clause-width c =
       is_reach = c.beyond.ensures.value ∙ is_reach ∙ ap (λ (x : fans.HalfCone). reach_of points x.direction x) is_cone;
       is_length = is_length;
       some = above is_length (lowest_long (cone_at (half_fan_of c.args.fan.now) c.args.j).direction (turn.lowest c.args.j (omega (arith, c.requires.listed))));
-      reach_limit = difference_within c.beyond.result _ _ c.beyond.ensures.value c.beyond.ensures.q_size c.beyond.ensures.p_size;
+      reach_limit = reach_within c.beyond.ensures.value c.beyond.ensures.q_size c.beyond.ensures.p_size;
       length_limit = c.squared_length.ensures.limit;
     }

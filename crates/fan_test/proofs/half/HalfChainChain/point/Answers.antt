@@ -7,7 +7,7 @@ use Rattle.bounds_model.specs.Fans.{HalfCone}
 use Rattle.bounded_coords.specs.Clouds.{points_of}
 use Rattle.answers.specs.Answers.{half_cone_of}
 use Rattle.fan_test.specs.Ends.{chosen}
-use Rattle.fan_test.proofs.FanLists.{cone_at}
+use Rattle.directions.proofs.FanLists.{cone_at}
 use Rattle.fan_test.proofs.HalfFans.{chosen_below}
 use Rattle.fan_test.proofs.half.HalfChainChain.point.Goals as goal
 

@@ -7,7 +7,7 @@ use Rattle.bounds_model.specs.Fans.{QuarterCone}
 use Rattle.bounded_coords.specs.Clouds.{points_of}
 use Rattle.answers.specs.Answers.{quarter_cone_of}
 use Rattle.fan_test.specs.Ends.{quarter_end}
-use Rattle.fan_test.proofs.FanLists.{cone_at}
+use Rattle.directions.proofs.FanLists.{cone_at}
 use Rattle.fan_test.proofs.QuarterFans.{quarter_end_below}
 use Rattle.fan_test.proofs.quarter.QuarterChainChain.point.Goals as goal
 

@@ -3,7 +3,7 @@ use Rattle.bounded_coords.specs.Clouds.{points_of}
 use Rattle.answers.specs.Answers.{half_fan_of}
 use Rattle.parallelogram_strip.specs.Widths.{IsWidth}
 use Rattle.parallelogram_strip.proofs.Widths.{IsNotThinnerAt}
-use Rattle.parallelogram_strip.proofs.thinnest.strip.Given as goal
+use Rattle.parallelogram_strip.proofs.thinnest.strip_of_fan.Given as goal
 
 abbrev pub invariant-loop-j : goal.invariant-loop-j
 invariant-loop-j l = record {

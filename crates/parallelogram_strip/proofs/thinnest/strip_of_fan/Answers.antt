@@ -7,9 +7,9 @@ use Rattle.bounded_coords.specs.Clouds.{points_of}
 use Rattle.answers.specs.Answers.{half_fan_of, span_of}
 use Rattle.parallelogram_strip.proofs.FullTurn.{full_turn_of}
 use Rattle.parallelogram_strip.proofs.ConesRead.{around_first, around_named, around_short, cones_length}
-use Rattle.parallelogram_strip.proofs.Passing.{AreBounds}
+use Rattle.directions.proofs.SpanBounds.{AreBounds}
 use Rattle.parallelogram_strip.proofs.Widths.{IsNotThinnerAt, not_thinner_there, thinner_more, one_width, strip_passes}
-use Rattle.parallelogram_strip.proofs.thinnest.strip.Goals as goal
+use Rattle.parallelogram_strip.proofs.thinnest.strip_of_fan.Goals as goal
 
 pub width_at-best-requires : goal.width_at-best-requires
 width_at-best-requires c = record { fan = c.requires; listed = omega (arith, c.requires.places.count.at_least, cones_length c.args.fan) }

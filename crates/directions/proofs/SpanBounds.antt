@@ -1,0 +1,36 @@
+-- Bounds that two points give, and numbers within a checker's limits, which are within the ranges of an answer's numbers.
+use Rattle.std.proofs.Common.{◌≡◌, sym, ◌∙◌, ap, subst, ℕ, ◌^◌, ℤ, ◌-ℤ◌, ◌≤ℤ◌, List, All, T, leb, leb→le, arith}
+use Rattle.std.specs.Prelude.{slice_index_or}
+use Rattle.std.proofs.lemmas.Int.{ints}
+use Rattle.bounds_model.specs.Numbers.{IsWithin}
+use Rattle.bounds_model.specs.Plane.{PlanePoint, point_at, dot}
+use Rattle.bounds_model.specs.Strip.{Span, IsInSpan, extent}
+use Rattle.bounds_model.specs.Places.{IsPair, IsSpan}
+use Rattle.bounds_model.specs.Fans.{AreExtreme, IsShort, reach}
+use Rattle.bounds_model.specs.StripAnswer.{IsShortSpan}
+use Rattle.directions.proofs.Reading.{reach_parts}
+
+-- a range holds a smaller one
+pub within_more : {m n : ℕ} {z : ℤ} → IsWithin m z → T (leb m n) → IsWithin n z
+within_more {m} {n} h t = let l = leb→le m n t in record { low = omega (arith, ints, h.low); high = omega (arith, ints, h.high) }
+
+-- a short direction
+pub short_pair : (d : PlanePoint) → IsShort d → IsPair d
+short_pair d h = record { x = within_more h.x tt; y = within_more h.y tt }
+
+-- short bounds
+pub short_span : (span : Span) → IsShortSpan span → IsSpan span
+short_span span h = record { low = within_more h.low tt; high = within_more h.high tt }
+
+-- bounds that two points give
+pub record AreBounds (points : List PlanePoint) (d : PlanePoint) (high low : ℕ) (span : Span) : Type 0 where
+  pub is : span ≡ record { low = dot d (point_at points low); high = dot d (point_at points high) }
+  pub short : IsShortSpan span
+
+-- all points are between the bounds that extreme points give
+pub bounds_hold : (points : List PlanePoint) (d : PlanePoint) (high low : ℕ) (span : Span) → AreExtreme points d high low → AreBounds points d high low span → All (λ p. IsInSpan span (dot d p)) points
+bounds_hold points d high low span h b = λ i e l. subst (λ (s : Span). IsInSpan s (dot d (slice_index_or points i e))) (sym b.is) (record { above = h.lowest i e l; below = h.highest i e l })
+
+-- the bounds are as far apart as the points reach
+pub extent_is : (points : List PlanePoint) (d : PlanePoint) (high low : ℕ) (span : Span) → AreBounds points d high low span → extent span ≡ reach points d high low
+extent_is points d high low span b = ap (λ (x : Span). x.high -ℤ x.low) b.is ∙ sym (reach_parts points d high low)

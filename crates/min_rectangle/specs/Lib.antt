@@ -1,0 +1,2 @@
+pub mod PlainFan
+pub mod Areas
