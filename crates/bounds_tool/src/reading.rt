@@ -10,11 +10,11 @@ ghost use Rattle.bounds_tool.specs.Causes.{meant, meant_file};
 ghost use Rattle.bounds_tool.specs.Run.{FileCause, PointsCause, AnswerCause};
 
 use crate::cause::{Cause, InputFile};
+use answers::Answer;
 use bnd_io::{FileBytes, Files, LoadFault, load};
 use bounded_coords::Ask;
 use point_text::{Form, OwnedSets, TextFault, parse};
 use std::alloc::Global;
-use answers::Answer;
 use witness_format::{ReadFault, read};
 
 /// The most bytes of a file.
