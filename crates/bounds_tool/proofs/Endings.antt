@@ -11,10 +11,11 @@ use Rattle.bounds_tool.specs.declared.status.Status.{Status}
 use Rattle.bounds_tool.specs.declared.status.Status.TheVariants.{Usage, Input, Read, Memory}
 use Rattle.bounds_tool.specs.Judging.{Work, solving, sizing, checking, demonstrating, wanted, ◌>>=◌, points_in, answer_in, work_of, judge_task, judge}
 use Rattle.bounds_tool.specs.Outputs as outputs
-use Rattle.bounds_tool.specs.Outputs.{IsMeantAs}
+use Rattle.bounds_tool.specs.Outputs.{IsMeantAs, IsOutput}
+use Rattle.bnd_io.specs.Sinks.{SinkState, AppendedPrefix}
 use Rattle.bounds_tool.specs.declared.output.Output.{Output}
 use Rattle.bounds_tool.specs.declared.output.Output.TheVariants.{Solution, Size, Verdict, Demonstration}
-use Rattle.bounds_tool.specs.Run.{MayEnd, OutputBy, IsRefusal, OpenFault, ReadFault, TaskFault, RefusesPoints, RefusesAnswer, PointsCause, AnswerCause, PointsAccepted, ComesOf, TaskCause, files_of, cause_status}
+use Rattle.bounds_tool.specs.Run.{MayEnd, OutputBy, IsRefusal, OpenFault, ReadFault, TaskFault, RefusesPoints, RefusesAnswer, PointsCause, AnswerCause, PointsAccepted, ComesOf, TaskCause, WrotePrefix, files_of, cause_status}
 
 -- ---- by its causes
 
@@ -197,3 +198,19 @@ pub MayEnd-output : (P Q : Type 0) (words : List (List ℕ)) (old : FilesState) 
     → IfSome old.told (λ folder. P → Q → MayEnd (judge words folder) status)
 MayEnd-output P Q words old output status h e =
     if_told old.told (λ folder made p q. subst (λ judged. MayEnd judged status) (sym made.1) (subst (λ s. MayEnd (Ok made.0) s) (sym e) (end_of_output output made.0 made.2))) h
+
+-- ---- what was written
+
+-- what an output is meant as is an output of the work
+is_output : (output : Output) (work : Work) (bytes : List ℕ) → IsMeantAs output work bytes → IsOutput work bytes
+is_output (Solution text) work bytes h = inl h
+is_output (Size text) work bytes h = inl h
+is_output (Verdict true) work bytes h = inl h
+is_output (Verdict false) work bytes h = inr h
+is_output (Demonstration text) work bytes h = inl h
+
+-- a prefix of an output was written
+pub wrote_prefix : (words : List (List ℕ)) (old : FilesState) (output : Output) (before now : SinkState) (slice : List ℕ) → slice ≡ outputs.bytes_of output
+    → OutputBy (IsMeantAs output) words old (outputs.bytes_of output) → AppendedPrefix before now slice → WrotePrefix words old before now
+wrote_prefix words old output before now slice is made prefix =
+    if_told old.told (λ folder h. (h.0, outputs.bytes_of output, h.1, is_output output h.0 (outputs.bytes_of output) h.2, subst (AppendedPrefix before now) is prefix)) made

@@ -1,10 +1,18 @@
-use Rattle.std.proofs.Common.{◌≡◌, ◌∙◌, sym, ap, subst, Err}
+use Rattle.std.proofs.Common.{◌≡◌, ◌∙◌, sym, ap, subst, Ok, Err}
 use Rattle.bounds_model.specs.AnswerText.Formats.{bad_answer, big_number}
 use Rattle.bounds_model.specs.AnswerText.Reading.{reading_of, all_lines}
 use Rattle.witness_format.specs.Kinds.{known_kinds, TextMayWant}
 use Rattle.witness_format.specs.Outcomes.{RefusesOr}
+use Rattle.answers.specs.Answers.{answer_of}
 use Rattle.bounds_tool.proofs.AnswerFiles.{answer_in-told}
 use Rattle.bounds_tool.proofs.reading.read_answer.Goals as goal
+
+pub returns-in-Ok-clause-answer : goal.returns-in-Ok-clause-answer
+returns-in-Ok-clause-answer g c =
+    let bytes = c.in_ok-bytes.bytes in
+    let judged = Ok (answer_of c.in-Ok.answer) in
+    let reads : reading_of known_kinds bytes ≡ judged = ap (reading_of known_kinds) (sym c.as_slice.ensures) ∙ c.in-Ok.ensures.reading in
+    answer_in-told (g.F.Files.state c.args.files.now).told c.args.name.now bytes judged c.in_ok-bytes.ensures.bytes c.in_ok-bytes.ensures.within reads
 
 pub returns-in-Err-BadAnswer-clause-cause : goal.returns-in-Err-BadAnswer-clause-cause
 returns-in-Err-BadAnswer-clause-cause g c =

@@ -1,0 +1,25 @@
+use Rattle.std.proofs.Common.{◌∙◌, sym}
+use Rattle.bounds_tool.specs.Causes.{meant}
+use Rattle.bounds_tool.specs.Run.{texts}
+use Rattle.bounds_tool.proofs.Endings.{IsRefusal-cause, TaskFault-cause, MayEnd-cause, MayEnd-output, wrote_prefix}
+use Rattle.bounds_tool.proofs.command.run.Goals as goal
+
+pub returns-in-Ok-write_all-clause-complete : goal.returns-in-Ok-write_all-clause-complete
+returns-in-Ok-write_all-clause-complete g c =
+    MayEnd-output _ _ (texts c.args.words.now) (g.F.Files.state c.args.files.now) c.in-Ok.output c.status.result c.in-Ok.ensures.output c.status.ensures
+
+pub returns-in-Ok-clause-prefix : goal.returns-in-Ok-clause-prefix
+returns-in-Ok-clause-prefix g c = λ e.
+    wrote_prefix (texts c.args.words.now) (g.F.Files.state c.args.files.now) c.in-Ok.output (g.O.Sink.state c.args.out.now) (g.O.Sink.state c.write_all.new.out) c.as_slice.result.now c.as_slice.ensures c.in-Ok.ensures.output c.in-Err-write_all.ensures.prefix
+
+pub returns-clause-input : goal.returns-clause-input
+returns-clause-input g c = λ e.
+    IsRefusal-cause g.F.Files.last_count (texts c.args.words.now) (g.F.Files.state c.args.files.now) (g.F.Files.state c.output.new.files) (meant c.in-Err.cause) c.in-Err.ensures.cause (sym c.give_up-in-Err.ensures.status ∙ e)
+
+pub returns-clause-read : goal.returns-clause-read
+returns-clause-read g c = λ e.
+    TaskFault-cause g.F.Files.last_count (texts c.args.words.now) (g.F.Files.state c.args.files.now) (g.F.Files.state c.output.new.files) (meant c.in-Err.cause) c.in-Err.ensures.cause (sym c.give_up-in-Err.ensures.status ∙ e)
+
+pub returns-clause-complete : goal.returns-clause-complete
+returns-clause-complete g c =
+    MayEnd-cause _ g.F.Files.last_count (texts c.args.words.now) (g.F.Files.state c.args.files.now) (g.F.Files.state c.output.new.files) (meant c.in-Err.cause) c.give_up-in-Err.result c.in-Err.ensures.cause c.give_up-in-Err.ensures.status
