@@ -3,3 +3,4 @@ pub mod Widths
 pub mod FanPlaces
 pub mod StripPassing
 pub mod RectanglePassing
+pub mod AcrossParts

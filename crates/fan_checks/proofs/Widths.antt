@@ -48,10 +48,3 @@ no_value {n} {d} {e} p low some more below same =
 -- a magnitude of a number that is not below 0 is the number
 pub magnitude_is : {n : ℕ} (z : ℤ) → n ≡ nat_abs z → pos 0 ≤ℤ z → pos n ≡ z
 magnitude_is z h p = magnitude_of h refl p
-
--- a difference of two numbers of a size
-pub beyond_within : {w : ℕ} {p q : ℤ} → pos w ≡ q -ℤ p → Size 160000000000 q → Size 160000000000 p → w ≤ 320000000000
-beyond_within {w} {p} {q} h k l = stands_within h (most p q k.abs l.abs)
-  where
-    most : (p q : ℤ) → nat_abs q ≤ 160000000000 → nat_abs p ≤ 160000000000 → (q -ℤ p) ≤ℤ pos 320000000000
-    most p q h k = omega (arith, ints)

@@ -1,7 +1,7 @@
 //! Chords across the directions of a fan.
-ghost use Rattle.std.specs.Prelude.{◌≡◌, ◌↔◌, ◌+◌, ◌^◌, ◌+ℤ◌, ◌-ℤ◌, ◌*ℤ◌, length, map, IsTrue, All};
+ghost use Rattle.std.specs.Prelude.{◌≡◌, ◌↔◌, ◌+◌, ◌^◌, ◌+ℤ◌, ◌-ℤ◌, ◌*ℤ◌, pos, length, map, IsTrue, All};
 ghost use Rattle.integers.specs.Size.{Size};
-ghost use Rattle.bounds_model.specs.Numbers.{AllNumbered};
+ghost use Rattle.bounds_model.specs.Numbers.{AllNumbered, IsWithin};
 ghost use Rattle.bounds_model.specs.Plane.{point_at};
 ghost use Rattle.bounds_model.specs.Fans.{IsShort, half_directions};
 ghost use Rattle.bounds_model.specs.ParallelogramAnswer.{NamesEnds, IsShortChord, IsAcross};
@@ -11,6 +11,7 @@ ghost use Rattle.fan_checks.specs.Limits.{HasChordLimits, AreBelow};
 
 use answers::{Chord, Chords, Dir, HalfFan};
 use bounded_coords::Cloud2;
+use directions::quarter_turn;
 use fan_test::half_direction;
 
 /// The greatest sum of a chord's weights, and the greatest magnitude of its factor.
@@ -97,20 +98,52 @@ fn is_across(cloud: Cloud2<'_>, d: Dir, chord: Chord) -> bool
     ensures { IsTrue result ↔ IsAcross (points_of cloud.entry) (vector_of d) (chord_of chord) }
 {
     let (a, b, c) = (cloud.at(chord.a), cloud.at(chord.b), cloud.at(chord.c));
-    let (beta, gamma, k) = (chord.beta as i64, chord.gamma as i64, chord.k as i64);
-    let x = weighted(beta, b.x(), gamma, c.x(), a.x());
-    let y = weighted(beta, b.y(), gamma, c.y(), a.y());
-    x == -(k * d.y as i64) && y == k * d.x as i64
+    let across = quarter_turn(d);
+    if !leads_along(chord, a.x(), b.x(), c.x(), across.x) {
+        return false;
+    }
+    leads_along(chord, a.y(), b.y(), c.y(), across.y)
 }
 
-/// Beta times the way from a coordinate to a second one, and gamma times the way to a third.
-fn weighted(beta: i64, second: i32, gamma: i64, third: i32, first: i32) -> i64
+/// Whether in one coordinate beta times the way from a to b, and gamma times the way from a to c, is the factor times that of a direction.
+fn leads_along(chord: Chord, a: i32, b: i32, c: i32, along: i128) -> bool
+    requires short { IsShortChord (chord_of chord) }
+    requires a { Size 200000 a }
+    requires b { Size 200000 b }
+    requires c { Size 200000 c }
+    requires along { IsWithin 400000 along }
+    ensures { IsTrue result ↔ (pos chord.beta *ℤ (b -ℤ a) +ℤ pos chord.gamma *ℤ (c -ℤ a) ≡ chord.k *ℤ along) }
+{
+    let way = weighted(chord.beta as i64, chord.gamma as i64, a, b, c);
+    are_equal(way, product(chord.k as i64, along as i64))
+}
+
+/// Beta times the way from a to b, and gamma times the way from a to c, in one coordinate.
+fn weighted(beta: i64, gamma: i64, a: i32, b: i32, c: i32) -> i64
     requires beta { Size (2 ^ 39) beta }
     requires gamma { Size (2 ^ 39) gamma }
-    requires first { Size 200000 first }
-    requires second { Size 200000 second }
-    requires third { Size 200000 third }
-    ensures { result ≡ beta *ℤ (second -ℤ first) +ℤ gamma *ℤ (third -ℤ first) }
+    requires a { Size 200000 a }
+    requires b { Size 200000 b }
+    requires c { Size 200000 c }
+    ensures value { result ≡ beta *ℤ (b -ℤ a) +ℤ gamma *ℤ (c -ℤ a) }
+    ensures size { Size (2 ^ 59) result }
 {
-    beta * (i64::from(second) - i64::from(first)) + gamma * (i64::from(third) - i64::from(first))
+    beta * (b as i64 - a as i64) + gamma * (c as i64 - a as i64)
+}
+
+/// The factor of a chord times a coordinate of a direction.
+fn product(k: i64, x: i64) -> i64
+    requires k { Size (2 ^ 39) k }
+    requires x { Size 400000 x }
+    ensures value { result ≡ k *ℤ x }
+    ensures size { Size (2 ^ 58) result }
+{
+    k * x
+}
+
+/// Whether two numbers are equal.
+fn are_equal(x: i64, y: i64) -> bool
+    ensures { IsTrue result ↔ (x ≡ y) }
+{
+    x == y
 }

@@ -8,19 +8,20 @@ use Rattle.bounds_model.specs.Fans.{reach}
 use Rattle.bounded_coords.specs.Clouds.{points_of}
 use Rattle.answers.specs.Answers.{vector_of}
 use Rattle.directions.proofs.Reading.{reach_is}
-use Rattle.fan_checks.proofs.Widths.{stands_within, beyond_within}
+use Rattle.directions.proofs.Reaches.{reach_within}
+use Rattle.fan_checks.proofs.Widths.{stands_within}
 use Rattle.fan_checks.proofs.rectangles.is_not_smaller.Goals as goal
 
 pub overflow_mul-result-2 : goal.overflow_mul-result-2
 overflow_mul-result-2 c =
-    let along : c.beyond-along.result ≤ 320000000000 = beyond_within c.beyond-along.ensures.value c.beyond-along.ensures.q_size c.beyond-along.ensures.p_size in
-    let across : c.beyond-across.result ≤ 320000000000 = beyond_within c.beyond-across.ensures.value c.beyond-across.ensures.q_size c.beyond-across.ensures.p_size in
+    let along : c.beyond-along.result ≤ 320000000000 = reach_within c.beyond-along.ensures.value c.beyond-along.ensures.q_size c.beyond-along.ensures.p_size in
+    let across : c.beyond-across.result ≤ 320000000000 = reach_within c.beyond-across.ensures.value c.beyond-across.ensures.q_size c.beyond-across.ensures.p_size in
     with_limited (limited _ _ along ∷ limited _ _ across ∷ []) (λ xs h a b. simp (a, b, amounts) (amount_fits xs h w128 _ tt))
 
 pub overflow_mul-result-3 : goal.overflow_mul-result-3
 overflow_mul-result-3 c =
-    let along : c.beyond-along.result ≤ 320000000000 = beyond_within c.beyond-along.ensures.value c.beyond-along.ensures.q_size c.beyond-along.ensures.p_size in
-    let across : c.beyond-across.result ≤ 320000000000 = beyond_within c.beyond-across.ensures.value c.beyond-across.ensures.q_size c.beyond-across.ensures.p_size in
+    let along : c.beyond-along.result ≤ 320000000000 = reach_within c.beyond-along.ensures.value c.beyond-along.ensures.q_size c.beyond-along.ensures.p_size in
+    let across : c.beyond-across.result ≤ 320000000000 = reach_within c.beyond-across.ensures.value c.beyond-across.ensures.q_size c.beyond-across.ensures.p_size in
     let den : c.den.result ≤ 2 ^ 39 = stands_within c.den.ensures.value c.requires.denominator in
     with_limited (limited _ _ along ∷ limited _ _ across ∷ limited _ _ den ∷ []) (λ xs h a b d. simp (a, b, d, amounts) (amount_fits xs h w128 _ tt))
 
