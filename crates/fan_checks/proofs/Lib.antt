@@ -4,3 +4,5 @@ pub mod FanPlaces
 pub mod StripPassing
 pub mod RectanglePassing
 pub mod AcrossParts
+pub mod ChordLoops
+pub mod ParallelogramPassing

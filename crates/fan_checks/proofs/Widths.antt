@@ -1,5 +1,5 @@
 -- Bounds on what is computed of a fan and a size.
-use Rattle.std.proofs.Common.{◌≡◌, refl, ℕ, ◌*◌, ◌^◌, ◌≤◌, ℤ, pos, nat_abs, neg_ℤ, ◌-ℤ◌, ◌*ℤ◌, ◌≤ℤ◌, ◌<ℤ◌, [], ◌∷◌, arith}
+use Rattle.std.proofs.Common.{◌≡◌, ◌↔◌, refl, subst, ap₂, ℕ, ◌*◌, ◌^◌, ◌≤◌, ℤ, pos, nat_abs, neg_ℤ, ◌-ℤ◌, ◌*ℤ◌, ◌≤ℤ◌, ◌<ℤ◌, [], ◌∷◌, arith}
 use Rattle.std.proofs.Math.Nat.{mul-le-mul}
 use Rattle.std.proofs.lemmas.Int.{ints}
 use Rattle.integers.proofs.Identities.{den-ring, read, polys}
@@ -48,3 +48,12 @@ no_value {n} {d} {e} p low some more below same =
 -- a magnitude of a number that is not below 0 is the number
 pub magnitude_is : {n : ℕ} (z : ℤ) → n ≡ nat_abs z → pos 0 ≤ℤ z → pos n ≡ z
 magnitude_is z h p = magnitude_of h refl p
+
+-- an order of products, of numbers that stand for others
+pub ordered : {n l a b d : ℕ} {n' l' a' b' d' : ℤ} → pos n ≡ n' → pos l ≡ l' → pos a ≡ a' → pos b ≡ b' → pos d ≡ d' → ((n * l) ≤ (a * b * d)) ↔ ((n' *ℤ l') ≤ℤ (a' *ℤ b' *ℤ d'))
+ordered {n} {l} {a} {b} {d} {n'} {l'} {a'} {b'} {d'} en el ea eb ed =
+    subst (λ z. ((n * l) ≤ (a * b * d)) ↔ (z ≤ℤ (a' *ℤ b' *ℤ d'))) (ap₂ (λ x y. x *ℤ y) en el)
+    (subst (λ z. ((n * l) ≤ (a * b * d)) ↔ ((pos n *ℤ pos l) ≤ℤ z)) (ap₂ (λ x y. x *ℤ y) (ap₂ (λ x y. x *ℤ y) ea eb) ed) (plain n l a b d))
+  where
+    plain : (n l a b d : ℕ) → ((n * l) ≤ (a * b * d)) ↔ ((pos n *ℤ pos l) ≤ℤ (pos a *ℤ pos b *ℤ pos d))
+    plain n l a b d = (λ h. omega (arith, ints), λ h. omega (arith, ints))

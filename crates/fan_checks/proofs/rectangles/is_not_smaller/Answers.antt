@@ -9,7 +9,7 @@ use Rattle.bounded_coords.specs.Clouds.{points_of}
 use Rattle.answers.specs.Answers.{vector_of}
 use Rattle.directions.proofs.Reading.{reach_is}
 use Rattle.directions.proofs.Reaches.{reach_within}
-use Rattle.fan_checks.proofs.Widths.{stands_within}
+use Rattle.fan_checks.proofs.Widths.{stands_within, ordered}
 use Rattle.fan_checks.proofs.rectangles.is_not_smaller.Goals as goal
 
 pub overflow_mul-result-2 : goal.overflow_mul-result-2
@@ -24,15 +24,6 @@ overflow_mul-result-3 c =
     let across : c.beyond-across.result ≤ 320000000000 = reach_within c.beyond-across.ensures.value c.beyond-across.ensures.q_size c.beyond-across.ensures.p_size in
     let den : c.den.result ≤ 2 ^ 39 = stands_within c.den.ensures.value c.requires.denominator in
     with_limited (limited _ _ along ∷ limited _ _ across ∷ limited _ _ den ∷ []) (λ xs h a b d. simp (a, b, d, amounts) (amount_fits xs h w128 _ tt))
-
--- an order of products, of numbers that stand for others
-ordered : {n l a b d : ℕ} {n' l' a' b' d' : ℤ} → pos n ≡ n' → pos l ≡ l' → pos a ≡ a' → pos b ≡ b' → pos d ≡ d' → ((n * l) ≤ (a * b * d)) ↔ ((n' *ℤ l') ≤ℤ (a' *ℤ b' *ℤ d'))
-ordered {n} {l} {a} {b} {d} {n'} {l'} {a'} {b'} {d'} en el ea eb ed =
-    subst (λ z. ((n * l) ≤ (a * b * d)) ↔ (z ≤ℤ (a' *ℤ b' *ℤ d'))) (ap₂ (λ x y. x *ℤ y) en el)
-    (subst (λ z. ((n * l) ≤ (a * b * d)) ↔ ((pos n *ℤ pos l) ≤ℤ z)) (ap₂ (λ x y. x *ℤ y) (ap₂ (λ x y. x *ℤ y) ea eb) ed) (plain n l a b d))
-  where
-    plain : (n l a b d : ℕ) → ((n * l) ≤ (a * b * d)) ↔ ((pos n *ℤ pos l) ≤ℤ (pos a *ℤ pos b *ℤ pos d))
-    plain n l a b d = (λ h. omega (arith, ints), λ h. omega (arith, ints))
 
 pub returns : goal.returns
 returns c =
