@@ -1,5 +1,5 @@
 -- Loops over the cones of a fan with the chords of their directions.
-use Rattle.std.proofs.Common.{◌≡◌, ◌↔◌, sym, ◌∙◌, ap, subst, ℕ, ◌<◌, length, map, Some}
+use Rattle.std.proofs.Common.{◌≡◌, ◌↔◌, sym, ◌∙◌, ap, subst, ℕ, ◌<◌, map, Some}
 use Rattle.std.specs.Prelude.{List, slice_get, IsSomeAnd}
 use Rattle.std.proofs.lemmas.List.{length-map}
 use Rattle.std.proofs.lemmas.Option.{slice_get-get_or, slice_get_within}

@@ -1,14 +1,10 @@
 -- Numbers within the checker's limits are within the ranges of an answer's numbers.
-use Rattle.std.proofs.Common.{ℕ, ◌≤◌, ◌<◌, ◌^◌, ℤ, arith, length, All}
-use Rattle.std.proofs.lemmas.Int.{ints}
+use Rattle.std.proofs.Common.{◌≤◌, ◌<◌, arith, length}
 use Rattle.std.proofs.lemmas.List.Elements.{All-weaker}
 use Rattle.std.specs.Prelude.{List}
-use Rattle.bounds_model.specs.Numbers.{IsWithin}
 use Rattle.bounds_model.specs.Plane.{PlanePoint}
-use Rattle.bounds_model.specs.Strip.{Span}
-use Rattle.bounds_model.specs.Places.{IsPair, IsSpan, number_limit, point_limit}
+use Rattle.bounds_model.specs.Places.{IsPair, point_limit}
 use Rattle.bounds_model.specs.Fans.{HalfFan, QuarterFan, HalfPlaces, QuarterPlaces, IsShort, half_directions, quarter_directions}
-use Rattle.bounds_model.specs.StripAnswer.{IsShortSpan}
 use Rattle.directions.proofs.SpanBounds.{short_pair}
 use Rattle.fan_checks.specs.Limits.{HasHalfLimits, HasQuarterLimits}
 

@@ -1,4 +1,4 @@
-use Rattle.std.proofs.Common.{◌≡◌, ◌↔◌, refl, FitsSigned, w32, to_z-of_z}
+use Rattle.std.proofs.Common.{refl, FitsSigned, w32, to_z-of_z}
 use mir.Syntax.{w128}
 use Rattle.integers.proofs.Sizes.{size_fits_in}
 use Rattle.integers.proofs.Lists.{clash}

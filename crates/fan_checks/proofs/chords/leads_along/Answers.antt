@@ -1,7 +1,6 @@
-use Rattle.std.proofs.Common.{◌≡◌, sym, ◌∙◌, ℕ, ◌^◌, ◌<◌, ℤ, pos, ◌+ℤ◌, ◌≤ℤ◌, FitsSigned, w32, w64, to_z-of_z, arith}
+use Rattle.std.proofs.Common.{sym, ◌∙◌, ℕ, ◌^◌, ◌<◌, pos, ◌+ℤ◌, ◌≤ℤ◌, FitsSigned, w32, w64, to_z-of_z, arith}
 use Rattle.std.proofs.lemmas.Int.{ints, to_z_pos}
 use mir.Syntax.{w128}
-use Rattle.integers.specs.Size.{Size}
 use Rattle.integers.proofs.Sizes.{size_fits_in}
 use Rattle.directions.proofs.Bounds.{size_in}
 use Rattle.fan_checks.proofs.chords.leads_along.Goals as goal

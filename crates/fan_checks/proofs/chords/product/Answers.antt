@@ -1,4 +1,4 @@
-use Rattle.std.proofs.Common.{[], ◌∷◌, w64}
+use Rattle.std.proofs.Common.{[], ◌∷◌}
 use Rattle.integers.proofs.MachineArithmetic.{given, with_inputs, codes, computes, size_within}
 use Rattle.fan_checks.proofs.chords.product.Goals as goal
 

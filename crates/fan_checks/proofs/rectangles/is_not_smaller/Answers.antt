@@ -1,5 +1,4 @@
-use Rattle.std.proofs.Common.{◌≡◌, ◌↔◌, refl, subst, ap, ap₂, ◌∙◌, ℕ, ◌*◌, ◌≤◌, ◌^◌, ℤ, pos, nat_abs, ◌-ℤ◌, ◌*ℤ◌, ◌≤ℤ◌, [], ◌∷◌, arith}
-use Rattle.std.proofs.lemmas.Int.{ints}
+use Rattle.std.proofs.Common.{◌≡◌, refl, ap, ◌∙◌, ◌≤◌, ◌^◌, [], ◌∷◌}
 use Rattle.std.proofs.lemmas.Bool.{leb-true, le-leb}
 use mir.Syntax.{w128}
 use Rattle.integers.proofs.UnsignedArithmetic.{limited, with_limited, amounts, amount_fits}
