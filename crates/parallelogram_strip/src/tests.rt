@@ -10,13 +10,13 @@ use std::marker::Brand;
 use std::sync::ledger::{Blank, Ledger};
 use std::test::Fail;
 
-/// Points, the size of the thinnest strip, and of the smallest parallelogram, with its normals where it has no area.
+/// Points, the size of the thinnest strip, and the size and the normals of the smallest parallelogram.
 #[derive(Clone, Copy)]
 struct Row {
     points: &'static [(i64, i64)],
     strip: (u128, u128),
     parallelogram: (u128, u128),
-    flat: Option<[(i128, i128); 2]>,
+    normals: [(i128, i128); 2],
 }
 
 fn counted_strip<L: Ledger>(
@@ -69,42 +69,42 @@ fn few_points(rt: HostRuntime) -> Result<(), Fail> {
             points: &[(0, 0), (4, 0), (0, 3)],
             strip: (144, 25),
             parallelogram: (12, 1),
-            flat: None,
+            normals: [(1, 0), (3, 4)],
         },
         // a square on its corner
         Row {
             points: &[(0, 1), (1, 0), (2, 1), (1, 2)],
             strip: (2, 1),
             parallelogram: (2, 1),
-            flat: None,
+            normals: [(1, 1), (-1, 1)],
         },
         // a slanted parallelogram
         Row {
             points: &[(0, 0), (3, 1), (5, 4), (2, 3)],
             strip: (49, 13),
             parallelogram: (7, 1),
-            flat: None,
+            normals: [(-1, 3), (-3, 2)],
         },
         // a line that rises
         Row {
             points: &[(0, 0), (2, 1), (4, 2)],
             strip: (0, 1),
             parallelogram: (0, 1),
-            flat: Some([(-1, 2), (1, 0)]),
+            normals: [(-1, 2), (1, 0)],
         },
         // a line straight up
         Row {
             points: &[(1, 3), (1, -2), (1, 5)],
             strip: (0, 1),
             parallelogram: (0, 1),
-            flat: Some([(1, 0), (0, 1)]),
+            normals: [(1, 0), (0, 1)],
         },
         // one point
         Row {
             points: &[(7, -2)],
             strip: (0, 1),
             parallelogram: (0, 1),
-            flat: Some([(1, 0), (0, 1)]),
+            normals: [(1, 0), (0, 1)],
         },
     ];
     for row in table {
@@ -132,15 +132,11 @@ fn few_points(rt: HostRuntime) -> Result<(), Fail> {
             "{:?}",
             row.points
         );
-        if let Some([first, second]) = row.flat {
-            assert_eq!(rt; (small.first.x, small.first.y), first, "{:?}", row.points);
-            assert_eq!(rt;
-                (small.second.x, small.second.y),
-                second,
-                "{:?}",
-                row.points
-            );
-        }
+        let normals = [
+            (small.first.x, small.first.y),
+            (small.second.x, small.second.y),
+        ];
+        assert_eq!(rt; normals, row.normals, "{:?}", row.points);
     }
     Ok(())
 }
