@@ -1,5 +1,5 @@
 -- Bounds that two points give, and numbers within a checker's limits, which are within the ranges of an answer's numbers.
-use Rattle.std.proofs.Common.{◌≡◌, sym, ◌∙◌, ap, subst, ℕ, ◌^◌, ℤ, ◌-ℤ◌, ◌≤ℤ◌, List, All, T, leb, leb→le, arith}
+use Rattle.std.proofs.Common.{◌≡◌, sym, ◌∙◌, ap, subst, ℕ, ℤ, ◌-ℤ◌, List, All, T, leb, leb→le, arith}
 use Rattle.std.specs.Prelude.{slice_index_or}
 use Rattle.std.proofs.lemmas.Int.{ints}
 use Rattle.bounds_model.specs.Numbers.{IsWithin}

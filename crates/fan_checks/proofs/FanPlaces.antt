@@ -1,27 +1,12 @@
 -- Numbers within the checker's limits are within the ranges of an answer's numbers.
-use Rattle.std.proofs.Common.{ℕ, ◌≤◌, ◌<◌, ◌^◌, ℤ, arith, length, All}
-use Rattle.std.proofs.lemmas.Int.{ints}
+use Rattle.std.proofs.Common.{◌≤◌, ◌<◌, arith, length}
 use Rattle.std.proofs.lemmas.List.Elements.{All-weaker}
 use Rattle.std.specs.Prelude.{List}
-use Rattle.bounds_model.specs.Numbers.{IsWithin}
 use Rattle.bounds_model.specs.Plane.{PlanePoint}
-use Rattle.bounds_model.specs.Strip.{Span}
-use Rattle.bounds_model.specs.Places.{IsPair, IsSpan, number_limit, point_limit}
+use Rattle.bounds_model.specs.Places.{IsPair, point_limit}
 use Rattle.bounds_model.specs.Fans.{HalfFan, QuarterFan, HalfPlaces, QuarterPlaces, IsShort, half_directions, quarter_directions}
-use Rattle.bounds_model.specs.StripAnswer.{IsShortSpan}
+use Rattle.directions.proofs.SpanBounds.{short_pair}
 use Rattle.fan_checks.specs.Limits.{HasHalfLimits, HasQuarterLimits}
-
--- a number within a smaller range
-pub within_more : {z : ℤ} (m n : ℕ) → m ≤ n → IsWithin m z → IsWithin n z
-within_more m n h w = record { low = omega (arith, ints, h, w.low); high = omega (arith, ints, h, w.high) }
-
--- a short direction
-pub short_pair : (d : PlanePoint) → IsShort d → IsPair d
-short_pair d h = record { x = within_more 400000 (2 ^ 126) (omega arith) h.x; y = within_more 400000 (2 ^ 126) (omega arith) h.y }
-
--- short bounds
-pub short_span : (span : Span) → IsShortSpan span → IsSpan span
-short_span span h = record { low = within_more (2 ^ 40) (2 ^ 126) (omega arith) h.low; high = within_more (2 ^ 40) (2 ^ 126) (omega arith) h.high }
 
 -- a fan over half a turn
 pub half_places : (points : List PlanePoint) (fan : HalfFan) → length points ≤ 10000 → HasHalfLimits points fan → HalfPlaces fan

@@ -3,3 +3,6 @@ pub mod Widths
 pub mod FanPlaces
 pub mod StripPassing
 pub mod RectanglePassing
+pub mod AcrossParts
+pub mod ChordLoops
+pub mod ParallelogramPassing

@@ -10,7 +10,8 @@ use Rattle.bounds_model.specs.Fans.{HoldsQuarter, quarter_directions, AtBothEnds
 use Rattle.bounds_model.specs.StripAnswer.{IsShortSpan}
 use Rattle.bounds_model.specs.RectangleAnswer.{RectangleAnswer, rectangle_of, IsNotSmaller, PassesRectangle}
 use Rattle.fan_checks.specs.Limits.{HasQuarterLimits, HasNormalLimits}
-use Rattle.fan_checks.proofs.FanPlaces.{short_pair, short_span, quarter_places}
+use Rattle.directions.proofs.SpanBounds.{short_pair, short_span}
+use Rattle.fan_checks.proofs.FanPlaces.{quarter_places}
 
 pub rectangle_passes : (points : List PlanePoint) (a : RectangleAnswer) → length points ≤ 10000 → IsFraction a.size → HasQuarterLimits points a.fan → HasNormalLimits a.direction a.along → IsShortSpan a.across
     → SameValue a.size (rectangle_size (rectangle_of a)) → HoldsQuarter points a.fan → AtBothEnds (quarter_directions a.fan) (IsNotSmaller points a.size) a.fan.cones

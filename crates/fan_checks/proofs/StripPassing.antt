@@ -8,7 +8,8 @@ use Rattle.bounds_model.specs.Strip.{IsInSpan, strip_size}
 use Rattle.bounds_model.specs.Fans.{HoldsHalf, half_directions, AtBothEnds}
 use Rattle.bounds_model.specs.StripAnswer.{StripAnswer, strip_of, IsNotThinner, PassesStrip}
 use Rattle.fan_checks.specs.Limits.{HasHalfLimits, HasNormalLimits}
-use Rattle.fan_checks.proofs.FanPlaces.{short_pair, short_span, half_places}
+use Rattle.directions.proofs.SpanBounds.{short_pair, short_span}
+use Rattle.fan_checks.proofs.FanPlaces.{half_places}
 
 pub strip_passes : (points : List PlanePoint) (a : StripAnswer) → length points ≤ 10000 → IsFraction a.size → HasHalfLimits points a.fan → HasNormalLimits a.direction a.bounds
     → SameValue a.size (strip_size (strip_of a)) → HoldsHalf points a.fan → AtBothEnds (half_directions a.fan) (IsNotThinner points a.size) a.fan.cones

@@ -1,10 +1,9 @@
 -- Bounds on what is computed of a fan and a size.
-use Rattle.std.proofs.Common.{◌≡◌, refl, ℕ, ◌*◌, ◌^◌, ◌≤◌, ℤ, pos, nat_abs, neg_ℤ, ◌-ℤ◌, ◌*ℤ◌, ◌≤ℤ◌, ◌<ℤ◌, [], ◌∷◌, arith}
+use Rattle.std.proofs.Common.{◌≡◌, ◌↔◌, refl, subst, ap₂, ℕ, ◌*◌, ◌^◌, ◌≤◌, ℤ, pos, nat_abs, neg_ℤ, ◌*ℤ◌, ◌≤ℤ◌, ◌<ℤ◌, [], ◌∷◌, arith}
 use Rattle.std.proofs.Math.Nat.{mul-le-mul}
 use Rattle.std.proofs.lemmas.Int.{ints}
 use Rattle.integers.proofs.Identities.{den-ring, read, polys}
 use Rattle.integers.proofs.Order.{nonneg_mul, positive_mul, positive_from_one}
-use Rattle.integers.specs.Size.{Size}
 use Rattle.directions.proofs.Signs.{magnitude_of}
 
 -- a number that is read as a magnitude is within the magnitude's bound
@@ -49,9 +48,11 @@ no_value {n} {d} {e} p low some more below same =
 pub magnitude_is : {n : ℕ} (z : ℤ) → n ≡ nat_abs z → pos 0 ≤ℤ z → pos n ≡ z
 magnitude_is z h p = magnitude_of h refl p
 
--- a difference of two numbers of a size
-pub beyond_within : {w : ℕ} {p q : ℤ} → pos w ≡ q -ℤ p → Size 160000000000 q → Size 160000000000 p → w ≤ 320000000000
-beyond_within {w} {p} {q} h k l = stands_within h (most p q k.abs l.abs)
+-- an order of products, of numbers that stand for others
+pub ordered : {n l a b d : ℕ} {n' l' a' b' d' : ℤ} → pos n ≡ n' → pos l ≡ l' → pos a ≡ a' → pos b ≡ b' → pos d ≡ d' → ((n * l) ≤ (a * b * d)) ↔ ((n' *ℤ l') ≤ℤ (a' *ℤ b' *ℤ d'))
+ordered {n} {l} {a} {b} {d} {n'} {l'} {a'} {b'} {d'} en el ea eb ed =
+    subst (λ z. ((n * l) ≤ (a * b * d)) ↔ (z ≤ℤ (a' *ℤ b' *ℤ d'))) (ap₂ (λ x y. x *ℤ y) en el)
+    (subst (λ z. ((n * l) ≤ (a * b * d)) ↔ ((pos n *ℤ pos l) ≤ℤ z)) (ap₂ (λ x y. x *ℤ y) (ap₂ (λ x y. x *ℤ y) ea eb) ed) (plain n l a b d))
   where
-    most : (p q : ℤ) → nat_abs q ≤ 160000000000 → nat_abs p ≤ 160000000000 → (q -ℤ p) ≤ℤ pos 320000000000
-    most p q h k = omega (arith, ints)
+    plain : (n l a b d : ℕ) → ((n * l) ≤ (a * b * d)) ↔ ((pos n *ℤ pos l) ≤ℤ (pos a *ℤ pos b *ℤ pos d))
+    plain n l a b d = (λ h. omega (arith, ints), λ h. omega (arith, ints))

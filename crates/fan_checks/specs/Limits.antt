@@ -1,5 +1,5 @@
 -- What is asked of the numbers of an answer with a fan, before anything is computed with them.
-use Rattle.std.specs.Prelude.{◌≢◌, ℕ, ◌-◌, ◌<◌, List, All}
+use Rattle.std.specs.Prelude.{◌≡◌, ◌≢◌, ℕ, ◌-◌, ◌<◌, List, length, All}
 use Rattle.bounds_model.specs.Numbers.{HasCount}
 use Rattle.bounds_model.specs.Plane.{PlanePoint, origin}
 use Rattle.bounds_model.specs.Strip.{Span}
@@ -7,6 +7,7 @@ use Rattle.bounds_model.specs.Places.{fan_limit}
 use Rattle.bounds_model.specs.Fans.{HalfFan, QuarterFan, QuarterCone, half_directions, quarter_directions, IsShort}
 use Rattle.bounds_model.specs.StripAnswer.{NamesPoints, IsShortSpan}
 use Rattle.bounds_model.specs.RectangleAnswer.{NamesAllPoints}
+use Rattle.bounds_model.specs.ParallelogramAnswer.{Chord, NamesEnds, IsShortChord}
 
 -- the cone names four of so many points
 abbrev pub NamesFour : ℕ → QuarterCone → Type 0
@@ -29,3 +30,13 @@ pub record HasNormalLimits (normal : PlanePoint) (span : Span) : Type 0 where
   pub short : IsShort normal
   pub bounds : IsShortSpan span
   pub some : normal ≢ origin
+
+-- the chord names three of so many points
+abbrev pub AreBelow : ℕ → Chord → Type 0
+AreBelow count chord = (chord.a < count) × (chord.b < count) × (chord.c < count)
+
+-- so many chords, which name points, with weights and factors within their limits
+pub record HasChordLimits (points : List PlanePoint) (count : ℕ) (chords : List Chord) : Type 0 where
+  pub as_many : length chords ≡ count
+  pub names : All (NamesEnds points) chords
+  pub short : All IsShortChord chords

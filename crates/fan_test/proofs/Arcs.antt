@@ -1,12 +1,12 @@
 -- A point that is below an arc at the place that decides for it is below the whole arc.
-use Rattle.std.proofs.Common.{◌≡◌, sym, ◌∙◌, subst, ap, ◌⊎◌, inl, inr, ℕ, zero, suc, ◌+◌, ◌<◌, ◌≤◌, ℤ, pos, neg_ℤ, ◌+ℤ◌, ◌-ℤ◌, ◌*ℤ◌, ◌≤ℤ◌, ◌<ℤ◌, [], ◌∷◌, arith, add-one}
+use Rattle.std.proofs.Common.{◌≡◌, sym, ◌∙◌, subst, ap, ◌⊎◌, inl, inr, ℕ, zero, suc, ◌+◌, ◌-◌, ◌<◌, ◌≤◌, ℤ, pos, neg_ℤ, ◌+ℤ◌, ◌-ℤ◌, ◌*ℤ◌, ◌≤ℤ◌, ◌<ℤ◌, [], ◌∷◌, arith, add-one}
 use Rattle.std.proofs.lemmas.Int.{ints}
 use Rattle.integers.proofs.Identities.{den-ring, read, polys, lits}
 use Rattle.integers.proofs.Order.{nonneg_mul, nonneg_add, nonneg_difference, nonneg_of_mul, nonneg_from_positive, le_trans_ℤ, le_of_same, le_antisymm_ℤ, le_by}
 use Rattle.std.specs.Prelude.{List}
 use Rattle.std.proofs.lemmas.List.Elements.{All-contains}
 use Rattle.bounds_model.specs.Plane.{PlanePoint, dot, cross, vector}
-use Rattle.fan_test.specs.Chains.{Turns, IsBelowAll, IsBelowArc, IsArc, AreEdges, IsPlaceFor, AreListed, Encloses}
+use Rattle.fan_test.specs.Chains.{Turns, IsBelowAll, IsBelowArc, IsBelowInner, IsWithin, IsArc, AreEdges, IsPlaceFor, AreListed, Encloses}
 
 -- ---- three directions
 
@@ -144,7 +144,7 @@ three_ways : (i j : ℕ) → (i < j) ⊎ ((i ≡ j) ⊎ (j < i))
 three_ways i j = grind arith
 
 -- at a place that decides, one direction decides for all between the first and the last
-inner : (D H : ℕ → PlanePoint) (from to : ℕ) (p : PlanePoint) (i : ℕ) → Turns D to → IsArc D H from to → IsPlaceFor D H from to p i → dot (D (i + 1)) p ≤ℤ dot (D (i + 1)) (H (i + 1))
+pub inner : (D H : ℕ → PlanePoint) (from to : ℕ) (p : PlanePoint) (i : ℕ) → Turns D to → IsArc D H from to → IsPlaceFor D H from to p i → dot (D (i + 1)) p ≤ℤ dot (D (i + 1)) (H (i + 1))
     → (j : ℕ) → from ≤ j → j + 1 < to → dot (D (j + 1)) p ≤ℤ dot (D (j + 1)) (H (j + 1))
 inner D H from to p i turns arc place h j low high = elim (three_ways i j) [
   | inl above ↦ (passed_from D H from to p turns arc i place.after (record { out = h; along = passes place.end above }) j (omega arith) high).out
@@ -187,13 +187,37 @@ below_arc D H from to p arc first last middle j low high = record { begin = begi
       | inr same ↦ subst (λ k. dot (D k) p ≤ℤ dot (D k) (H k)) same first
     ]
 
--- with inner directions: one of them decides
-pub below_by_place : (D H : ℕ → PlanePoint) (from to : ℕ) (p : PlanePoint) (i : ℕ) → Turns D to → IsArc D H from to
-    → dot (D from) p ≤ℤ dot (D from) (H from)
-    → ((j : ℕ) → j + 1 ≡ to → dot (D to) p ≤ℤ dot (D to) (H j))
-    → IsPlaceFor D H from to p i → dot (D (i + 1)) p ≤ℤ dot (D (i + 1)) (H (i + 1))
-    → IsBelowArc D H from to p
-below_by_place D H from to p i turns arc first last place h = below_arc D H from to p arc first last (inner D H from to p i turns arc place h)
+-- ---- the parts of an arc
+
+-- what is below an arc is below its first direction
+pub first_part : (D H : ℕ → PlanePoint) (from to : ℕ) (p : PlanePoint) → from < to → IsBelowArc D H from to p → IsWithin D H from from p
+first_part D H from to p some below = (below from (omega arith) some).begin
+
+-- and below its last
+pub last_part : (D H : ℕ → PlanePoint) (from to : ℕ) (p : PlanePoint) → from < to → IsBelowArc D H from to p → IsWithin D H to (to - 1) p
+last_part D H from to p some below = subst (λ n. IsWithin D H n (to - 1) p) (after to some) (below (to - 1) (omega arith) (omega arith)).end
+  where
+    after : (to : ℕ) → from < to → (to - 1) + 1 ≡ to
+    after to some = omega arith
+
+-- and below those between
+pub inner_part : (D H : ℕ → PlanePoint) (from to : ℕ) (p : PlanePoint) → IsBelowArc D H from to p → IsBelowInner D H from to p
+inner_part D H from to p below j low high = (below (j + 1) (omega arith) high).begin
+
+-- what is below all of them is below the arc
+pub of_parts : (D H : ℕ → PlanePoint) (from to : ℕ) (p : PlanePoint) → IsArc D H from to → IsWithin D H from from p → IsWithin D H to (to - 1) p → IsBelowInner D H from to p → IsBelowArc D H from to p
+of_parts D H from to p arc first last between =
+    below_arc D H from to p arc first (λ j e. subst (λ k. dot (D to) p ≤ℤ dot (D to) (H k)) (number to j e) last) between
+  where
+    number : (to j : ℕ) → j + 1 ≡ to → to - 1 ≡ j
+    number to j e = omega arith
+
+-- an arc of two cones has one direction between
+pub one_inner : (D H : ℕ → PlanePoint) (from to : ℕ) (p : PlanePoint) → to ≡ from + 2 → IsWithin D H (from + 1) (from + 1) p → IsBelowInner D H from to p
+one_inner D H from to p two h j low high = subst (λ k. IsWithin D H (k + 1) (k + 1) p) (only j low high) h
+  where
+    only : (j : ℕ) → from ≤ j → j + 1 < to → from ≡ j
+    only j low high = omega (arith, two)
 
 -- ---- the edges of a chain that encloses its points
 

@@ -4,7 +4,7 @@ ghost use Rattle.bounds_model.specs.Plane.{PlanePoint, dot as product};
 ghost use Rattle.bounds_model.specs.Fans.{IsShort};
 ghost use Rattle.bounded_coords.specs.Clouds.{points_of};
 ghost use Rattle.fan_test.specs.Directions.{direction_of};
-ghost use Rattle.fan_test.specs.Chains.{Turns, Leads, AreListed, Encloses, IsBelowArc, IsLevel, IsArc, AreEdges, IsPlaceFor};
+ghost use Rattle.fan_test.specs.Chains.{Turns, Leads, AreListed, Encloses, IsBelowArc, IsBelowInner, IsWithin, IsLevel, IsArc, AreEdges, IsPlaceFor};
 
 use crate::direction::Direction;
 use bounded_coords::{Cloud2, Point2};
@@ -122,7 +122,8 @@ fn is_edge(first: Direction, normal: Direction, before: Point2, after: Point2) -
     normal.dot(before) == normal.dot(after) && first.dot(after) <= first.dot(before)
 }
 
-/// Whether all points are below an arc.
+/// Whether all points are below an arc: along its first direction, its last one, and those between. An arc of two cones has one
+/// between, and so each direction of a chain that winds around is compared with the points in one pass.
 fn are_below<C: Chain>(chain: &C, from: u32, to: u32, cloud: Cloud2<'_>) -> bool
     requires turns { Turns (C.directions chain.now) (C.cones chain.now) }
     requires some { from < to }
@@ -130,31 +131,70 @@ fn are_below<C: Chain>(chain: &C, from: u32, to: u32, cloud: Cloud2<'_>) -> bool
     requires arc { IsArc (C.directions chain.now) (C.points chain.now) from to }
     ensures { IsTrue result ↔ All (IsBelowArc (C.directions chain.now) (C.points chain.now) from to) (points_of cloud.entry) }
 {
-    for i in 0..cloud.len() {
-        if !is_below(chain, from, to, *cloud.at(i)) {
+    if !are_within(chain, from, from, cloud) {
+        return false;
+    }
+    if !are_within(chain, to, to - 1, cloud) {
+        return false;
+    }
+    let cones = to - from;
+    if cones == 1 {
+        return true;
+    }
+    if cones == 2 {
+        return are_within(chain, from + 1, from + 1, cloud);
+    }
+    are_below_inner(chain, from, to, cloud)
+}
+
+/// Whether no point is further out in direction i than the point of cone k.
+fn are_within<C: Chain>(chain: &C, i: u32, k: u32, cloud: Cloud2<'_>) -> bool
+    requires direction { i ≤ C.cones chain.now }
+    requires cone { k < C.cones chain.now }
+    ensures { IsTrue result ↔ All (IsWithin (C.directions chain.now) (C.points chain.now) i k) (points_of cloud.entry) }
+{
+    let direction = chain.direction(i);
+    let limit = direction.dot(chain.point(k));
+    for j in 0..cloud.len() {
+        if !reaches_at_most(direction, limit, *cloud.at(j)) {
             return false;
         }
     }
     true
 }
 
-/// Whether a point is below an arc.
-fn is_below<C: Chain>(chain: &C, from: u32, to: u32, p: Point2) -> bool
+/// Whether a point is no further out than the limit.
+fn reaches_at_most(direction: Direction, limit: i64, p: Point2) -> bool
+    requires { IsShort (direction_of direction) }
+    ensures { IsTrue result ↔ (product (direction_of direction) p ≤ℤ limit) }
+{
+    direction.dot(p) <= limit
+}
+
+/// Whether all points are below an arc along the directions between its first and its last one.
+fn are_below_inner<C: Chain>(chain: &C, from: u32, to: u32, cloud: Cloud2<'_>) -> bool
     requires turns { Turns (C.directions chain.now) (C.cones chain.now) }
-    requires some { from < to }
+    requires inner { from + 1 < to }
     requires limit { to ≤ C.cones chain.now }
     requires arc { IsArc (C.directions chain.now) (C.points chain.now) from to }
-    ensures { IsTrue result ↔ IsBelowArc (C.directions chain.now) (C.points chain.now) from to p }
+    ensures { IsTrue result ↔ All (IsBelowInner (C.directions chain.now) (C.points chain.now) from to) (points_of cloud.entry) }
 {
-    if !is_within(chain, from, from, p) {
-        return false;
+    for i in 0..cloud.len() {
+        if !is_below_inner(chain, from, to, *cloud.at(i)) {
+            return false;
+        }
     }
-    if !is_within(chain, to, to - 1, p) {
-        return false;
-    }
-    if to - from == 1 {
-        return true;
-    }
+    true
+}
+
+/// Whether a point is below an arc along the directions between its first and its last one.
+fn is_below_inner<C: Chain>(chain: &C, from: u32, to: u32, p: Point2) -> bool
+    requires turns { Turns (C.directions chain.now) (C.cones chain.now) }
+    requires inner { from + 1 < to }
+    requires limit { to ≤ C.cones chain.now }
+    requires arc { IsArc (C.directions chain.now) (C.points chain.now) from to }
+    ensures { IsTrue result ↔ IsBelowInner (C.directions chain.now) (C.points chain.now) from to p }
+{
     let i = place_for(chain, from, to, p);
     is_within(chain, i + 1, i + 1, p)
 }
@@ -163,7 +203,7 @@ fn is_below<C: Chain>(chain: &C, from: u32, to: u32, p: Point2) -> bool
 fn is_within<C: Chain>(chain: &C, i: u32, k: u32, p: Point2) -> bool
     requires direction { i ≤ C.cones chain.now }
     requires cone { k < C.cones chain.now }
-    ensures { IsTrue result ↔ (product (C.directions chain.now i) p ≤ℤ product (C.directions chain.now i) (C.points chain.now k)) }
+    ensures { IsTrue result ↔ IsWithin (C.directions chain.now) (C.points chain.now) i k p }
 {
     let direction = chain.direction(i);
     direction.dot(p) <= direction.dot(chain.point(k))

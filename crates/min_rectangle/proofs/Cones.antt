@@ -1,12 +1,11 @@
 -- The cones of a fan over a quarter turn, each with its direction and its points.
-use Rattle.std.proofs.Common.{◌≡◌, refl, sym, ◌∙◌, ap, ap₂, subst, ℕ, suc, ◌+◌, ◌-◌, ◌<◌, ◌≤◌, inl, inr, ℤ, pos, neg_ℤ, ◌+ℤ◌, ◌*ℤ◌, ◌≤ℤ◌, ◌<ℤ◌, List, [], ◌∷◌, length, map, All, Some, arith}
+use Rattle.std.proofs.Common.{◌≡◌, refl, sym, ◌∙◌, ap, ap₂, subst, ℕ, suc, ◌+◌, ◌-◌, ◌<◌, inl, inr, ℤ, pos, ◌*ℤ◌, ◌<ℤ◌, List, [], ◌∷◌, length, map, All, Some, arith}
 use Rattle.std.specs.Prelude.{slice_index_or, slice_get}
-use Rattle.std.proofs.lemmas.Int.{ints}
 use Rattle.std.proofs.lemmas.Bool.{cases_lt}
 use Rattle.std.proofs.lemmas.List.{length-map, length-append, get_or-map, get_or_append_left}
 use Rattle.std.proofs.lemmas.Option.{slice_get_within, slice_get-get_or, get_or_from_slice_get}
 use Rattle.integers.proofs.Identities.{den-ring, read, polys}
-use Rattle.bounds_model.specs.Plane.{PlanePoint, origin, point_at, dot, squared_length, quarter_turn}
+use Rattle.bounds_model.specs.Plane.{PlanePoint, origin, point_at, squared_length, quarter_turn}
 use Rattle.bounds_model.specs.Fractions.{HaveNoCommonFactor}
 use Rattle.bounds_model.specs.Fans.{QuarterFan, QuarterCone, quarter_directions, AreExtreme, IsQuarterExtreme, IsShort, reach, east, north, west}
 use Rattle.bounds_model.specs.RectangleAnswer.{reached_area}

@@ -6,5 +6,7 @@
 
 mod smallest;
 mod solvers;
+#[cfg(test)]
+mod tests;
 
 pub use solvers::rectangle;

@@ -1,14 +1,13 @@
 -- Where the line across a direction passes between the vectors of two neighbouring cones, from their lowest to their highest points.
-use Rattle.std.proofs.Common.{◌≡◌, sym, ◌∙◌, ap, subst, ℕ, ◌+◌, ◌<◌, ◌≤◌, inl, inr, ℤ, pos, ◌+ℤ◌, ◌-ℤ◌, ◌*ℤ◌, neg_ℤ, ◌≤ℤ◌, List, [], ◌∷◌, length, arith}
+use Rattle.std.proofs.Common.{◌≡◌, sym, ◌∙◌, ap, subst, ℕ, ◌+◌, ◌<◌, ◌≤◌, inl, inr, ℤ, pos, ◌+ℤ◌, ◌-ℤ◌, ◌*ℤ◌, neg_ℤ, ◌≤ℤ◌, List, [], ◌∷◌, arith}
 use Rattle.std.proofs.Math.Nat.{eq-or-lt_of_le}
 use Rattle.std.proofs.lemmas.Int.{ints}
 use Rattle.integers.proofs.Identities.{den-ring, read, polys}
-use Rattle.integers.proofs.Order.{nonneg_difference, nonneg_from_positive, le_antisymm_ℤ, combine2}
-use Rattle.bounds_model.specs.Plane.{PlanePoint, origin, point_at, vector, dot, cross, turn, plus, times, quarter_turn}
-use Rattle.bounds_model.specs.Fans.{HalfCone, AreExtreme, reach}
+use Rattle.integers.proofs.Order.{nonneg_from_positive, combine2}
+use Rattle.bounds_model.specs.Plane.{PlanePoint, point_at, vector, dot, cross, turn, plus, times, quarter_turn}
+use Rattle.bounds_model.specs.Fans.{HalfCone, reach}
 use Rattle.bounds_model.specs.ParallelogramAnswer.{Chord, IsAcross}
 use Rattle.directions.proofs.Reaches.{reach_turned, reach_nonneg}
-use Rattle.parallelogram_strip.specs.FullTurn.{opposite}
 use Rattle.parallelogram_strip.specs.Crossings.{reach_of}
 use Rattle.parallelogram_strip.proofs.Turning.{dot_between}
 use Rattle.parallelogram_strip.proofs.FullTurn.{IsFullTurn}

@@ -19,11 +19,10 @@ use Rattle.parallelogram_strip.proofs.Crossings.{chord_extent}
 -- two pairs that are extreme in one direction: the highest of either reaches beyond the lowest of either equally far
 pub reach_mixed : (points : List PlanePoint) (e : PlanePoint) (c c' : HalfCone) → c.high < length points → c.low < length points → c'.high < length points → c'.low < length points → AreExtreme points e c.high c.low → AreExtreme points e c'.high c'.low
     → (reach points e c.high c.low ≡ reach_of points e c') × (reach points e c'.high c.low ≡ reach_of points e c')
-reach_mixed points e c c' nh nl nh' nl' h h' =
-    (
-      reach_same points e c.high c.low c'.high c'.low nh nl nh' nl' h h',
-      reach_parts points e c'.high c.low ∙ ap (λ v. dot e (point_at points c'.high) -ℤ v) (lowest_same points e nl nl' h h') ∙ sym (reach_parts points e c'.high c'.low),
-    )
+reach_mixed points e c c' nh nl nh' nl' h h' = (
+  reach_same points e c.high c.low c'.high c'.low nh nl nh' nl' h h',
+  reach_parts points e c'.high c.low ∙ ap (λ v. dot e (point_at points c'.high) -ℤ v) (lowest_same points e nl nl' h h') ∙ sym (reach_parts points e c'.high c'.low),
+)
 
 -- a chord between two cones, both extreme in e: weights times the reach is the factor times the cross product, up to sign
 extent_signed : (points : List PlanePoint) (d e : PlanePoint) (near far : HalfCone) (chord : answers.Chord) → IsChord points d chord → Joins near far chord

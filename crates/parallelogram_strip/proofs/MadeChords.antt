@@ -1,16 +1,10 @@
 -- The chord that is made of a point and two others: it is across, and within the checker's limits.
-use Prim.Native.Nat.{◌∣◌}
-use Rattle.std.proofs.Common.{◌≡◌, refl, sym, ◌∙◌, ap, subst, ℕ, zero, suc, ◌+◌, ◌*◌, ◌<◌, ◌≤◌, ◌^◌, ◌⊎◌, inl, inr, ℤ, pos, negsuc, nat_abs, ◌+ℤ◌, ◌-ℤ◌, ◌*ℤ◌, neg_ℤ, ◌≤ℤ◌, ◌<ℤ◌, List, [], ◌∷◌, Some, arith}
+use Rattle.std.proofs.Common.{◌≡◌, sym, ◌∙◌, ap, subst, ℕ, zero, suc, ◌+◌, ◌*◌, ◌<◌, ◌≤◌, ◌^◌, ℤ, pos, nat_abs, ◌+ℤ◌, ◌-ℤ◌, ◌*ℤ◌, neg_ℤ, ◌≤ℤ◌, List, [], ◌∷◌, Some, arith}
 use Rattle.std.specs.Prelude.{slice_get}
 use Rattle.std.proofs.lemmas.Int.{ints, unsigned_abs-mul}
-use Rattle.std.proofs.lemmas.List.Elements.{All-cons, All-nil}
-use Rattle.std.proofs.lemmas.Nat.Gcd.{dvd-zero}
 use Rattle.std.proofs.lemmas.Option.{slice_get_within}
 use Rattle.integers.specs.Size.{Size}
-use Rattle.integers.proofs.Order.{square_positive, square_nonneg, positive_add}
-use Rattle.bounds_model.specs.Plane.{PlanePoint, point_at, vector, dot, turn, plus, times, quarter_turn, squared_length}
-use Rattle.bounds_model.specs.Fractions.{HaveNoCommonFactor}
-use Rattle.bounds_model.specs.Fans.{reach}
+use Rattle.bounds_model.specs.Plane.{PlanePoint, point_at, vector, dot, turn, plus, times, quarter_turn}
 use Rattle.bounds_model.specs.ParallelogramAnswer.{IsAcross}
 use Rattle.parallelogram_strip.specs.Crossings.{IsChord}
 use Rattle.directions.proofs.Reading.{reach_parts}

@@ -1,5 +1,5 @@
 -- What passes: a parallelogram with a chord for each direction of the fan, none of whose areas is below its size.
-use Rattle.std.proofs.Common.{◌≡◌, refl, sym, ◌∙◌, ap, ap₂, subst, ℕ, ◌+◌, ◌<◌, ◌≤◌, ◌^◌, ◌⊎◌, inl, inr, ℤ, pos, nat_abs, ◌+ℤ◌, ◌-ℤ◌, ◌*ℤ◌, neg_ℤ, ◌≤ℤ◌, ◌<ℤ◌, List, [], ◌∷◌, length, map, All, T, leb, leb→le, arith}
+use Rattle.std.proofs.Common.{◌≡◌, refl, sym, ◌∙◌, ap, ap₂, subst, ℕ, ◌+◌, ◌<◌, ◌≤◌, ◌^◌, ◌⊎◌, inl, inr, ℤ, pos, nat_abs, ◌+ℤ◌, ◌-ℤ◌, ◌*ℤ◌, neg_ℤ, ◌≤ℤ◌, ◌<ℤ◌, List, [], ◌∷◌, length, map, All, arith}
 use Rattle.std.specs.Prelude.{slice_index_or, slice_get, IsSomeAnd}
 use Rattle.std.proofs.lemmas.Int.{ints}
 use Rattle.std.proofs.lemmas.List.{length-map, get_or-map}
@@ -7,13 +7,12 @@ use Rattle.std.proofs.lemmas.Option.{slice_get-get_or, get_or_from_slice_get}
 use Rattle.integers.proofs.Identities.{den-ring, read, polys}
 use Rattle.integers.proofs.Order.{nonneg_from_positive, positive_from_one}
 use Rattle.integers.proofs.Fractions.{fraction_equal}
-use Rattle.bounds_model.specs.Numbers.{AllNumbered, IsWithin}
-use Rattle.bounds_model.specs.Plane.{PlanePoint, point_at, dot, cross}
+use Rattle.bounds_model.specs.Numbers.{AllNumbered}
+use Rattle.bounds_model.specs.Plane.{PlanePoint, point_at, cross}
 use Rattle.bounds_model.specs.Fractions.{Fraction, SameValue}
 use Rattle.bounds_model.specs.Places.{IsFraction}
-use Rattle.bounds_model.specs.Strip.{Span, IsInSpan}
+use Rattle.bounds_model.specs.Strip.{Span}
 use Rattle.bounds_model.specs.Fans.{HalfFan, HalfCone, half_directions, AreExtreme, reach, IsShort}
-use Rattle.bounds_model.specs.StripAnswer.{IsShortSpan}
 use Rattle.bounds_model.specs.ParallelogramAnswer as answers
 use Rattle.bounds_model.specs.ParallelogramAnswer.{ParallelogramAnswer, PassesParallelogram, IsNotSmaller}
 use Rattle.answers.specs.declared.parallelograms.Chord.{Chord}

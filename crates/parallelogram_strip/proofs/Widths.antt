@@ -6,7 +6,7 @@ use Rattle.std.proofs.lemmas.Bool.{cases_lt}
 use Rattle.integers.proofs.Identities.{den-ring, read, polys}
 use Rattle.integers.proofs.Order.{positive_from_one}
 use Rattle.integers.proofs.Fractions.{fraction_equal, fraction_le_trans}
-use Rattle.bounds_model.specs.Plane.{PlanePoint, origin, point_at, squared_length}
+use Rattle.bounds_model.specs.Plane.{PlanePoint, point_at, squared_length}
 use Rattle.bounds_model.specs.Fractions.{Fraction, SameValue}
 use Rattle.bounds_model.specs.Places.{IsFraction}
 use Rattle.bounds_model.specs.Strip.{Span}

@@ -8,9 +8,9 @@ ghost use Rattle.bounded_coords.specs.Clouds.{points_of};
 ghost use Rattle.answers.specs.Answers.{vector_of, chord_of};
 ghost use Rattle.parallelogram_strip.specs.Crossings.{IsChord};
 
-use directions::{beyond, cross, squared_length, turn};
 use answers::{Chord, Dir};
 use bounded_coords::{Cloud2, Point2};
+use directions::{beyond, cross, squared_length, turn};
 use exact_fractions::quotient;
 
 /// How many times the direction, turned by a right angle, leads from a to b, for a direction in lowest terms.

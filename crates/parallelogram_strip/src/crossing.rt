@@ -12,9 +12,9 @@ ghost use Rattle.parallelogram_strip.specs.Crossings.{reach_of, area_of, weight_
 
 use crate::around::cone_at;
 use crate::chord::chord;
-use directions::{beyond, reach};
 use answers::{Chord, Dir, HalfCone, HalfFan};
 use bounded_coords::Cloud2;
+use directions::{beyond, reach};
 
 /// A direction of the fan, and the chord across it.
 #[derive(Clone, Copy)]

@@ -6,10 +6,9 @@ ghost use Rattle.answers.specs.Answers.{half_fan_of, chord_of, parallelogram_of}
 ghost use Rattle.parallelogram_strip.specs.PlainFan.{IsPlainFan};
 ghost use Rattle.parallelogram_strip.specs.Flat.{AreWide, IsFlatAt, point_chord};
 
-use directions::reach;
-use directions::span;
 use answers::{Chord, Chords, HalfFan, ParaAnswer};
 use bounded_coords::{Cloud2, OutOfMemory};
+use directions::{reach, span};
 use exact_fractions::Frac;
 use std::alloc::Global;
 

@@ -10,9 +10,9 @@ ghost use Rattle.parallelogram_strip.specs.AllChords.{AreAllChords};
 use crate::around::cone_at;
 use crate::chords::{AllChords, chords_around};
 use crate::flat::{flat, flat_direction};
-use directions::span;
 use answers::{HalfFan, ParaAnswer};
 use bounded_coords::{Cloud2, OutOfMemory};
+use directions::span;
 use exact_fractions::Frac;
 use std::alloc::Global;
 

@@ -6,10 +6,9 @@ ghost use Rattle.answers.specs.Answers.{half_fan_of, strip_of};
 ghost use Rattle.parallelogram_strip.specs.PlainFan.{IsPlainFan};
 ghost use Rattle.parallelogram_strip.specs.Widths.{IsWidth, IsNotWider};
 
-use directions::{beyond, squared_length};
-use directions::span;
 use answers::{HalfFan, StripAnswer};
 use bounded_coords::Cloud2;
+use directions::{beyond, span, squared_length};
 use exact_fractions::Frac;
 
 /// A direction of the fan, how far the points reach along it, and its squared length.

@@ -1,4 +1,4 @@
-use Rattle.std.proofs.Common.{refl, sym, subst, ◌+◌, ◌<◌, length, arith}
+use Rattle.std.proofs.Common.{refl, sym, subst, ◌+◌, arith}
 use Rattle.std.proofs.lemmas.Option.{slice_get_within}
 use Rattle.bounds_model.specs.Plane.{point_at}
 use Rattle.bounds_model.specs.Fans.{IsShort, IsQuarterExtreme, quarter_directions}

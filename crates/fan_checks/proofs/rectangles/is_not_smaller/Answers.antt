@@ -1,5 +1,4 @@
-use Rattle.std.proofs.Common.{◌≡◌, ◌↔◌, refl, subst, ap, ap₂, ◌∙◌, ℕ, ◌*◌, ◌≤◌, ◌^◌, ℤ, pos, nat_abs, ◌-ℤ◌, ◌*ℤ◌, ◌≤ℤ◌, [], ◌∷◌, arith}
-use Rattle.std.proofs.lemmas.Int.{ints}
+use Rattle.std.proofs.Common.{◌≡◌, refl, ap, ◌∙◌, ◌≤◌, ◌^◌, [], ◌∷◌}
 use Rattle.std.proofs.lemmas.Bool.{leb-true, le-leb}
 use mir.Syntax.{w128}
 use Rattle.integers.proofs.UnsignedArithmetic.{limited, with_limited, amounts, amount_fits}
@@ -8,30 +7,22 @@ use Rattle.bounds_model.specs.Fans.{reach}
 use Rattle.bounded_coords.specs.Clouds.{points_of}
 use Rattle.answers.specs.Answers.{vector_of}
 use Rattle.directions.proofs.Reading.{reach_is}
-use Rattle.fan_checks.proofs.Widths.{stands_within, beyond_within}
+use Rattle.directions.proofs.Reaches.{reach_within}
+use Rattle.fan_checks.proofs.Widths.{stands_within, ordered}
 use Rattle.fan_checks.proofs.rectangles.is_not_smaller.Goals as goal
 
 pub overflow_mul-result-2 : goal.overflow_mul-result-2
 overflow_mul-result-2 c =
-    let along : c.beyond-along.result ≤ 320000000000 = beyond_within c.beyond-along.ensures.value c.beyond-along.ensures.q_size c.beyond-along.ensures.p_size in
-    let across : c.beyond-across.result ≤ 320000000000 = beyond_within c.beyond-across.ensures.value c.beyond-across.ensures.q_size c.beyond-across.ensures.p_size in
+    let along : c.beyond-along.result ≤ 320000000000 = reach_within c.beyond-along.ensures.value c.beyond-along.ensures.q_size c.beyond-along.ensures.p_size in
+    let across : c.beyond-across.result ≤ 320000000000 = reach_within c.beyond-across.ensures.value c.beyond-across.ensures.q_size c.beyond-across.ensures.p_size in
     with_limited (limited _ _ along ∷ limited _ _ across ∷ []) (λ xs h a b. simp (a, b, amounts) (amount_fits xs h w128 _ tt))
 
 pub overflow_mul-result-3 : goal.overflow_mul-result-3
 overflow_mul-result-3 c =
-    let along : c.beyond-along.result ≤ 320000000000 = beyond_within c.beyond-along.ensures.value c.beyond-along.ensures.q_size c.beyond-along.ensures.p_size in
-    let across : c.beyond-across.result ≤ 320000000000 = beyond_within c.beyond-across.ensures.value c.beyond-across.ensures.q_size c.beyond-across.ensures.p_size in
+    let along : c.beyond-along.result ≤ 320000000000 = reach_within c.beyond-along.ensures.value c.beyond-along.ensures.q_size c.beyond-along.ensures.p_size in
+    let across : c.beyond-across.result ≤ 320000000000 = reach_within c.beyond-across.ensures.value c.beyond-across.ensures.q_size c.beyond-across.ensures.p_size in
     let den : c.den.result ≤ 2 ^ 39 = stands_within c.den.ensures.value c.requires.denominator in
     with_limited (limited _ _ along ∷ limited _ _ across ∷ limited _ _ den ∷ []) (λ xs h a b d. simp (a, b, d, amounts) (amount_fits xs h w128 _ tt))
-
--- an order of products, of numbers that stand for others
-ordered : {n l a b d : ℕ} {n' l' a' b' d' : ℤ} → pos n ≡ n' → pos l ≡ l' → pos a ≡ a' → pos b ≡ b' → pos d ≡ d' → ((n * l) ≤ (a * b * d)) ↔ ((n' *ℤ l') ≤ℤ (a' *ℤ b' *ℤ d'))
-ordered {n} {l} {a} {b} {d} {n'} {l'} {a'} {b'} {d'} en el ea eb ed =
-    subst (λ z. ((n * l) ≤ (a * b * d)) ↔ (z ≤ℤ (a' *ℤ b' *ℤ d'))) (ap₂ (λ x y. x *ℤ y) en el)
-    (subst (λ z. ((n * l) ≤ (a * b * d)) ↔ ((pos n *ℤ pos l) ≤ℤ z)) (ap₂ (λ x y. x *ℤ y) (ap₂ (λ x y. x *ℤ y) ea eb) ed) (plain n l a b d))
-  where
-    plain : (n l a b d : ℕ) → ((n * l) ≤ (a * b * d)) ↔ ((pos n *ℤ pos l) ≤ℤ (pos a *ℤ pos b *ℤ pos d))
-    plain n l a b d = (λ h. omega (arith, ints), λ h. omega (arith, ints))
 
 pub returns : goal.returns
 returns c =

@@ -3,7 +3,6 @@ use Rattle.std.proofs.lemmas.Int.{ints}
 use mir.Syntax.{w128}
 use Rattle.integers.proofs.Sizes.{size_fits_in}
 use Rattle.bounds_model.specs.Strip.{extent}
-use Rattle.bounds_model.specs.Fractions.{SameValue}
 use Rattle.answers.specs.Answers.{span_of}
 use Rattle.integers.proofs.Lists.{clash}
 use Rattle.fan_checks.proofs.Widths.{no_value, magnitude_is}

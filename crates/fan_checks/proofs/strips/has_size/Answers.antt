@@ -1,5 +1,4 @@
-use Rattle.std.proofs.Common.{◌≡◌, ap₂, ℕ, ◌*◌, ◌≤◌, ◌^◌, ℤ, pos, nat_abs, ◌≤ℤ◌, FitsSigned, to_z-of_z, [], ◌∷◌, arith}
-use Rattle.std.proofs.lemmas.Int.{ints}
+use Rattle.std.proofs.Common.{◌≡◌, nat_abs, FitsSigned, to_z-of_z}
 use mir.Syntax.{w128}
 use Rattle.integers.proofs.Sizes.{size_fits_in}
 use Rattle.fan_checks.proofs.Widths.{square_within}

@@ -1,4 +1,4 @@
-use Rattle.std.proofs.Common.{refl, sym, subst, ◌+◌, ◌<◌, length, arith}
+use Rattle.std.proofs.Common.{refl, sym, subst, ◌+◌, arith}
 use Rattle.bounds_model.specs.Plane.{point_at}
 use Rattle.bounds_model.specs.Fans.{IsShort, half_directions}
 use Rattle.bounds_model.specs.StripAnswer.{IsNotThinner}

@@ -1,11 +1,11 @@
-use Rattle.std.proofs.Common.{◌≡◌, sym, ◌∙◌, subst, ℕ, ◌+◌, ◌<◌, length, below_more, arith}
+use Rattle.std.proofs.Common.{◌≡◌, sym, ◌∙◌, subst, ℕ, ◌<◌, length, below_more, arith}
 use Rattle.bounds_model.specs.Plane.{quarter_turn}
 use Rattle.bounds_model.specs.Fans as fans
 use Rattle.bounds_model.specs.RectangleAnswer.{PassesRectangle}
 use Rattle.bounded_coords.specs.Clouds.{points_of}
-use Rattle.answers.specs.Answers.{vector_of, quarter_fan_of, quarter_cone_of, span_of}
+use Rattle.answers.specs.Answers.{quarter_fan_of, span_of}
 use Rattle.directions.proofs.SpanBounds.{AreBounds}
-use Rattle.min_rectangle.proofs.Cones.{IsCone, cones_length, cone_read, is_cone_read}
+use Rattle.min_rectangle.proofs.Cones.{cones_length, cone_read, is_cone_read}
 use Rattle.min_rectangle.proofs.Areas.{IsNotLargerAt, not_larger_there, not_larger_more, one_area, rectangle_passes}
 use Rattle.min_rectangle.proofs.smallest.rectangle_of_fan.Goals as goal
 

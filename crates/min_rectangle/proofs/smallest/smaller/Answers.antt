@@ -1,6 +1,6 @@
 use Rattle.std.proofs.Common.{[], ◌∷◌, ◌^◌}
 use mir.Syntax.{w128}
-use Rattle.integers.proofs.UnsignedArithmetic.{limited, limited_below, with_limited, amounts, amount_fits}
+use Rattle.integers.proofs.UnsignedArithmetic.{limited, with_limited, amounts, amount_fits}
 use Rattle.min_rectangle.proofs.smallest.smaller.Goals as goal
 
 pub overflow_mul-p : goal.overflow_mul-p

@@ -1,6 +1,5 @@
-use Rattle.std.proofs.Common.{◌+◌, ◌≡◌, refl, sym, ◌∙◌, ap, subst, ◌<◌, ◌≤◌, ℕ, ℤ, pos, ◌-ℤ◌, ◌≤ℤ◌, ◌<ℤ◌, length, arith}
+use Rattle.std.proofs.Common.{◌+◌, ◌≡◌, refl, sym, ◌∙◌, ap, subst, ◌<◌, ℕ, ℤ, pos, ◌≤ℤ◌, ◌<ℤ◌, length, arith}
 use Rattle.std.proofs.lemmas.Int.{ints}
-use Rattle.integers.specs.Size.{Size}
 use Rattle.bounds_model.specs.Plane.{dot, squared_length}
 use Rattle.bounds_model.specs.Fans as fans
 use Rattle.bounded_coords.specs.Clouds.{points_of}
