@@ -7,17 +7,6 @@ use Rattle.bounds_model.specs.Asks.{IsValid}
 use Rattle.command_line.specs.Kinds.{IsKnown, kind_of}
 use Rattle.witness_check.specs.Kinds.{IsBuilt}
 
-no_parallelogram : IsKnown (kind_of Parallelogram) → ⊥
-no_parallelogram (inl e) = cc
-no_parallelogram (inr (inl e)) = cc
-no_parallelogram (inr (inr (inl e))) = cc
-no_parallelogram (inr (inr (inr (inl e)))) = cc
-no_parallelogram (inr (inr (inr (inr (inl e))))) = cc
-no_parallelogram (inr (inr (inr (inr (inr (inl e)))))) = cc
-no_parallelogram (inr (inr (inr (inr (inr (inr (inl e))))))) = cc
-no_parallelogram (inr (inr (inr (inr (inr (inr (inr (inl e)))))))) = cc
-no_parallelogram (inr (inr (inr (inr (inr (inr (inr (inr h)))))))) = h
-
 no_kgon : (k : ℕ) → IsKnown (kind_of (Kgon k)) → ⊥
 no_kgon k (inl e) = cc
 no_kgon k (inr (inl e)) = cc
@@ -27,14 +16,15 @@ no_kgon k (inr (inr (inr (inr (inl e))))) = cc
 no_kgon k (inr (inr (inr (inr (inr (inl e)))))) = cc
 no_kgon k (inr (inr (inr (inr (inr (inr (inl e))))))) = cc
 no_kgon k (inr (inr (inr (inr (inr (inr (inr (inl e)))))))) = cc
-no_kgon k (inr (inr (inr (inr (inr (inr (inr (inr h)))))))) = h
+no_kgon k (inr (inr (inr (inr (inr (inr (inr (inr (inl e))))))))) = cc
+no_kgon k (inr (inr (inr (inr (inr (inr (inr (inr (inr h))))))))) = h
 
 -- a valid question of a kind that words name is one that is answered
 pub built : (ask : Ask) → IsKnown (kind_of ask) → IsValid (asked ask) → IsBuilt ask
 built Circle known valid = tt
 built Sphere known valid = tt
 built Rectangle known valid = tt
-built Parallelogram known valid = absurd (no_parallelogram known)
+built Parallelogram known valid = tt
 built Strip known valid = tt
 built Annulus known valid = tt
 built (Empty frame) known valid = tt

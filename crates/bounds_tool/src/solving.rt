@@ -15,7 +15,7 @@ use min_ball::{circle, sphere};
 use min_rectangle::rectangle;
 use optimality::answer::passing_answers_are_best;
 use p_centres::centres;
-use parallelogram_strip::strip;
+use parallelogram_strip::{parallelogram, strip};
 use polytope_distance::distance;
 use std::alloc::Global;
 use std::sync::ledger::Ledger;
@@ -42,6 +42,9 @@ pub fn solve<L: Ledger>(
         (Ask::Sphere, Sets::Space(cloud)) => Ok(Answer::Sphere(sphere(cloud).answer())),
         (Ask::Rectangle, Sets::Plane(cloud)) => {
             Ok(Answer::Rectangle(rectangle(alloc, cloud, steps)?))
+        }
+        (Ask::Parallelogram, Sets::Plane(cloud)) => {
+            Ok(Answer::Parallelogram(parallelogram(alloc, cloud, steps)?))
         }
         (Ask::Strip, Sets::Plane(cloud)) => Ok(Answer::Strip(strip(alloc, cloud, steps)?)),
         (Ask::Annulus, Sets::Plane(cloud)) => Ok(Answer::Annulus(annulus(cloud))),

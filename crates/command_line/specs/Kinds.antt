@@ -10,7 +10,7 @@ use Rattle.command_line.specs.declared.kind.Kind.TheVariants.{Circle, Sphere, Re
 -- the kinds that are answered, each with its word
 abbrev pub known_kinds : List (List ℕ × Kind)
 known_kinds =
-    (codes "circle", Circle) ∷ (codes "sphere", Sphere) ∷ (codes "rectangle", Rectangle) ∷ (codes "strip", Strip) ∷ (codes "annulus", Annulus)
+    (codes "circle", Circle) ∷ (codes "sphere", Sphere) ∷ (codes "rectangle", Rectangle) ∷ (codes "parallelogram", Parallelogram) ∷ (codes "strip", Strip) ∷ (codes "annulus", Annulus)
     ∷ (codes "empty", Empty) ∷ (codes "distance", Distance) ∷ (codes "centres", Centres) ∷ []
 
 -- the kind that a word names

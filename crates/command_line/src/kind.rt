@@ -27,6 +27,7 @@ pub(crate) fn kind_named(word: &str) -> Option<Kind>
         "circle" => Some(Kind::Circle),
         "sphere" => Some(Kind::Sphere),
         "rectangle" => Some(Kind::Rectangle),
+        "parallelogram" => Some(Kind::Parallelogram),
         "strip" => Some(Kind::Strip),
         "annulus" => Some(Kind::Annulus),
         "empty" => Some(Kind::Empty),

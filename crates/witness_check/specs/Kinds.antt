@@ -1,13 +1,14 @@
 -- The kinds that are checked.
 use Rattle.std.specs.Prelude.{⊤, ◌≤◌}
 use Rattle.bounded_coords.specs.declared.ask.Ask.{Ask}
-use Rattle.bounded_coords.specs.declared.ask.Ask.TheVariants.{Circle, Sphere, Rectangle, Strip, Annulus, Empty, Distance, Centres}
+use Rattle.bounded_coords.specs.declared.ask.Ask.TheVariants.{Circle, Sphere, Rectangle, Parallelogram, Strip, Annulus, Empty, Distance, Centres}
 
 -- the kind is checked, and the question valid
 abbrev pub IsBuilt : Ask → Type 0
 IsBuilt Circle = ⊤
 IsBuilt Sphere = ⊤
 IsBuilt Rectangle = ⊤
+IsBuilt Parallelogram = ⊤
 IsBuilt Strip = ⊤
 IsBuilt Annulus = ⊤
 IsBuilt (Empty frame) = ⊤

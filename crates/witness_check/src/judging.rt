@@ -12,7 +12,7 @@ use bounded_coords::{Ask, OutOfMemory, Sets};
 use centres_check::check_centres;
 use distance_check::check_distance;
 use empty_check::check_empty;
-use fan_checks::{check_rectangle, check_strip};
+use fan_checks::{check_parallelogram, check_rectangle, check_strip};
 use optimality::answer::passing_answers_are_best;
 use std::alloc::Global;
 
@@ -28,6 +28,9 @@ pub fn check(alloc: Global, ask: &Ask, sets: Sets<'_>, answer: &Answer) -> Resul
         (Ask::Circle, Sets::Plane(cloud), Answer::Circle(a)) => Ok(check_circle(cloud, a)),
         (Ask::Sphere, Sets::Space(cloud), Answer::Sphere(a)) => Ok(check_sphere(cloud, a)),
         (Ask::Rectangle, Sets::Plane(cloud), Answer::Rectangle(a)) => Ok(check_rectangle(cloud, a)),
+        (Ask::Parallelogram, Sets::Plane(cloud), Answer::Parallelogram(a)) => {
+            Ok(check_parallelogram(cloud, a))
+        }
         (Ask::Strip, Sets::Plane(cloud), Answer::Strip(a)) => Ok(check_strip(cloud, a)),
         (Ask::Annulus, Sets::Plane(cloud), Answer::Annulus(a)) => Ok(check_annulus(cloud, a)),
         (Ask::Empty(frame), Sets::Plane(cloud), Answer::Empty(a)) => {

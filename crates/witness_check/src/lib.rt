@@ -13,5 +13,5 @@ pub use ball_check::{check_circle, check_sphere};
 pub use centres_check::check_centres;
 pub use distance_check::check_distance;
 pub use empty_check::check_empty;
-pub use fan_checks::{check_rectangle, check_strip};
+pub use fan_checks::{check_parallelogram, check_rectangle, check_strip};
 pub use judging::check;

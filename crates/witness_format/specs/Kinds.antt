@@ -18,6 +18,7 @@ known =
     Circle
     ∷ Sphere
     ∷ Rectangle
+    ∷ Parallelogram
     ∷ Strip
     ∷ Annulus
     ∷ Empty

@@ -27,6 +27,7 @@ pub(crate) fn kind_of(name: &[u8]) -> Option<AnswerKind>
         b"circle" => Some(AnswerKind::Circle),
         b"sphere" => Some(AnswerKind::Sphere),
         b"rectangle" => Some(AnswerKind::Rectangle),
+        b"parallelogram" => Some(AnswerKind::Parallelogram),
         b"strip" => Some(AnswerKind::Strip),
         b"annulus" => Some(AnswerKind::Annulus),
         b"empty" => Some(AnswerKind::Empty),

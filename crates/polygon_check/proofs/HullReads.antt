@@ -1,0 +1,115 @@
+-- Corners that are read by their numbers, and what tests of them show.
+use Rattle.std.proofs.Common.{◌≡◌, ◌≢◌, refl, sym, subst, ap, ◌∙◌, ◌↔◌, ℕ, zero, suc, ◌+◌, ◌<◌, ◌≤◌, ◌%◌, ◌⊎◌, inl, inr, arith, ℤ, pos, ◌-ℤ◌, ◌*ℤ◌, ◌≤ℤ◌, ◌<ℤ◌, List, [], ◌∷◌, length, map, IsTrue, Bool}
+use Rattle.std.specs.Prelude.{slice_index_or, All, Contains}
+use Rattle.std.proofs.Math.Nat.{mod-eq_of_lt}
+use Rattle.std.proofs.lemmas.List.{get_or-map, length-map}
+use Rattle.std.proofs.lemmas.List.Elements.{Contains-get_or}
+use Rattle.integers.proofs.Identities.{den-ring, read, polys}
+use Rattle.bounds_model.specs.Plane.{PlanePoint, point_at, origin, vector, cross, turn, IsBefore, IsLeastPoint}
+use Rattle.bounds_model.specs.Hull.{around}
+use Rattle.bounds_model.specs.CornerTest.{CornersPass, FirstIsOnce, HoldAll}
+use Rattle.polygon_check.specs.HullTests.{IsEdgeAt}
+
+-- a number below the next one of i is below i, or i
+pub below_or_at : (k i : ℕ) → k < i + 1 → (k < i) ⊎ (k ≡ i)
+below_or_at k i h = grind arith
+
+-- the corner at a position is the point of the number there
+pub numbered_corner : (points : List PlanePoint) (numbers : List ℕ) (i : ℕ) → i < length numbers → point_at (map (point_at points) numbers) i ≡ point_at points (slice_index_or numbers i 0)
+numbered_corner points numbers i below = get_or-map (point_at points) numbers i 0 origin below
+
+-- a corner around the circle, by its position
+pub corner_around : (points : List PlanePoint) (numbers : List ℕ) (j : ℕ) → point_at (map (point_at points) numbers) (j % length numbers) ≡ around (map (point_at points) numbers) j
+corner_around points numbers j = ap (λ n. point_at (map (point_at points) numbers) (j % n)) (sym (length-map numbers (point_at points)))
+
+pub corner_itself : (points : List PlanePoint) (numbers : List ℕ) (j : ℕ) → j < length numbers → point_at (map (point_at points) numbers) j ≡ around (map (point_at points) numbers) j
+corner_itself points numbers j below = ap (point_at (map (point_at points) numbers)) (sym (mod-eq_of_lt below)) ∙ corner_around points numbers j
+
+-- the first corner stands once where no later position has it
+pub once_from : (corners : List PlanePoint) → 1 ≤ length corners → ((k : ℕ) → 1 ≤ k → k < length corners → point_at corners k ≢ point_at corners 0) → FirstIsOnce corners
+once_from [] some h = absurd (omega arith)
+once_from (a ∷ rest) some h = λ k d low. subst (λ c. c ≢ a) (any rest k origin d low) (h (suc k) (omega arith) (after low))
+  where
+    after : {k n : ℕ} → k < n → suc k < suc n
+    after h = omega arith
+
+    any : (xs : List PlanePoint) (k : ℕ) (d e : PlanePoint) → k < length xs → slice_index_or xs k d ≡ slice_index_or xs k e
+    any [] k d e low = absurd (omega arith)
+    any (x ∷ xs) zero d e low = refl
+    any (x ∷ xs) (suc k) d e low = any xs k d e (omega arith)
+
+pub once_at : (corners : List PlanePoint) → FirstIsOnce corners → (k : ℕ) → 1 ≤ k → k < length corners → point_at corners k ≢ point_at corners 0
+once_at [] h k some low = absurd h
+once_at (a ∷ rest) h zero some low = absurd (omega arith)
+once_at (a ∷ rest) h (suc k) some low = h k origin (omega arith)
+
+-- an edge, by the points that are read
+pub edge_if : {yes : Bool} (points corners : List PlanePoint) (i : ℕ) (a b c : PlanePoint) → a ≡ around corners i → b ≡ around corners (i + 1) → c ≡ around corners (i + 2) → pos 0 <ℤ turn a b c
+    → (IsTrue yes ↔ All (λ p. pos 0 ≤ℤ turn a b p) points) → IsTrue yes ↔ IsEdgeAt points corners i
+edge_if {yes} points corners i a b c e f g turns left =
+    let turns_there = subst (λ q. pos 0 <ℤ turn (around corners i) (around corners (i + 1)) q) g (subst (λ q. pos 0 <ℤ turn (around corners i) q c) f (subst (λ q. pos 0 <ℤ turn q b c) e turns)) in
+    let left_there = subst (λ q. IsTrue yes ↔ All (λ p. pos 0 ≤ℤ turn (around corners i) q p) points) f (subst (λ q. IsTrue yes ↔ All (λ p. pos 0 ≤ℤ turn q b p) points) e left) in
+    (λ t. record { turns = turns_there; left = left_there.0 t }, λ h. left_there.1 h.left)
+
+pub edge_turns : (points corners : List PlanePoint) (i : ℕ) (a b c : PlanePoint) → a ≡ around corners i → b ≡ around corners (i + 1) → c ≡ around corners (i + 2) → IsEdgeAt points corners i → pos 0 <ℤ turn a b c
+edge_turns points corners i a b c e f g h = subst (λ q. pos 0 <ℤ turn q b c) (sym e) (subst (λ q. pos 0 <ℤ turn (around corners i) q c) (sym f) (subst (λ q. pos 0 <ℤ turn (around corners i) (around corners (i + 1)) q) (sym g) h.turns))
+
+-- a left turn, from the corner or from the edge before it
+turn_along : (a b c : PlanePoint) → turn a b c ≡ cross (vector a b) (vector b c)
+turn_along a b c = identity a.x a.y b.x b.y c.x c.y
+  where
+    identity : (p q r s t u : ℤ) → (r -ℤ p) *ℤ (u -ℤ q) -ℤ (s -ℤ q) *ℤ (t -ℤ p) ≡ (r -ℤ p) *ℤ (u -ℤ s) -ℤ (s -ℤ q) *ℤ (t -ℤ r)
+    identity p q r s t u = read (p ∷ q ∷ r ∷ s ∷ t ∷ u ∷ []) (λ xs a b c d e f. simp (a, b, c, d, e, f, polys) (den-ring xs _ _ tt))
+
+-- what one corner, two and more hold
+pub hold_one : (points corners : List PlanePoint) (a : PlanePoint) → length corners ≡ 1 → a ≡ point_at corners 0 → All (λ p. p ≡ a) points ↔ HoldAll points corners
+hold_one points [] a one e = absurd (omega (arith, one))
+hold_one points (b ∷ []) a one e = (subst (λ q. All (λ p. p ≡ q) points) e, subst (λ q. All (λ p. p ≡ q) points) (sym e))
+hold_one points (b ∷ c ∷ rest) a one e = absurd (omega (arith, one))
+
+pub hold_two : (points corners : List PlanePoint) (a b : PlanePoint) → length corners ≡ 2 → a ≡ point_at corners 0 → b ≡ point_at corners 1 → Contains points b
+    → (All (λ p. IsBefore p b) points × All (λ p. turn a b p ≡ pos 0) points) ↔ HoldAll points corners
+hold_two points [] a b two e f listed = absurd (omega (arith, two))
+hold_two points (p ∷ []) a b two e f listed = absurd (omega (arith, two))
+hold_two points (p ∷ q ∷ []) a b two e f listed = (
+  λ h. record {
+    to_greatest = record { listed = subst (Contains points) f listed; greatest = subst (λ z. All (λ x. IsBefore x z) points) f h.0 };
+    on_line = subst (λ z. All (λ x. turn p z x ≡ pos 0) points) f (subst (λ z. All (λ x. turn z b x ≡ pos 0) points) e h.1);
+  },
+  λ h. (subst (λ z. All (λ x. IsBefore x z) points) (sym f) h.to_greatest.greatest, subst (λ z. All (λ x. turn z b x ≡ pos 0) points) (sym e) (subst (λ z. All (λ x. turn p z x ≡ pos 0) points) (sym f) h.on_line)),
+)
+hold_two points (p ∷ q ∷ r ∷ rest) a b two e f listed = absurd (omega (arith, two))
+
+pub hold_ring : (points corners : List PlanePoint) (n : ℕ) → n ≡ length corners → 3 ≤ n → ((i : ℕ) → i < n → IsEdgeAt points corners i) ↔ HoldAll points corners
+hold_ring points [] n is three = absurd (omega (arith, is, three))
+hold_ring points (a ∷ []) n is three = absurd (omega (arith, is, three))
+hold_ring points (a ∷ b ∷ []) n is three = absurd (omega (arith, is, three))
+hold_ring points (a ∷ b ∷ c ∷ rest) n is three = (
+  λ h. record {
+    left_turns = λ i low. subst (λ z. pos 0 <ℤ z) (turn_along (around (a ∷ b ∷ c ∷ rest) i) (around (a ∷ b ∷ c ∷ rest) (i + 1)) (around (a ∷ b ∷ c ∷ rest) (i + 2))) (h i (subst (λ m. i < m) (sym is) low)).turns;
+    all_left = λ i low. (h i (subst (λ m. i < m) (sym is) low)).left;
+  },
+  λ h i low. record {
+    turns = subst (λ z. pos 0 <ℤ z) (sym (turn_along (around (a ∷ b ∷ c ∷ rest) i) (around (a ∷ b ∷ c ∷ rest) (i + 1)) (around (a ∷ b ∷ c ∷ rest) (i + 2)))) (h.left_turns i (subst (λ m. i < m) is low));
+    left = h.all_left i (subst (λ m. i < m) is low);
+  },
+)
+
+-- the first corner is the least point where it is before all
+pub least_is : (points : List PlanePoint) (numbers : List ℕ) (a : PlanePoint) → 1 ≤ length numbers → All (λ n. n < length points) numbers → a ≡ point_at (map (point_at points) numbers) 0 → All (IsBefore a) points → IsLeastPoint points (around (map (point_at points) numbers) 0)
+least_is points numbers a some below e least = record {
+  listed = subst (Contains points) (sym (numbered_corner points numbers 0 (omega arith)) ∙ corner_itself points numbers 0 (omega arith)) (Contains-get_or points (slice_index_or numbers 0 0) origin (below 0 0 (omega arith)));
+  least = subst (λ q. All (IsBefore q) points) (e ∙ corner_itself points numbers 0 (omega arith)) least;
+}
+
+-- each corner is one of the points
+pub corner_listed : (points : List PlanePoint) (numbers : List ℕ) (i : ℕ) → i < length numbers → All (λ n. n < length points) numbers → Contains points (point_at (map (point_at points) numbers) i)
+corner_listed points numbers i low below = subst (Contains points) (sym (numbered_corner points numbers i low)) (Contains-get_or points (slice_index_or numbers i 0) origin (below i 0 low))
+
+-- all positions up to the next
+pub edges_more : (P : ℕ → Type 0) (i : ℕ) → ((k : ℕ) → k < i → P k) → P i → (k : ℕ) → k < i + 1 → P k
+edges_more P i before here k low = elim (below_or_at k i low) [ inl less ↦ before k less | inr same ↦ subst P (sym same) here ]
+
+-- what is left to ask of corners that begin with the least point, which stands once
+pub pass_if : {yes : Bool} (points corners : List PlanePoint) → IsLeastPoint points (around corners 0) → FirstIsOnce corners → (IsTrue yes ↔ HoldAll points corners) → IsTrue yes ↔ CornersPass points corners
+pass_if points corners least once h = (λ t. record { from_least = least; once = once; hold = h.0 t }, λ p. h.1 p.hold)

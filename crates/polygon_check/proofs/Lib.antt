@@ -1,0 +1,4 @@
+pub mod Areas
+pub mod HullReads
+pub mod PassingPolygons
+pub mod PotentialPlaces

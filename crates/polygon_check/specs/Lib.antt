@@ -1,0 +1,2 @@
+pub mod HullTests
+pub mod PolygonLimits

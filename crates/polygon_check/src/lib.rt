@@ -1,0 +1,15 @@
+//! The checker of polygons: it looks at the points and the answer alone, and says yes exactly where the corners listed go once around all
+//! points, the chosen ones have the printed area, and the potentials show that no polygon of so few corners has more.
+//!
+//! - `polygons`: the checker
+//! - `potentials`: that each further triangle raises the potentials
+//! - `hulls`: lists of corners that go once around all points
+#![tactic(auto)]
+
+mod hulls;
+mod polygons;
+mod potentials;
+#[cfg(test)]
+mod tests;
+
+pub use polygons::check_kgon;
