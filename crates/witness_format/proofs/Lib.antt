@@ -13,3 +13,4 @@ pub mod RowReadings
 pub mod ChordLines
 pub mod RowTexts
 pub mod Polygons
+pub mod Names

@@ -1,5 +1,5 @@
 -- The kinds of answers, those that are read, and how an answer of a kind is read behind its first line.
-use Rattle.std.specs.Prelude.{ℕ, Bool, false, true, ◌||◌, nat_lt, List, [], ◌∷◌, map, Contains, find, is_some, Option, Some, None, Result, Ok, Err}
+use Rattle.std.specs.Prelude.{ℕ, Bool, false, true, ◌||◌, nat_lt, List, [], ◌∷◌, ◌++◌, map, Contains, find, is_some, Option, Some, None, Result, Ok, Err}
 use Rattle.bounds_model.specs.Fractions.{Fraction}
 use Rattle.bounds_model.specs.Answers.{Answer, circle, sphere, rectangle, parallelogram, strip, annulus, empty, kgon, distance, centres}
 use Rattle.bounds_model.specs.AnswerText.Formats.{Refusal, bad_answer, ◌>>=◌, Unread, line_at, Part, line, counted, count, rows, body_at}
@@ -12,19 +12,28 @@ use Rattle.witness_format.specs.Judging.{said}
 
 -- ---- the kinds that are read
 
--- the kinds whose texts are read
-abbrev pub known : List AnswerKind
-known =
+-- the kinds of one object around all points
+abbrev pub enclosing : List AnswerKind
+enclosing =
     Circle
     ∷ Sphere
     ∷ Rectangle
     ∷ Parallelogram
     ∷ Strip
     ∷ Annulus
-    ∷ Empty
+    ∷ []
+
+-- the other kinds whose texts are read
+abbrev pub others : List AnswerKind
+others =
+    Empty
     ∷ Distance
     ∷ Centres
     ∷ []
+
+-- the kinds whose texts are read
+abbrev pub known : List AnswerKind
+known = enclosing ++ others
 
 -- the format of a kind
 abbrev pub format_of : AnswerKind → Kind

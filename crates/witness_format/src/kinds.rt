@@ -1,7 +1,7 @@
 //! The kinds of answers by their names.
-ghost use Rattle.std.specs.Prelude.{find};
+ghost use Rattle.std.specs.Prelude.{find, map};
 ghost use Rattle.std.specs.Str.{bytes_eq};
-ghost use Rattle.witness_format.specs.Kinds.{format_of, known_kinds};
+ghost use Rattle.witness_format.specs.Kinds.{enclosing, format_of, known_kinds, others};
 ghost use Rattle.witness_format.specs.Outcomes.{Finds};
 
 /// A kind of answers.
@@ -23,16 +23,44 @@ pub(crate) enum AnswerKind {
 pub(crate) fn kind_of(name: &[u8]) -> Option<AnswerKind>
     ensures { Finds format_of result (find (λ kind. bytes_eq kind.name name.now) known_kinds) }
 {
-    match name {
-        b"circle" => Some(AnswerKind::Circle),
-        b"sphere" => Some(AnswerKind::Sphere),
-        b"rectangle" => Some(AnswerKind::Rectangle),
-        b"parallelogram" => Some(AnswerKind::Parallelogram),
-        b"strip" => Some(AnswerKind::Strip),
-        b"annulus" => Some(AnswerKind::Annulus),
-        b"empty" => Some(AnswerKind::Empty),
-        b"distance" => Some(AnswerKind::Distance),
-        b"centres" => Some(AnswerKind::Centres),
-        _ => None,
+    match enclosing_kind(name) {
+        Some(kind) => Some(kind),
+        None => other_kind(name),
+    }
+}
+
+/// The kind of this name, among those of one object around all points.
+fn enclosing_kind(name: &[u8]) -> Option<AnswerKind>
+    ensures { Finds format_of result (find (λ kind. bytes_eq kind.name name.now) (map format_of enclosing)) }
+{
+    if name == b"circle".as_slice() {
+        Some(AnswerKind::Circle)
+    } else if name == b"sphere".as_slice() {
+        Some(AnswerKind::Sphere)
+    } else if name == b"rectangle".as_slice() {
+        Some(AnswerKind::Rectangle)
+    } else if name == b"parallelogram".as_slice() {
+        Some(AnswerKind::Parallelogram)
+    } else if name == b"strip".as_slice() {
+        Some(AnswerKind::Strip)
+    } else if name == b"annulus".as_slice() {
+        Some(AnswerKind::Annulus)
+    } else {
+        None
+    }
+}
+
+/// The kind of this name, among the others that are read.
+fn other_kind(name: &[u8]) -> Option<AnswerKind>
+    ensures { Finds format_of result (find (λ kind. bytes_eq kind.name name.now) (map format_of others)) }
+{
+    if name == b"empty".as_slice() {
+        Some(AnswerKind::Empty)
+    } else if name == b"distance".as_slice() {
+        Some(AnswerKind::Distance)
+    } else if name == b"centres".as_slice() {
+        Some(AnswerKind::Centres)
+    } else {
+        None
     }
 }
