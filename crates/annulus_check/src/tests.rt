@@ -5,6 +5,25 @@ use arrayvec::ArrayVec;
 use bounded_coords::{Cloud2, Point2};
 use exact_fractions::{Frac, Homog2};
 
+/// An answer on annuli: the size, the centre, the squared radii and the pairs.
+#[derive(Clone, Copy)]
+struct AnnulusRow {
+    size: (u128, u128),
+    center: (i128, i128, i128),
+    inner: (u128, u128),
+    outer: (u128, u128),
+    pairs: &'static [(u32, u32, u128)],
+}
+
+/// The answer on (0, 0), (2, 0), (0, 2) and (2, 3).
+const WORKED: AnnulusRow = AnnulusRow {
+    size: (6, 5),
+    center: (13, 13, 10),
+    inner: (109, 50),
+    outer: (169, 50),
+    pairs: &[(0, 2, 3), (3, 1, 2)],
+};
+
 #[test]
 fn annuli(rt: HostRuntime) {
     let points = [(0, 0), (2, 0), (0, 2), (2, 3)].map(|(x, y)| Point2::new(x, y).expect(
@@ -72,29 +91,25 @@ fn annuli(rt: HostRuntime) {
 fn annuli_at_the_limits(rt: HostRuntime) {
     let points = [Point2::new(0, 0).expect(&rt, "in bounds")];
     let cloud = Cloud2::from_slice(&points).expect(&rt, "a point");
-    for (x, w, weight, yes) in [
-        (1, 1 << 42, 1, true),
-        (1, (1 << 42) + 1, 1, false),
-        (1 << 58, 1, 1, true),
-        ((1 << 58) + 1, 1, 1, false),
-        (0, 1, 1 << 42, true),
-        (0, 1, (1 << 42) + 1, false),
-    ] {
+    let table: [(i128, i128, &'static [(u32, u32, u128)], bool); 6] = [
+        (1, 1 << 42, &[(0, 0, 1)], true),
+        (1, (1 << 42) + 1, &[(0, 0, 1)], false),
+        (1 << 58, 1, &[(0, 0, 1)], true),
+        ((1 << 58) + 1, 1, &[(0, 0, 1)], false),
+        (0, 1, &[(0, 0, 1 << 42)], true),
+        (0, 1, &[(0, 0, (1 << 42) + 1)], false),
+    ];
+    for (x, w, pairs, yes) in table {
         let radius = (square(x), square(w));
-        let mut a = annulus_answer(AnnulusRow {
+        let row = AnnulusRow {
             size: (0, 1),
             center: (x, 0, w),
             inner: radius,
             outer: radius,
-            pairs: &[],
-        })
-        .expect(&rt, "an answer");
-        let _ = a.pairs.try_push(WeightedPair {
-            first: 0,
-            second: 0,
-            weight,
-        });
-        assert_eq!(rt; check_annulus(cloud, &a), yes, "{x} {w} {weight}");
+            pairs,
+        };
+        let a = annulus_answer(row).expect(&rt, "an answer");
+        assert_eq!(rt; check_annulus(cloud, &a), yes, "{x} {w} {pairs:?}");
     }
 }
 
