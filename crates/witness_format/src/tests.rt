@@ -108,7 +108,9 @@ fn numbers_of_a_sphere(rt: HostRuntime) {
     let text =
         b"answer 1 sphere\nsize 3/4\ncenter 1 -2 3 4\nsupports 2\n7 18446744073709551617\n0 2\nend\n";
     match read(rt.alloc(), text) {
-        Ok(answer) => assert!(rt; sphere_supports(&answer) == Some([(7, 18446744073709551617), (0, 2)])),
+        Ok(answer) => assert!(rt;
+            sphere_supports(&answer) == Some([(7, 18446744073709551617), (0, 2)])
+        ),
         Err(fault) => panic!(rt; "refused: {fault:?}"),
     }
 }
