@@ -6,12 +6,14 @@
 //! - `steps`: the counter of accesses
 //! - `frame`: boxes for the empty rectangle
 //! - `ask`: what is asked, and of which point sets
+//! - `laws`: the order of points
 //! - `memory`: want of memory, as every crate reports it
 #![tactic(auto)]
 
 mod ask;
 mod cloud;
 mod frame;
+pub mod laws;
 mod memory;
 mod point;
 mod points;
