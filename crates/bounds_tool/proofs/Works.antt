@@ -8,6 +8,7 @@ use Rattle.bounds_model.specs.Answers.{IsOptimum, size_of}
 use Rattle.bounds_model.specs.AnswerText.SpelledParts.{size_line}
 use Rattle.point_text.specs.declared.text.Form.{Form}
 use Rattle.command_line.specs.Words.{solve_task, check_task}
+use Rattle.bounds_tool.specs.Solving.{AreTooMany}
 use Rattle.bounds_tool.specs.Judging.{Work, solving, sizing, checking, wanted, ◌>>=◌, points_in, answer_in, work_of}
 use Rattle.bounds_tool.specs.Outputs as outputs
 use Rattle.bounds_tool.specs.Outputs.{IsSolution, IsSize, IsDone, IsMeantAs}
@@ -16,20 +17,20 @@ use Rattle.bounds_tool.specs.declared.output.Output.TheVariants.{Verdict}
 -- the text of an answer that passes is the output of a solving task
 pub solved : (told : Option Folder) (ask : Ask) (form : Form) (file : List ℕ) (sets : Sets) (answer : Answer) (text : List ℕ)
     → IfSome told (λ folder. points_in ask (bytes_of folder file) ≡ Ok sets)
-    → Passes ask sets answer → IsBest ask sets answer → Spells text answer
+    → Passes ask sets answer → IsBest ask sets answer → ¬ AreTooMany ask sets → Spells text answer
     → IfSome told (λ folder. (work : Work) × (work_of folder (solve_task ask form false file) ≡ Ok work) × IsDone work text)
-solved None ask form file sets answer text points passes best spells = tt
-solved (Some folder) ask form file sets answer text points passes best spells =
-    (solving ask sets, ap (λ r. r >>= λ sets. Ok (wanted false ask sets)) points, record { answer = answer; spells = spells; passes = passes; best = best })
+solved None ask form file sets answer text points passes best taken spells = tt
+solved (Some folder) ask form file sets answer text points passes best taken spells =
+    (solving ask sets, ap (λ r. r >>= λ sets. Ok (wanted false ask sets)) points, record { answer = answer; spells = spells; passes = passes; best = best; taken = taken })
 
 -- the line of the size of a best answer is the output of a task that asks for it alone
 pub sized : (told : Option Folder) (ask : Ask) (form : Form) (file : List ℕ) (sets : Sets) (answer : Answer) (text : List ℕ)
     → IfSome told (λ folder. points_in ask (bytes_of folder file) ≡ Ok sets)
-    → IsBest ask sets answer → text ≡ size_line (size_of answer)
+    → IsBest ask sets answer → ¬ AreTooMany ask sets → text ≡ size_line (size_of answer)
     → IfSome told (λ folder. (work : Work) × (work_of folder (solve_task ask form true file) ≡ Ok work) × IsDone work text)
-sized None ask form file sets answer text points best line = tt
-sized (Some folder) ask form file sets answer text points best line =
-    (sizing ask sets, ap (λ r. r >>= λ sets. Ok (wanted true ask sets)) points, record { size = size_of answer; optimum = record { answer = answer; best = best; printed = refl }; line = line })
+sized None ask form file sets answer text points best taken line = tt
+sized (Some folder) ask form file sets answer text points best taken line =
+    (sizing ask sets, ap (λ r. r >>= λ sets. Ok (wanted true ask sets)) points, record { size = size_of answer; optimum = record { answer = answer; best = best; printed = refl }; taken = taken; line = line })
 
 -- where both files are accepted, the answer is to be judged
 check_work : (folder : Folder) (ask : Ask) (form : Form) (points answer : List ℕ) (sets : Sets) (a : Answer) → points_in ask (bytes_of folder points) ≡ Ok sets → answer_in (bytes_of folder answer) ≡ Ok a

@@ -1,10 +1,11 @@
 -- Why a run gives no whole output, in the words of the model.
 use Rattle.bounds_model.specs.ErrorLines as model
 use Rattle.command_line.specs.Faults.{meant_fault}
+use Rattle.extremal_kgon.specs.declared.polygon.KgonFault as kgon
 use Rattle.bounds_tool.specs.declared.cause.InputFile.{InputFile}
 use Rattle.bounds_tool.specs.declared.cause.InputFile.TheVariants.{Points, Answer}
 use Rattle.bounds_tool.specs.declared.cause.Cause.{Cause}
-use Rattle.bounds_tool.specs.declared.cause.Cause.TheVariants.{Usage, NotOpened, NotRead, TooLong, BadLine, OutOfRange, TooMany, NoPoints, WrongSets, BadAnswer, BigNumber, OutputNotWritten, OutOfMemory}
+use Rattle.bounds_tool.specs.declared.cause.Cause.TheVariants.{Usage, NotOpened, NotRead, TooLong, BadLine, OutOfRange, TooMany, NoPoints, WrongSets, TooManyCorners, BadAnswer, BigNumber, OutputNotWritten, OutOfMemory}
 
 -- the file
 abbrev pub meant_file : InputFile → model.InputFile
@@ -22,7 +23,13 @@ meant (OutOfRange line) = model.out_of_range line
 meant (TooMany line) = model.too_many_points line
 meant (NoPoints set) = model.no_points set
 meant (WrongSets count) = model.wrong_sets count
+meant (TooManyCorners count) = model.too_many_corners count
 meant (BadAnswer line) = model.bad_answer line
 meant (BigNumber line) = model.big_number line
 meant OutputNotWritten = model.write_fault
 meant OutOfMemory = model.out_of_memory
+
+-- the cause of a question without an answer
+abbrev pub unsolved : kgon.KgonFault → Cause
+unsolved (kgon.TheVariants.TooManyCorners count) = TooManyCorners count
+unsolved kgon.TheVariants.OutOfMemory = OutOfMemory

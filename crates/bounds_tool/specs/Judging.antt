@@ -7,10 +7,9 @@ use Rattle.bounds_model.specs.Answers.{Answer}
 use Rattle.bounds_model.specs.PointText as text
 use Rattle.bounds_model.specs.PointText.{sets_of_text}
 use Rattle.bounds_model.specs.AnswerText.Formats as format
-use Rattle.bounds_model.specs.AnswerText.Reading.{reading_of}
+use Rattle.bounds_model.specs.AnswerText.Reading.{reading}
 use Rattle.bounds_model.specs.Demo.{demo_sets}
 use Rattle.bounds_model.specs.ErrorLines.{Cause, InputFile, points_file, answer_file, too_long, bad_line, out_of_range, too_many_points, no_points, wrong_sets, bad_answer, big_number}
-use Rattle.witness_format.specs.Kinds.{known_kinds}
 use Rattle.bnd_io.specs.Files.{Folder, bytes_of}
 use Rattle.command_line.specs.Words.{Task, solve_task, check_task, demo_task, task_of}
 
@@ -67,7 +66,7 @@ points_in ask bytes = do
 abbrev pub answer_in : List ℕ → Result Answer Cause
 answer_in bytes = do
   whole ← bytes_within answer_file bytes
-  read_answer (reading_of known_kinds whole)
+  read_answer (reading whole)
 
 -- the answer is wanted, or its size alone
 abbrev pub wanted : Bool → Ask → Sets → Work

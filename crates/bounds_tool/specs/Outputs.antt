@@ -5,23 +5,26 @@ use Rattle.bounds_model.specs.Asks.{Ask, Sets}
 use Rattle.bounds_model.specs.Answers.{Answer, Passes, IsBest, IsOptimum}
 use Rattle.bounds_model.specs.AnswerText.SpelledParts.{size_line}
 use Rattle.bounds_model.specs.AnswerText.Spelling.{Spells}
+use Rattle.bounds_tool.specs.Solving.{AreTooMany}
 use Rattle.bounds_tool.specs.Judging.{Work, solving, sizing, checking, demonstrating}
 use Rattle.bounds_tool.specs.declared.output.Output.{Output}
 use Rattle.bounds_tool.specs.declared.output.Output.TheVariants.{Solution, Size, Verdict, Demonstration}
 use Rattle.bounds_tool.specs.declared.status.Status.{Status}
 use Rattle.bounds_tool.specs.declared.status.Status.TheVariants.{Done, No}
 
--- the bytes spell an answer that passes the checker, and no object of the kind that fits the points is better
+-- the bytes spell an answer that passes the checker, no object of the kind that fits the points is better, and a polygon is asked of a hull of at most 128 corners
 pub record IsSolution (ask : Ask) (sets : Sets) (bytes : List ℕ) : Type 0 where
   pub answer : Answer
   pub spells : Spells bytes answer
   pub passes : Passes ask sets answer
   pub best : IsBest ask sets answer
+  pub taken : ¬ AreTooMany ask sets
 
--- the line of the size of a best answer in lowest terms
+-- the line of the size of a best answer in lowest terms, for a hull that is taken
 pub record IsSize (ask : Ask) (sets : Sets) (bytes : List ℕ) : Type 0 where
   pub size : Fraction
   pub optimum : IsOptimum ask sets size
+  pub taken : ¬ AreTooMany ask sets
   pub line : bytes ≡ size_line size
 
 -- the answer passes the checker, and no object of the kind that fits the points is better than its object
@@ -39,10 +42,11 @@ pub record IsNo (ask : Ask) (sets : Sets) (answer : Answer) (bytes : List ℕ) :
 abbrev pub made_line : ℕ → List ℕ
 made_line count = codes "made " ++ (decimal count ++ codes "\n")
 
--- that line, and the size of a best answer in lowest terms
+-- that line, and the size of a best answer in lowest terms, for a hull that is taken
 pub record IsDemonstration (ask : Ask) (count : ℕ) (sets : Sets) (bytes : List ℕ) : Type 0 where
   pub size : Fraction
   pub optimum : IsOptimum ask sets size
+  pub taken : ¬ AreTooMany ask sets
   pub lines : bytes ≡ made_line count ++ size_line size
 
 -- what is written where the work is done and an answer that was to be judged passes

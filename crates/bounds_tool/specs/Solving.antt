@@ -2,7 +2,12 @@
 use Rattle.std.specs.Prelude.{⊤, ℕ, ◌+◌, length}
 use Rattle.bounded_coords.specs.declared.ask.Ask.{Ask}
 use Rattle.bounded_coords.specs.declared.ask.Ask.TheVariants.{Rectangle, Parallelogram, Strip, Empty, Kgon}
-use Rattle.bounds_model.specs.Asks.{Sets, plane, space, two, bare}
+use Rattle.bounds_model.specs.Asks as model
+use Rattle.bounds_model.specs.Asks.{Sets, plane, space, two, bare, ask_kgon}
+use Rattle.bounded_coords.specs.Asked.{asked}
+use Rattle.extremal_kgon.specs.Faults.{HasTooMany}
+use Rattle.extremal_kgon.specs.declared.polygon.KgonFault.{KgonFault}
+use Rattle.extremal_kgon.specs.declared.polygon.KgonFault.TheVariants.{TooManyCorners, OutOfMemory}
 
 -- how many points there are
 abbrev pub point_count : Sets → ℕ
@@ -19,3 +24,17 @@ WantsMemory Strip = ⊤
 WantsMemory (Empty frame) = ⊤
 WantsMemory (Kgon k) = ⊤
 WantsMemory ask = ⊥
+
+-- a polygon is asked of points whose hull has so many corners, more than 128
+abbrev pub HasTooManyCorners : model.Ask → Sets → ℕ → Type 0
+HasTooManyCorners (ask_kgon k) (plane points) count = HasTooMany points count
+HasTooManyCorners ask sets count = ⊥
+
+-- a polygon is asked of points whose hull has more than 128 corners
+abbrev pub AreTooMany : model.Ask → Sets → Type 0
+AreTooMany ask sets = (count : ℕ) × HasTooManyCorners ask sets count
+
+-- why there is no answer to what is asked of these points: too many corners, with their number, or want of memory, where the kind wants any
+abbrev pub IsUnsolved : Ask → Sets → KgonFault → Type 0
+IsUnsolved ask sets (TooManyCorners count) = HasTooManyCorners (asked ask) sets count
+IsUnsolved ask sets OutOfMemory = WantsMemory ask

@@ -5,6 +5,7 @@ ghost use Rattle.bounds_tool.specs.Run.{cause_status};
 
 use crate::Status;
 use command_line::UsageFault;
+use extremal_kgon::KgonFault;
 
 /// A file that a command names.
 #[derive(Clone, Copy, Debug, PartialEq, Eq)]
@@ -36,6 +37,8 @@ pub(crate) enum Cause {
     NoPoints(u32),
     /// There are so many sets, and another number is called for.
     WrongSets(u32),
+    /// The hull has so many corners, more than a polygon is asked of.
+    TooManyCorners(u32),
     /// The line of this number in the answer file is not what an answer has there.
     BadAnswer(u32),
     /// A number on the line of this number in the answer file is past the limit.
@@ -44,6 +47,20 @@ pub(crate) enum Cause {
     OutputNotWritten,
     /// Memory was refused.
     OutOfMemory,
+}
+
+impl From<KgonFault> for Cause {
+    ghost use Rattle.std.specs.Prelude.{◌≡◌};
+    ghost use Rattle.bounds_tool.specs.Causes.{unsolved};
+
+    ghost from_gives = { λ fault cause. cause ≡ unsolved fault };
+
+    fn from(fault: KgonFault) -> Cause {
+        match fault {
+            KgonFault::TooManyCorners(count) => Cause::TooManyCorners(count),
+            KgonFault::OutOfMemory => Cause::OutOfMemory,
+        }
+    }
 }
 
 impl Cause {
@@ -61,6 +78,7 @@ impl Cause {
             | Cause::TooMany(_)
             | Cause::NoPoints(_)
             | Cause::WrongSets(_)
+            | Cause::TooManyCorners(_)
             | Cause::BadAnswer(_)
             | Cause::BigNumber(_) => Status::Input,
             Cause::OutputNotWritten => Status::Write,

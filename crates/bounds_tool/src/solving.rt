@@ -1,15 +1,15 @@
 //! The answer to what is asked.
-ghost use Rattle.std.specs.Prelude.{◌≡◌, ℕ, ◌+◌, ◌*◌, ◌≤◌, IfOk, OnErr};
-ghost use Rattle.bounds_model.specs.Asks.{Suits, ask_centres};
+ghost use Rattle.std.specs.Prelude.{◌≡◌, ℕ, ◌+◌, ◌*◌, ◌≤◌, IfOk, IfErr};
+ghost use Rattle.bounds_model.specs.Asks.{IsValid, Suits, ask_centres};
 ghost use Rattle.bounds_model.specs.Answers.{Passes, IsBest};
 ghost use Rattle.bounded_coords.specs.Asked.{asked, lent};
 ghost use Rattle.answers.specs.Answers.{answer_of};
-ghost use Rattle.witness_check.specs.Kinds.{IsBuilt};
-ghost use Rattle.bounds_tool.specs.Solving.{point_count, WantsMemory};
+ghost use Rattle.bounds_tool.specs.Solving.{point_count, AreTooMany, IsUnsolved};
 
 use answers::Answer;
-use bounded_coords::{Ask, OutOfMemory, Sets, Steps};
+use bounded_coords::{Ask, Sets, Steps};
 use empty_rectangle::largest;
+use extremal_kgon::{KgonFault, kgon};
 use min_annulus::annulus;
 use min_ball::{circle, sphere};
 use min_rectangle::rectangle;
@@ -21,19 +21,20 @@ use std::alloc::Global;
 use std::sync::ledger::Ledger;
 
 /// Answers what is asked of these points: with one object of the kind that fits them, its exact size, and a witness that
-/// passes the checker, so that no object of the kind has a better size. The only error is that memory is wanting; circle, sphere,
-/// annulus, distance and centres take none.
+/// passes the checker, so that no object of the kind has a better size. `TooManyCorners` comes exactly where a polygon is asked of
+/// points whose hull has more than 128 corners, unless memory is wanting; circle, sphere, annulus, distance and centres take none.
 pub fn solve<L: Ledger>(
     alloc: Global,
     ask: &Ask,
     sets: Sets<'_>,
     steps: &mut Steps<L>,
-) -> Result<Answer, OutOfMemory>
-    requires kind { IsBuilt ask.now }
+) -> Result<Answer, KgonFault>
+    requires valid { IsValid (asked ask.now) }
     requires suits { Suits (asked ask.now) (lent sets) }
     ensures passes { IfOk result (λ answer. Passes (asked ask.now) (lent sets.entry) (answer_of answer)) }
     ensures best { IfOk result (λ answer. IsBest (asked ask.now) (lent sets.entry) (answer_of answer)) }
-    ensures memory { OnErr result (WantsMemory ask.now) }
+    ensures taken { IfOk result (λ answer. ¬ AreTooMany (asked ask.now) (lent sets.entry)) }
+    ensures cause { IfErr result (IsUnsolved ask.now (lent sets.entry)) }
     ensures cost { (p : ℕ) → asked ask.now ≡ ask_centres p → steps.new ≤ steps.old + 1000 * point_count (lent sets.entry) }
 {
     passing_answers_are_best();
@@ -52,6 +53,7 @@ pub fn solve<L: Ledger>(
             Ok(Answer::Empty(largest(alloc, Some(cloud), *frame)?))
         }
         (Ask::Empty(frame), Sets::Bare) => Ok(Answer::Empty(largest(alloc, None, *frame)?)),
+        (Ask::Kgon(k), Sets::Plane(cloud)) => Ok(Answer::Kgon(kgon(alloc, cloud, *k)?)),
         (Ask::Distance, Sets::Two(p, q)) => Ok(Answer::Distance(distance(p, q))),
         (Ask::Centres(p), Sets::Plane(cloud)) => {
             Ok(Answer::Centres(centres(cloud.counted(), *p, steps)))

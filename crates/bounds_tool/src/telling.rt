@@ -58,6 +58,11 @@ fn line_of(cause: Cause) -> Line
         }
         Cause::NoPoints(set) => Line::Numbered(b"bounds: points: set ", set, b" has no points\n"),
         Cause::WrongSets(count) => Line::Numbered(b"bounds: points: found ", count, b" sets\n"),
+        Cause::TooManyCorners(count) => Line::Numbered(
+            b"bounds: points: ",
+            count,
+            b" corners, at most 128 are taken\n",
+        ),
         Cause::BadAnswer(line) => Line::Numbered(
             b"bounds: answer: line ",
             line,

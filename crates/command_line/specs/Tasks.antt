@@ -3,7 +3,6 @@ use Rattle.std.specs.Prelude.{◌^◌, ◌<◌, ◌≤◌, ⊤, ℕ, List}
 use Rattle.bounded_coords.specs.declared.ask.Ask.{Ask}
 use Rattle.bounded_coords.specs.Asked.{asked}
 use Rattle.bounds_model.specs.Asks.{IsValid}
-use Rattle.command_line.specs.Kinds.{IsKnown, kind_of}
 use Rattle.command_line.specs.Words as model
 use Rattle.command_line.specs.declared.task.Name.{Name}
 use Rattle.command_line.specs.declared.task.Task.{Task}
@@ -30,8 +29,7 @@ abbrev pub HasDemoCounts : Task → Type 0
 HasDemoCounts (Demo ask seed count) = (seed < 2 ^ 31) × (1 ≤ count) × (count ≤ 10000)
 HasDemoCounts task = ⊤
 
--- what a task asks is valid and of a kind that is answered, and so many points can be made
+-- what a task asks is valid, and so many points can be made
 pub record CanBeDone (task : Task) : Type 0 where
   pub valid : IsValid (asked (ask_of task))
-  pub known : IsKnown (kind_of (ask_of task))
   pub counts : HasDemoCounts task

@@ -1,6 +1,6 @@
 //! The kinds of questions by their words.
-ghost use Rattle.std.specs.Prelude.{◌≡◌, IfSome};
-ghost use Rattle.command_line.specs.Kinds.{kind_named, IsKnown};
+ghost use Rattle.std.specs.Prelude.{◌≡◌};
+ghost use Rattle.command_line.specs.Kinds.{kind_named};
 
 /// A kind of questions.
 #[derive(Clone, Copy, Debug, PartialEq, Eq)]
@@ -17,11 +17,10 @@ pub(crate) enum Kind {
     Centres,
 }
 
-/// The kind that the word names, of those that are answered.
+/// The kind that the word names.
 #[tactic(auto, unfolding(crate::specs::Kinds::kind_named))]
 pub(crate) fn kind_named(word: &str) -> Option<Kind>
-    ensures kind { result ≡ kind_named word.now }
-    ensures known { IfSome result IsKnown }
+    ensures { result ≡ kind_named word.now }
 {
     match word {
         "circle" => Some(Kind::Circle),
@@ -31,6 +30,7 @@ pub(crate) fn kind_named(word: &str) -> Option<Kind>
         "strip" => Some(Kind::Strip),
         "annulus" => Some(Kind::Annulus),
         "empty" => Some(Kind::Empty),
+        "kgon" => Some(Kind::Kgon),
         "distance" => Some(Kind::Distance),
         "centres" => Some(Kind::Centres),
         _ => None,

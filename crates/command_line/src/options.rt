@@ -5,7 +5,7 @@ ghost use Rattle.bounded_coords.specs.Asked.{asked};
 ghost use Rattle.bounds_model.specs.Asks.{IsValid};
 ghost use Rattle.command_line.specs.Faults.{meant_option, HasFault};
 ghost use Rattle.command_line.specs.Given.{meant_given, text_within};
-ghost use Rattle.command_line.specs.Kinds.{kind_named, kind_of, IsKnown};
+ghost use Rattle.command_line.specs.Kinds.{kind_named};
 ghost use Rattle.command_line.specs.Values as model;
 ghost use Rattle.command_line.specs.Options.{needed, unused, allowed, fault_by, option_fault};
 ghost use Rattle.command_line.specs.Words.{ask_by, form_by, flag_value};
@@ -22,7 +22,6 @@ use point_text::Form;
 pub(crate) fn ask(kind: Kind, given: &Given<'_, '_>) -> Result<Ask, UsageFault>
     ensures ask { IfOk result (λ a. ask_by kind (meant_given given.now) ≡ Some (asked a)) }
     ensures fault { HasFault result (kind_fault kind (meant_given given.now)) }
-    ensures kind { IfOk result (λ a. kind_of a ≡ kind) }
     ensures valid { IfOk result (λ a. IsValid (asked a)) }
 {
     match kind {
@@ -67,7 +66,6 @@ fn plain(ask: Ask, given: &Given<'_, '_>) -> Result<Ask, UsageFault>
 /// The kind that is named as the value of an option.
 pub(crate) fn kind(value: Option<&str>) -> Result<Kind, UsageFault>
     ensures kind { IfOk result (λ kind. option_and_then kind_named (text_within value.entry) ≡ Some kind) }
-    ensures known { IfOk result IsKnown }
     ensures fault { HasFault result (option_fault needed kind_option (text_within value.entry)) }
 {
     let word = needed(Opt::Kind, value)?;

@@ -4,7 +4,6 @@ ghost use Rattle.bounds_model.specs.Asks.{IsValid};
 ghost use Rattle.bounded_coords.specs.Asked.{asked};
 ghost use Rattle.command_line.specs.Faults.{meant_fault, Judges};
 ghost use Rattle.command_line.specs.Given.{meant_given};
-ghost use Rattle.command_line.specs.Kinds.{IsKnown, kind_of};
 ghost use Rattle.command_line.specs.Options.{solving, checking, demonstrating};
 ghost use Rattle.command_line.specs.Tasks.{meant_task, ask_of, HasDemoCounts, CanBeDone};
 ghost use Rattle.command_line.specs.Words.{task_of, judged, judged_as};
@@ -22,7 +21,6 @@ pub fn read_words<'a>(alloc: Global, words: &'a [&'a str]) -> Result<Task<'a>, U
     ensures fault { IfErr result
         (λ fault. fault ≢ UsageFault.OutOfMemory → task_of (map (λ w. w.now) words.entry.now) ≡ Err (meant_fault fault)) }
     ensures valid { IfOk result (λ task. IsValid (asked (ask_of task))) }
-    ensures known { IfOk result (λ task. IsKnown (kind_of (ask_of task))) }
     ensures counts { IfOk result HasDemoCounts }
 {
     let matches = parse(alloc, words)?;
@@ -45,7 +43,6 @@ fn judge<'a>(given: &Given<'a, '_>) -> Result<Task<'a>, UsageFault>
 }
 
 fn solve<'a>(kind: Kind, given: &Given<'a, '_>) -> Result<Task<'a>, UsageFault>
-    requires { IsKnown kind }
     ensures task { Judges meant_task result (judged_as (solving kind) (meant_given given.now)) }
     ensures able { IfOk result CanBeDone }
 {

@@ -6,7 +6,7 @@ ghost use Rattle.bounds_model.specs.KgonAnswer.{PassesKgon};
 ghost use Rattle.bounded_coords.specs.Clouds.{points_of};
 ghost use Rattle.answers.specs.Answers.{polygon_of};
 ghost use Rattle.hull_calipers.specs.CornerLists.{numbers_in, points_in};
-ghost use Rattle.extremal_kgon.specs.Faults.{IsCause};
+ghost use Rattle.extremal_kgon.specs.Faults.{AreTooMany, IsCause};
 
 use crate::choice::choice;
 use crate::table::table;
@@ -24,6 +24,17 @@ pub enum KgonFault {
     TooManyCorners(u32),
     /// Memory was refused.
     OutOfMemory,
+}
+
+impl From<OutOfMemory> for KgonFault {
+    ghost use Rattle.std.specs.Prelude.{◌≡◌};
+    ghost use Rattle.extremal_kgon.specs.declared.polygon.KgonFault.TheVariants.{OutOfMemory};
+
+    ghost from_gives = { λ _ fault. fault ≡ OutOfMemory };
+
+    fn from(_: OutOfMemory) -> KgonFault {
+        KgonFault::OutOfMemory
+    }
 }
 
 /// The numbers of a hull's corners.
@@ -93,21 +104,13 @@ pub fn kgon(alloc: Global, cloud: Cloud2<'_>, k: u8) -> Result<KgonAnswer, KgonF
     requires k { 3 ≤ k }
     requires most { k ≤ 12 }
     ensures passes { IfOk result (λ a. PassesKgon k (points_of cloud.entry) (polygon_of a)) }
+    ensures taken { IfOk result (λ a. ¬ AreTooMany (points_of cloud.entry)) }
     ensures cause { IfErr result (λ fault. IsCause (points_of cloud.entry) fault) }
 {
-    let hull = match corners(alloc, cloud) {
-        Ok(hull) => hull,
-        Err(_) => return Err(KgonFault::OutOfMemory),
-    };
+    let hull = corners(alloc, cloud)?;
     if hull.len() as usize > MOST_CORNERS {
         return Err(KgonFault::TooManyCorners(hull.len()));
     }
-    let numbers = match numbers(alloc, &hull) {
-        Ok(numbers) => numbers,
-        Err(_) => return Err(KgonFault::OutOfMemory),
-    };
-    match answer(alloc, cloud, numbers, k) {
-        Ok(answer) => Ok(answer),
-        Err(_) => Err(KgonFault::OutOfMemory),
-    }
+    let numbers = numbers(alloc, &hull)?;
+    Ok(answer(alloc, cloud, numbers, k)?)
 }

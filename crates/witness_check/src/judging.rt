@@ -1,9 +1,10 @@
 //! Answers of any kind.
 ghost use Rattle.std.specs.Prelude.{◌↔◌, IsTrue, IfOk, OnErr};
+ghost use Rattle.bounds_model.specs.Asks.{IsValid};
 ghost use Rattle.bounds_model.specs.Answers.{Passes, IsBest};
 ghost use Rattle.bounded_coords.specs.Asked.{asked, lent};
 ghost use Rattle.answers.specs.Answers.{answer_of};
-ghost use Rattle.witness_check.specs.Kinds.{IsBuilt, WantsMemory};
+ghost use Rattle.witness_check.specs.Kinds.{WantsMemory};
 
 use annulus_check::check_annulus;
 use answers::Answer;
@@ -14,12 +15,13 @@ use distance_check::check_distance;
 use empty_check::check_empty;
 use fan_checks::{check_parallelogram, check_rectangle, check_strip};
 use optimality::answer::passing_answers_are_best;
+use polygon_check::check_kgon;
 use std::alloc::Global;
 
 /// Whether the answer is of the kind that is asked, the sets are those that it is asked of, and the answer meets all
 /// conditions of its kind. Where it does, it is best. The only error is that memory is wanting, and only empty rectangles want any.
 pub fn check(alloc: Global, ask: &Ask, sets: Sets<'_>, answer: &Answer) -> Result<bool, OutOfMemory>
-    requires { IsBuilt ask.now }
+    requires { IsValid (asked ask.now) }
     ensures passes { IfOk result (λ yes. IsTrue yes ↔ Passes (asked ask.now) (lent sets.entry) (answer_of answer.now)) }
     ensures best { IfOk result (λ yes. IsTrue yes → IsBest (asked ask.now) (lent sets.entry) (answer_of answer.now)) }
     ensures memory { OnErr result (WantsMemory ask.now) }
@@ -37,6 +39,7 @@ pub fn check(alloc: Global, ask: &Ask, sets: Sets<'_>, answer: &Answer) -> Resul
             check_empty(alloc, Some(cloud), *frame, a)
         }
         (Ask::Empty(frame), Sets::Bare, Answer::Empty(a)) => check_empty(alloc, None, *frame, a),
+        (Ask::Kgon(k), Sets::Plane(cloud), Answer::Kgon(a)) => Ok(check_kgon(cloud, *k, a)),
         (Ask::Distance, Sets::Two(p, q), Answer::Distance(a)) => Ok(check_distance(p, q, a)),
         (Ask::Centres(p), Sets::Plane(cloud), Answer::Centres(a)) => {
             Ok(check_centres(cloud, *p, a))

@@ -15,3 +15,4 @@ pub use distance_check::check_distance;
 pub use empty_check::check_empty;
 pub use fan_checks::{check_parallelogram, check_rectangle, check_strip};
 pub use judging::check;
+pub use polygon_check::check_kgon;

@@ -8,7 +8,7 @@ pub mod LineReadings
 pub mod PrintedWords
 pub mod SaidAnswers
 pub mod KindTexts
-pub mod KnownKinds
+pub mod ReadTexts
 pub mod RowReadings
 pub mod ChordLines
 pub mod RowTexts

@@ -1,7 +1,7 @@
--- The kinds of answers, those that are read, and how an answer of a kind is read behind its first line.
-use Rattle.std.specs.Prelude.{ℕ, Bool, false, true, ◌||◌, nat_lt, List, [], ◌∷◌, ◌++◌, map, Contains, find, is_some, Option, Some, None, Result, Ok, Err}
+-- The kinds of answers, and how an answer of a kind is read behind its first line.
+use Rattle.std.specs.Prelude.{ℕ, Bool, false, true, ◌||◌, nat_lt, List, [], ◌∷◌, find, is_some, Option, Some, None, Result, Ok, Err}
 use Rattle.bounds_model.specs.Fractions.{Fraction}
-use Rattle.bounds_model.specs.Answers.{Answer, circle, sphere, rectangle, parallelogram, strip, annulus, empty, kgon, distance, centres}
+use Rattle.bounds_model.specs.Answers.{Answer}
 use Rattle.bounds_model.specs.AnswerText.Formats.{Refusal, bad_answer, ◌>>=◌, Unread, line_at, Part, line, counted, count, rows, body_at}
 use Rattle.bounds_model.specs.AnswerText.Kinds.{Kind, first_format, size_format, last_format, circle_kind, sphere_kind, rectangle_kind, parallelogram_kind, strip_kind, annulus_kind, empty_kind, kgon_kind, distance_kind, centres_kind}
 use Rattle.bounds_model.specs.AnswerText.Reading as model
@@ -10,30 +10,15 @@ use Rattle.witness_format.specs.declared.kinds.AnswerKind.{AnswerKind}
 use Rattle.witness_format.specs.declared.kinds.AnswerKind.TheVariants.{Circle, Sphere, Rectangle, Parallelogram, Strip, Annulus, Empty, Kgon, Distance, Centres}
 use Rattle.witness_format.specs.Judging.{said}
 
--- ---- the kinds that are read
+-- ---- the kinds
 
 -- the kinds of one object around all points
-abbrev pub enclosing : List AnswerKind
-enclosing =
-    Circle
-    ∷ Sphere
-    ∷ Rectangle
-    ∷ Parallelogram
-    ∷ Strip
-    ∷ Annulus
-    ∷ []
+abbrev pub enclosing : List Kind
+enclosing = circle_kind ∷ sphere_kind ∷ rectangle_kind ∷ strip_kind ∷ parallelogram_kind ∷ annulus_kind ∷ []
 
--- the other kinds whose texts are read
-abbrev pub others : List AnswerKind
-others =
-    Empty
-    ∷ Distance
-    ∷ Centres
-    ∷ []
-
--- the kinds whose texts are read
-abbrev pub known : List AnswerKind
-known = enclosing ++ others
+-- the other kinds
+abbrev pub others : List Kind
+others = empty_kind ∷ kgon_kind ∷ distance_kind ∷ centres_kind ∷ []
 
 -- the format of a kind
 abbrev pub format_of : AnswerKind → Kind
@@ -47,27 +32,6 @@ format_of Empty = empty_kind
 format_of Kgon = kgon_kind
 format_of Distance = distance_kind
 format_of Centres = centres_kind
-
--- the formats of the kinds that are read
-abbrev pub known_kinds : List Kind
-known_kinds = map format_of known
-
--- the kind of an answer
-abbrev pub kind_of : Answer → AnswerKind
-kind_of (circle a) = Circle
-kind_of (sphere a) = Sphere
-kind_of (rectangle a) = Rectangle
-kind_of (parallelogram a) = Parallelogram
-kind_of (strip a) = Strip
-kind_of (annulus a) = Annulus
-kind_of (empty a) = Empty
-kind_of (kgon a) = Kgon
-kind_of (distance a) = Distance
-kind_of (centres a) = Centres
-
--- the answer is of a kind that is read
-abbrev pub IsKnown : Answer → Type 0
-IsKnown a = Contains known (kind_of a)
 
 -- ---- the first line
 

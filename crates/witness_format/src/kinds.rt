@@ -1,7 +1,8 @@
 //! The kinds of answers by their names.
-ghost use Rattle.std.specs.Prelude.{find, map};
+ghost use Rattle.std.specs.Prelude.{find};
 ghost use Rattle.std.specs.Str.{bytes_eq};
-ghost use Rattle.witness_format.specs.Kinds.{enclosing, format_of, known_kinds, others};
+ghost use Rattle.bounds_model.specs.AnswerText.Kinds.{kinds};
+ghost use Rattle.witness_format.specs.Kinds.{enclosing, format_of, others};
 ghost use Rattle.witness_format.specs.Outcomes.{Finds};
 
 /// A kind of answers.
@@ -19,9 +20,9 @@ pub(crate) enum AnswerKind {
     Centres,
 }
 
-/// The kind of this name, among those that are read.
+/// The kind of this name.
 pub(crate) fn kind_of(name: &[u8]) -> Option<AnswerKind>
-    ensures { Finds format_of result (find (λ kind. bytes_eq kind.name name.now) known_kinds) }
+    ensures { Finds format_of result (find (λ kind. bytes_eq kind.name name.now) kinds) }
 {
     match enclosing_kind(name) {
         Some(kind) => Some(kind),
@@ -31,7 +32,7 @@ pub(crate) fn kind_of(name: &[u8]) -> Option<AnswerKind>
 
 /// The kind of this name, among those of one object around all points.
 fn enclosing_kind(name: &[u8]) -> Option<AnswerKind>
-    ensures { Finds format_of result (find (λ kind. bytes_eq kind.name name.now) (map format_of enclosing)) }
+    ensures { Finds format_of result (find (λ kind. bytes_eq kind.name name.now) enclosing) }
 {
     if name == b"circle".as_slice() {
         Some(AnswerKind::Circle)
@@ -39,10 +40,10 @@ fn enclosing_kind(name: &[u8]) -> Option<AnswerKind>
         Some(AnswerKind::Sphere)
     } else if name == b"rectangle".as_slice() {
         Some(AnswerKind::Rectangle)
-    } else if name == b"parallelogram".as_slice() {
-        Some(AnswerKind::Parallelogram)
     } else if name == b"strip".as_slice() {
         Some(AnswerKind::Strip)
+    } else if name == b"parallelogram".as_slice() {
+        Some(AnswerKind::Parallelogram)
     } else if name == b"annulus".as_slice() {
         Some(AnswerKind::Annulus)
     } else {
@@ -50,12 +51,14 @@ fn enclosing_kind(name: &[u8]) -> Option<AnswerKind>
     }
 }
 
-/// The kind of this name, among the others that are read.
+/// The kind of this name, among the others.
 fn other_kind(name: &[u8]) -> Option<AnswerKind>
-    ensures { Finds format_of result (find (λ kind. bytes_eq kind.name name.now) (map format_of others)) }
+    ensures { Finds format_of result (find (λ kind. bytes_eq kind.name name.now) others) }
 {
     if name == b"empty".as_slice() {
         Some(AnswerKind::Empty)
+    } else if name == b"kgon".as_slice() {
+        Some(AnswerKind::Kgon)
     } else if name == b"distance".as_slice() {
         Some(AnswerKind::Distance)
     } else if name == b"centres".as_slice() {

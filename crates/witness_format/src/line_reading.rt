@@ -4,7 +4,8 @@ ghost use Rattle.bounds_model.specs.AnswerText.LineFormats.{titled, untitled};
 ghost use Rattle.bounds_model.specs.AnswerText.Formats.{Count, count_format, counted, line_at, lines_at, part_at};
 ghost use Rattle.witness_format.specs.declared.fault.ReadFault.TheVariants.{OutOfMemory};
 ghost use Rattle.witness_format.specs.Judging.{seen, said, fields_at};
-ghost use Rattle.witness_format.specs.Kinds.{format_of, known_kinds, named_by, first_kind};
+ghost use Rattle.bounds_model.specs.AnswerText.Kinds.{kinds};
+ghost use Rattle.witness_format.specs.Kinds.{format_of, named_by, first_kind};
 ghost use Rattle.witness_format.specs.Lines.{words_left, lines_left};
 ghost use Rattle.witness_format.specs.Outcomes.{Finds, Reads, ReadsOr};
 
@@ -23,7 +24,7 @@ use std::alloc::Global;
 
 /// The kind that the first line names.
 pub(crate) fn read_kind(text: &mut Unread<'_>) -> Result<AnswerKind, ReadFault>
-    ensures { Reads (λ kind. (format_of kind, lines_left text.new)) result (first_kind known_kinds (lines_left text.old)) }
+    ensures { Reads (λ kind. (format_of kind, lines_left text.new)) result (first_kind kinds (lines_left text.old)) }
 {
     let number = text.number;
     let words = text.next_line()?;
@@ -35,7 +36,7 @@ pub(crate) fn read_kind(text: &mut Unread<'_>) -> Result<AnswerKind, ReadFault>
 
 /// The kind that these words of the first line name.
 fn kind_named(words: Words<'_>) -> Option<AnswerKind>
-    ensures { Finds format_of result (named_by (words_left words.entry) known_kinds) }
+    ensures { Finds format_of result (named_by (words_left words.entry) kinds) }
 {
     let words = words.after(b"answer")?;
     let words = words.after(b"1")?;

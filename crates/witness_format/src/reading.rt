@@ -1,11 +1,11 @@
 //! An answer text, read line by line.
 ghost use Rattle.std.specs.Prelude.{◌≡◌, ◌≤◌, ◌^◌, length, map, IfOk};
 ghost use Rattle.bounds_model.specs.Answers as model;
-ghost use Rattle.bounds_model.specs.AnswerText.Kinds.{circle_kind, sphere_kind, rectangle_kind, parallelogram_kind, strip_kind, annulus_kind, empty_kind, kgon_kind, distance_kind, centres_kind};
-ghost use Rattle.bounds_model.specs.AnswerText.Reading.{all_lines, reading_of};
+ghost use Rattle.bounds_model.specs.AnswerText.Kinds.{kinds, circle_kind, sphere_kind, rectangle_kind, parallelogram_kind, strip_kind, annulus_kind, empty_kind, kgon_kind, distance_kind, centres_kind};
+ghost use Rattle.bounds_model.specs.AnswerText.Reading.{all_lines, reading};
 ghost use Rattle.bounds_model.specs.AnswerText.Spelling.{Spells};
 ghost use Rattle.answers.specs.Answers.{answer_of};
-ghost use Rattle.witness_format.specs.Kinds.{format_of, known_kinds, IsKnown, MayWant, TextMayWant, body_of, answer_by};
+ghost use Rattle.witness_format.specs.Kinds.{format_of, MayWant, TextMayWant, body_of, answer_by};
 ghost use Rattle.witness_format.specs.Lines.{lines_left};
 ghost use Rattle.witness_format.specs.Outcomes.{Reads, ReadsOr, IsFound};
 
@@ -32,19 +32,19 @@ use std::alloc::Global;
 /// the lists of fans and polygons, and for nothing else.
 pub fn read(alloc: Global, bytes: &[u8]) -> Result<Answer, ReadFault>
     requires { length bytes.now ≤ 2 ^ 23 }
-    ensures reading { ReadsOr (TextMayWant known_kinds (all_lines bytes.now)) answer_of result (reading_of known_kinds bytes.now) }
+    ensures reading { ReadsOr (TextMayWant kinds (all_lines bytes.now)) answer_of result (reading bytes.now) }
     // What is read is spelled so.
     ensures spelled { IfOk result (λ answer. Spells bytes.now (answer_of answer)) }
     // What is spelled so is read, unless memory is wanting.
-    ensures found { (a : model.Answer) → IsKnown a → Spells bytes.now a → IsFound (TextMayWant known_kinds (all_lines bytes.now)) result (λ answer. answer_of answer ≡ a) }
+    ensures found { (a : model.Answer) → Spells bytes.now a → IsFound (TextMayWant kinds (all_lines bytes.now)) result (λ answer. answer_of answer ≡ a) }
 {
-    read_known(alloc, bytes)
+    read_lines(alloc, bytes)
 }
 
-/// Reads a text of one of the known kinds.
-fn read_known(alloc: Global, bytes: &[u8]) -> Result<Answer, ReadFault>
+/// Reads the lines of a text one by one.
+fn read_lines(alloc: Global, bytes: &[u8]) -> Result<Answer, ReadFault>
     requires { length bytes.now ≤ 2 ^ 23 }
-    ensures { ReadsOr (TextMayWant known_kinds (all_lines bytes.now)) answer_of result (answer_by known_kinds (all_lines bytes.now)) }
+    ensures { ReadsOr (TextMayWant kinds (all_lines bytes.now)) answer_of result (answer_by kinds (all_lines bytes.now)) }
 {
     let mut text = Unread::all(bytes);
     let kind = read_kind(&mut text)?;

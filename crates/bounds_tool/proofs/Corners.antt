@@ -1,0 +1,40 @@
+-- Too many corners as the cause of a run.
+use Rattle.std.proofs.Common.{◌≡◌, ◌⊎◌, inl, inr, subst, ℕ, ◌<◌, Bool, List, Option, Some, None, Ok, IfSome}
+use Rattle.bounds_model.specs.Asks as model
+use Rattle.bounds_model.specs.Asks.{Sets, ask_kgon, plane}
+use Rattle.bounds_model.specs.ErrorLines.{out_of_memory}
+use Rattle.bounded_coords.specs.declared.ask.Ask.{Ask}
+use Rattle.bounded_coords.specs.Asked.{asked}
+use Rattle.point_text.specs.declared.text.Form.{Form}
+use Rattle.extremal_kgon.specs.declared.polygon.KgonFault.{KgonFault}
+use Rattle.extremal_kgon.specs.declared.polygon.KgonFault.TheVariants.{TooManyCorners, OutOfMemory}
+use Rattle.bnd_io.specs.Files.{Folder, FilesState, bytes_of}
+use Rattle.command_line.specs.Words.{solve_task}
+use Rattle.bounds_tool.specs.Causes.{meant, unsolved}
+use Rattle.bounds_tool.specs.Judging.{points_in}
+use Rattle.bounds_tool.specs.Solving.{HasTooManyCorners, IsUnsolved}
+use Rattle.bounds_tool.specs.Run.{CornersCause, ComesOf}
+
+-- more than 128
+many : (ask : model.Ask) (sets : Sets) (count : ℕ) → HasTooManyCorners ask sets count → 128 < count
+many (ask_kgon k) (plane points) count h = h.too_many
+many ask sets count h = absurd h
+
+-- what holds of the points in each folder
+where_read : (told : Option Folder) (ask : model.Ask) (file : List ℕ) (sets : Sets) {P : Sets → Type 0} → P sets → IfSome told (λ folder. points_in ask (bytes_of folder file) ≡ Ok sets)
+    → IfSome told (λ folder. (sets : Sets) × (points_in ask (bytes_of folder file) ≡ Ok sets) × P sets)
+where_read None ask file sets p points = tt
+where_read (Some folder) ask file sets p points = (sets, points, p)
+
+-- why the points of a file were not answered for
+pub unsolved_file : (last : Option ℕ) (ask : Ask) (form : Form) (brief : Bool) (file : List ℕ) (old new : FilesState) (sets : Sets) (fault : KgonFault)
+    → IfSome old.told (λ folder. points_in (asked ask) (bytes_of folder file) ≡ Ok sets) → IsUnsolved ask sets fault
+    → ComesOf last (solve_task (asked ask) form brief file) old new (meant (unsolved fault))
+unsolved_file last ask form brief file old new sets (TooManyCorners count) points h =
+    inr (many (asked ask) sets count h, where_read old.told (asked ask) file sets {P = λ sets. HasTooManyCorners (asked ask) sets count} h points)
+unsolved_file last ask form brief file old new sets OutOfMemory points h = inl tt
+
+-- why points that were made were not
+pub unsolved_demo : (ask : Ask) (sets : Sets) (fault : KgonFault) → IsUnsolved ask sets fault → (meant (unsolved fault) ≡ out_of_memory) ⊎ CornersCause (asked ask) sets (meant (unsolved fault))
+unsolved_demo ask sets (TooManyCorners count) h = inr h
+unsolved_demo ask sets OutOfMemory h = inl cc
