@@ -8,3 +8,4 @@ pub mod PassingPolygons
 pub mod Reading
 pub mod Reaching
 pub mod NextRows
+pub mod FewCorners
