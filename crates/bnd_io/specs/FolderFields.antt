@@ -45,6 +45,7 @@ folder_view m = record {
   left = drop m.at (open_bytes m.files.items m.current);
   taken = m.taken;
   ended = m.ended;
+  total = m.total;
 }
 
 pub record IsSound (m : Inside) : Type 0 where

@@ -34,6 +34,7 @@ pub(crate) struct OpenFolder {
     at: usize,
     taken: u64,
     ended: bool,
+    total: u64,
 }
 
 impl Model for OpenFolder {
@@ -60,6 +61,7 @@ impl OpenFolder {
             at: 0,
             taken: 0,
             ended: false,
+            total: 0,
         }
     }
 
@@ -116,6 +118,7 @@ impl OpenFolder {
         buf[..n].copy_from_slice(&left[..n]);
         self.at += n;
         self.taken = self.taken.saturating_add(n as u64);
+        self.total = self.total.saturating_add(n as u64);
         self.ended = self.ended || n == 0;
         n
     }

@@ -1,12 +1,54 @@
-//! Files and sinks that never fail.
+//! Files and sinks that never fail, and several files one after the other.
+ghost use Rattle.std.specs.Prelude.{◌≡◌, ◌≢◌, ℕ, ◌+◌, ◌≤◌, List, IfOk, IfSome};
+ghost use Rattle.bnd_io.specs.Files.{Continues, bytes_of};
+
+mod watched;
 
 use crate::{FileBytes, Files, Sink, SureFiles, SureSink, load, write_all};
 use std::alloc::Global;
 use std::test::Fail;
+use watched::Watched;
 
 fn whole_file(alloc: Global, files: &mut SureFiles, name: &str) -> Result<FileBytes, Fail> {
     files.open(name)?;
     Ok(load(alloc, files, 64)?)
+}
+
+/// Loads two files over one object. The counts go on from the one file to the other.
+fn load_both<F: Files>(
+    alloc: Global,
+    files: &mut F,
+    first: &str,
+    second: &str,
+) -> Result<(FileBytes, FileBytes), Fail>
+    ensures continues { Continues (F.state files.old) (F.state files.new) }
+    ensures first { IfOk result (λ both. IfSome (F.state files.old).told (λ folder. both.0 ≡ bytes_of folder first.now)) }
+    ensures second { IfOk result (λ both. IfSome (F.state files.old).told (λ folder. both.1 ≡ bytes_of folder second.now)) }
+    ensures once { first.now ≢ second.now → (F.state files.new).opens first.now ≤ (F.state files.old).opens first.now + 1 }
+    ensures no_other { (name : List ℕ) → name ≢ first.now → name ≢ second.now → (F.state files.new).opens name ≡ (F.state files.old).opens name }
+    ensures most { (F.state files.new).total ≤ (F.state files.old).total + 130 }
+{
+    files.open(first)?;
+    let one = load(alloc, files, 64)?;
+    files.open(second)?;
+    let other = load(alloc, files, 64)?;
+    Ok((one, other))
+}
+
+#[test]
+fn each_file_is_opened_once(rt: HostRuntime) -> Result<(), Fail> {
+    let alloc = rt.alloc();
+    for (watched, opens) in [("points", 1), ("answer", 1), ("absent", 0)] {
+        let mut files = SureFiles::new(alloc);
+        files.add("points", b"0 0\n3 1\n")?;
+        files.add("answer", b"yes\n")?;
+        let mut files = Watched::new(alloc, files, watched)?;
+        let (points, answer) = load_both(alloc, &mut files, "points", "answer")?;
+        assert_eq!(rt; points.as_slice(), b"0 0\n3 1\n".as_slice());
+        assert_eq!(rt; answer.as_slice(), b"yes\n".as_slice());
+        assert_eq!(rt; files.opens, opens, "{watched}");
+    }
+    Ok(())
 }
 
 #[test]
