@@ -91,7 +91,8 @@ class Picture:
                 corners, line, fill, dash = shape
                 places = ' '.join('%.1f,%.1f' % at(p) for p in corners)
                 dashes = ' stroke-dasharray="3 3"' if dash else ''
-                lines.append(f'<polygon points="{places}" stroke="{line}" fill="{fill}" fill-opacity="0.1"{dashes}/>')
+                form = 'polygon' if len(corners) > 2 else 'polyline'
+                lines.append(f'<{form} points="{places}" stroke="{line}" fill="{fill}" fill-opacity="0.1"{dashes}/>')
         return '\n'.join(lines + ['</svg>', ''])
 
 
