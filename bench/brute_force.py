@@ -186,8 +186,8 @@ def ball(points):
     return best
 
 
-def distance(first, second):
-    """The least squared distance of the convex hulls. The nearest points of two hulls that are apart lie in a corner, an edge or a
+def shortest_way(first, second):
+    """The shortest vector from the convex hull of the second set to that of the first. The nearest points of two hulls that are apart lie in a corner, an edge or a
     triangle of each, and two hulls that meet do so with a corner in a tetrahedron, an edge in a triangle, or parts of these. So for
     one to four points of each set, five in all, the nearest points of their affine hulls are found, and count where they lie between
     the points."""
@@ -206,6 +206,12 @@ def distance(first, second):
             if min(factors, default=0) < 0 or sum(own) > 1 or sum(other) > 1:
                 continue
             way = tuple(start[i] + sum(f * v[i] for f, v in zip(factors, vectors)) for i in range(3))
-            if best is None or dot(way, way) < best:
-                best = Fraction(dot(way, way))
+            if best is None or dot(way, way) < dot(best, best):
+                best = way
     return best
+
+
+def distance(first, second):
+    """The least squared distance of the convex hulls."""
+    way = shortest_way(first, second)
+    return Fraction(dot(way, way))

@@ -255,7 +255,9 @@ def try_program(program, kinds, rounds, first):
 
 
 def try_brute_force(rounds):
-    """No strip, rectangle or parallelogram of other directions, and no annulus or square of another place, is smaller."""
+    """Puts to the brute force strips, rectangles and parallelograms of other directions and annuli around other places: none is smaller.
+    And two hulls are not nearer than the shortest way between them: as seen along it, each point of one set is at least as far from
+    each of the other."""
     normals = [(x, y) for x in range(-7, 8) for y in range(-7, 8) if (x, y) > (0, 0)]
     better = 0
     for seed in range(rounds):
@@ -280,7 +282,12 @@ def try_brute_force(rounds):
             better += rectangles < brute_force.rectangle(points)
             better += parallelograms < brute_force.parallelogram(points)
             better += annuli < brute_force.annulus(points)
-    print(f'{rounds * len(PLANE_SHAPES)} sets, {better} with something better')
+        for _, make in PAIR_SHAPES:
+            first, second = make(rng)
+            way = brute_force.shortest_way(first, second)
+            along = min(brute_force.dot(way, brute_force.minus(p, q)) for p in first for q in second)
+            better += along < brute_force.dot(way, way)
+    print(f'{rounds * (len(PLANE_SHAPES) + len(PAIR_SHAPES))} sets, {better} with something better')
 
 
 def main():
