@@ -3,8 +3,8 @@
     python3 examples/draw.py examples/sites.txt answer.txt > answer.svg
     python3 examples/draw.py examples/masts.txt answer.txt --box=0,0,1000,700 > answer.svg
 
-Points are dark, the object is blue, and what the witness names is red: the points that hold the object in place, or that are too far
-apart. Answers in space are seen from the side and a little from above. The frame of an empty rectangle isn't written in its answer,
+Points are dark, the object is blue, and red are the points that hold the object in place, or that are too far apart for smaller
+squares. Answers in space are seen from the side and a little from above. The frame of an empty rectangle isn't written in its answer,
 so `--box` gives it.
 """
 
