@@ -1,0 +1,311 @@
+"""Small sets of points with the best sizes that trying everything finds: as rows for crates/rows, or put to a built program.
+
+    python3 bench/small_sets.py rows                  writes the tables small and small_kgon of crates/rows/data
+    python3 bench/small_sets.py run --rounds 20       puts 20 times 25 other sets of each kind to the program
+    python3 bench/small_sets.py self --rounds 20      puts other directions to the brute force itself
+
+The sets have few points and many ties: equal points, points on a line, on a circle or on a grid, and the ends of the range. The
+same words make the same sets at each run.
+"""
+
+import argparse
+import os
+import random
+import subprocess
+import tempfile
+from fractions import Fraction
+
+import brute_force
+
+TOP = os.path.join(os.path.dirname(os.path.abspath(__file__)), '..')
+TABLES = os.path.join(TOP, 'crates', 'rows', 'data')
+PROGRAM = os.path.join(TOP, 'crates', 'bounds', 'out', 'bounds')
+PLANE_KINDS = ['circle', 'rectangle', 'parallelogram', 'strip', 'annulus', 'empty', 'centres', 'kgon']
+KINDS = PLANE_KINDS + ['sphere', 'distance']
+SETS = 25
+# The greatest coordinates of the plane and of space.
+PLANE, SPACE = 200000, 8000
+
+
+def draw(rng, dimension, count, reach):
+    return [tuple(rng.randint(-reach, reach) for _ in range(dimension)) for _ in range(count)]
+
+
+def moved(points, offset):
+    return [tuple(x + y for x, y in zip(p, offset)) for p in points]
+
+
+def on_a_line(rng, dimension):
+    start, step = draw(rng, dimension, 2, 4)
+    return [tuple(s + t * d for s, d in zip(start, step)) for t in (rng.randint(-4, 4) for _ in range(6))]
+
+
+def on_a_plane(rng):
+    start, first, second = draw(rng, 3, 3, 3)
+    steps = draw(rng, 2, 6, 3)
+    return [tuple(s + i * u + j * v for s, u, v in zip(start, first, second)) for i, j in steps]
+
+
+def on_a_circle(rng, count):
+    """Whole points of a circle around (0, 0) whose squared radius is 25, 65 or 325."""
+    square = rng.choice([25, 65, 325])
+    ring = [(x, y) for x in range(-18, 19) for y in range(-18, 19) if x * x + y * y == square]
+    return rng.sample(ring, count)
+
+
+def on_a_sphere(rng, count):
+    """Whole points of a sphere around (0, 0, 0) of radius 3 or 9."""
+    radius = rng.choice([3, 9])
+    span = range(-radius, radius + 1)
+    ring = [(x, y, z) for x in span for y in span for z in span if x * x + y * y + z * z == radius * radius]
+    return rng.sample(ring, count)
+
+
+# Each shape has a name and gives points of the plane. No set has more than eight points.
+PLANE_SHAPES = [
+    ('one point', lambda rng: draw(rng, 2, 1, 9)),
+    ('equal points', lambda rng: draw(rng, 2, 1, 9) * 3),
+    ('two points', lambda rng: draw(rng, 2, 2, 9)),
+    ('points on a line', lambda rng: on_a_line(rng, 2)),
+    ('points of a grid of nine', lambda rng: draw(rng, 2, 8, 1)),
+    ('points of a grid of 25', lambda rng: draw(rng, 2, 7, 2)),
+    ('three points', lambda rng: draw(rng, 2, 3, 6)),
+    ('points within nine', lambda rng: draw(rng, 2, 8, 9)),
+    ('points on a circle', lambda rng: on_a_circle(rng, 7)),
+    ('points on a circle and their middle', lambda rng: moved(on_a_circle(rng, 6) + [(0, 0)], draw(rng, 2, 1, 9)[0])),
+    ('points on a circle, some twice', lambda rng: on_a_circle(rng, 5) + on_a_circle(rng, 3)),
+    ('points within 1000', lambda rng: draw(rng, 2, 6, 1000)),
+    ('points of the whole range', lambda rng: draw(rng, 2, 6, PLANE)),
+    ('ends of the range', lambda rng: [(rng.choice([-PLANE, PLANE]), rng.choice([-PLANE, 0, PLANE])) for _ in range(5)]),
+    ('points near a line', lambda rng: [(x, 3 * x + rng.randint(-1, 1)) for x in rng.sample(range(-60000, 60000), 6)]),
+    ('two clusters', lambda rng: draw(rng, 2, 3, 2) + moved(draw(rng, 2, 4, 2), draw(rng, 2, 1, 40)[0])),
+    ('points of a narrow band', lambda rng: [(rng.randint(-30, 30), rng.randint(0, 1)) for _ in range(7)]),
+]
+
+SPACE_SHAPES = [
+    ('one point', lambda rng: draw(rng, 3, 1, 9)),
+    ('equal points', lambda rng: draw(rng, 3, 1, 9) * 3),
+    ('two points', lambda rng: draw(rng, 3, 2, 9)),
+    ('points on a line', lambda rng: on_a_line(rng, 3)),
+    ('points on a plane', on_a_plane),
+    ('corners of a cube', lambda rng: [tuple(rng.choice([-1, 1]) for _ in range(3)) for _ in range(7)]),
+    ('points of a grid of 27', lambda rng: draw(rng, 3, 7, 1)),
+    ('points on a sphere', lambda rng: on_a_sphere(rng, 6)),
+    ('points on a sphere and their middle', lambda rng: moved(on_a_sphere(rng, 6) + [(0, 0, 0)], draw(rng, 3, 1, 9)[0])),
+    ('points within nine', lambda rng: draw(rng, 3, 7, 9)),
+    ('points of the whole range', lambda rng: draw(rng, 3, 6, SPACE)),
+    ('ends of the range', lambda rng: [tuple(rng.choice([-SPACE, SPACE]) for _ in range(3)) for _ in range(5)]),
+    ('two points and a cluster', lambda rng: draw(rng, 3, 2, 100) + draw(rng, 3, 4, 2)),
+]
+
+
+def small(rng):
+    """At most five points of space of any shape."""
+    return rng.choice(SPACE_SHAPES)[1](rng)[:5]
+
+
+PAIR_SHAPES = [
+    ('one point each', lambda rng: (draw(rng, 3, 1, 9), draw(rng, 3, 1, 9))),
+    ('equal points', lambda rng: ([(1, 2, 3)] * 2, [(1, 2, 3)] * 3)),
+    ('a point and a grid', lambda rng: (draw(rng, 3, 1, 3), draw(rng, 3, 5, 2))),
+    ('sets of one grid', lambda rng: (draw(rng, 3, 5, 2), draw(rng, 3, 4, 2))),
+    ('sets side by side', lambda rng: (draw(rng, 3, 5, 3), moved(draw(rng, 3, 5, 3), draw(rng, 3, 1, 12)[0]))),
+    ('sets of one plane', lambda rng: tuple(split(on_a_plane(rng)))),
+    ('sets of one line', lambda rng: tuple(split(on_a_line(rng, 3)))),
+    ('two lines', lambda rng: (on_a_line(rng, 3)[:4], on_a_line(rng, 3)[:4])),
+    ('a set and itself moved', lambda rng: (lambda points: (points, moved(points, draw(rng, 3, 1, 5)[0])))(draw(rng, 3, 4, 2))),
+    ('two cubes', lambda rng: (cube(rng), moved(cube(rng), draw(rng, 3, 1, 4)[0]))),
+    ('sets of the whole range', lambda rng: (draw(rng, 3, 4, SPACE), draw(rng, 3, 4, SPACE))),
+    ('small sets far apart', lambda rng: (moved(draw(rng, 3, 4, 9), (-7000, 0, 0)), moved(draw(rng, 3, 4, 9), (7000, 3, 1)))),
+    ('any two shapes', lambda rng: (small(rng), small(rng))),
+    ('any two shapes', lambda rng: (small(rng), moved(small(rng), draw(rng, 3, 1, 6)[0]))),
+]
+
+
+def split(points):
+    return points[: len(points) // 2], points[len(points) // 2 :]
+
+
+def cube(rng):
+    return [tuple(rng.choice([-1, 1]) for _ in range(3)) for _ in range(5)]
+
+
+def in_range(points):
+    limit = PLANE if points and len(points[0]) == 2 else SPACE
+    return all(abs(x) <= limit for p in points for x in p)
+
+
+BEST_SIZE = {
+    'circle': brute_force.ball,
+    'sphere': brute_force.ball,
+    'rectangle': brute_force.rectangle,
+    'parallelogram': brute_force.parallelogram,
+    'strip': brute_force.strip,
+    'annulus': brute_force.annulus,
+}
+
+
+class Case:
+    """A set of points, the words that ask for its best object, and the best size."""
+
+    def __init__(self, kind, rng, number):
+        self.kind = kind
+        self.options = []
+        if kind == 'distance':
+            shape, self.sets = self.chosen(PAIR_SHAPES, rng, number)
+            self.size = brute_force.distance(*self.sets)
+        else:
+            shape, points = self.chosen(SPACE_SHAPES if kind == 'sphere' else PLANE_SHAPES, rng, number)
+            self.sets = (points,)
+            self.size = self.size_of_one(points, rng)
+        self.name = f'{kind} of {shape}, set {number + 1}'
+
+    @staticmethod
+    def chosen(shapes, rng, number):
+        name, make = shapes[number % len(shapes)]
+        while True:
+            made = make(rng)
+            if all(map(in_range, made if isinstance(made, tuple) else (made,))):
+                return name, made
+
+    def size_of_one(self, points, rng):
+        if self.kind == 'empty':
+            frame = random_frame(points, rng)
+            self.options = ['--box=%d,%d,%d,%d' % frame]
+            return brute_force.empty(points, frame)
+        if self.kind == 'centres':
+            p = rng.randint(1, 3)
+            self.options = ['--p', str(p)]
+            return brute_force.centres(points, p)
+        if self.kind == 'kgon':
+            k = rng.randint(3, 6)
+            self.options = ['--k', str(k)]
+            return brute_force.kgon(points, k)
+        return BEST_SIZE[self.kind](points)
+
+    def text(self):
+        return '---\n'.join(''.join(' '.join(map(str, p)) + '\n' for p in points) for points in self.sets)
+
+    def beginning(self):
+        return f'answer 1 {self.kind}\nsize {self.size.numerator}/{self.size.denominator}\n'
+
+
+def random_frame(points, rng):
+    """A frame around the points, or one that has some of them on its sides or outside."""
+    xs, ys = [x for x, _ in points], [y for _, y in points]
+    margin = rng.choice([-1, 0, 0, 1, 3])
+    left, right = max(min(xs) - margin, -PLANE), min(max(xs) + margin, PLANE)
+    bottom, top = max(min(ys) - margin, -PLANE), min(max(ys) + margin, PLANE)
+    if left >= right or bottom >= top:
+        left, bottom = max(min(xs) - 2, -PLANE), max(min(ys) - 3, -PLANE)
+        right, top = left + 5, bottom + 4
+    return left, bottom, right, top
+
+
+def cases(kind, seed):
+    rng = random.Random(f'{kind} {seed}')
+    return [Case(kind, rng, number) for number in range(SETS)]
+
+
+HEAD = '''# Small sets of points with the best size that trying every object of the definition finds. Made by bench/small_sets.py, which says
+# how; the sizes come from bench/brute_force.py and not from the program.
+
+'''
+
+
+def write_table(name, kinds):
+    lines = [HEAD]
+    for kind in kinds:
+        for case in cases(kind, 0):
+            lines.append(f'row {case.name}\n')
+            lines.append(' '.join(['words', kind, 'a'] + case.options) + '\n')
+            lines.append('pieces 4096\n')
+            lines.append('file a ' + case.text().replace('\n', '\\n') + '\n')
+            lines.append('begins ' + case.beginning().replace('\n', '\\n') + '\n')
+            lines.append('checked\n\n')
+    with open(os.path.join(TABLES, name), 'w') as file:
+        file.write(''.join(lines).rstrip('\n') + '\n')
+
+
+def run(command):
+    done = subprocess.run(command, capture_output=True, text=True)
+    return done.returncode, done.stdout, done.stderr
+
+
+def try_program(program, kinds, rounds, first):
+    """Puts each case to the program, and its answer to the program's check. Prints each that goes wrong."""
+    tried = wrong = 0
+    with tempfile.TemporaryDirectory() as folder:
+        points, answer = os.path.join(folder, 'points'), os.path.join(folder, 'answer')
+        for seed in range(first, first + rounds):
+            for kind in kinds:
+                for case in cases(kind, seed):
+                    with open(points, 'w') as file:
+                        file.write(case.text())
+                    status, out, err = run([program, kind, points] + case.options)
+                    with open(answer, 'w') as file:
+                        file.write(out)
+                    verdict = run([program, 'check', points, answer, '--kind', kind] + case.options)
+                    tried += 1
+                    if status != 0 or not out.startswith(case.beginning()) or verdict != (0, 'yes\n', ''):
+                        wrong += 1
+                        print(f'WRONG {case.name}, seed {seed}, {case.options}, best size {case.size}')
+                        print(f'{case.text()}status {status}\n{out}{err}check: {verdict}')
+    print(f'{tried} sets, {wrong} wrong')
+
+
+def try_brute_force(rounds):
+    """Puts to the brute force strips, rectangles and parallelograms of other directions and annuli around other places: none is smaller.
+    And two hulls are not nearer than the shortest way between them: as seen along it, each point of one set is at least as far from
+    each of the other."""
+    normals = [(x, y) for x in range(-7, 8) for y in range(-7, 8) if (x, y) > (0, 0)]
+    better = 0
+    for seed in range(rounds):
+        rng = random.Random(f'self {seed}')
+        for _, make in PLANE_SHAPES:
+            points = make(rng)
+            extents = {n: brute_force.extent(n, points) for n in normals}
+            strips = min(Fraction(extents[n] ** 2, brute_force.dot(n, n)) for n in normals)
+            rectangles = min(
+                Fraction(extents[n] * brute_force.extent(brute_force.turned(n), points), brute_force.dot(n, n)) for n in normals
+            )
+            parallelograms = min(
+                Fraction(extents[u] * extents[v], abs(brute_force.cross(u, v)))
+                for u in normals
+                for v in normals
+                if brute_force.cross(u, v) != 0
+            )
+            places = [(Fraction(x, 2), Fraction(y, 2)) for x in range(-10, 11) for y in range(-10, 11)]
+            heights = [[brute_force.dot(p, p) - 2 * brute_force.dot(c, p) for p in set(points)] for c in places]
+            annuli = min(max(h) - min(h) for h in heights)
+            better += strips < brute_force.strip(points)
+            better += rectangles < brute_force.rectangle(points)
+            better += parallelograms < brute_force.parallelogram(points)
+            better += annuli < brute_force.annulus(points)
+        for _, make in PAIR_SHAPES:
+            first, second = make(rng)
+            way = brute_force.shortest_way(first, second)
+            along = min(brute_force.dot(way, brute_force.minus(p, q)) for p in first for q in second)
+            better += along < brute_force.dot(way, way)
+    print(f'{rounds * (len(PLANE_SHAPES) + len(PAIR_SHAPES))} sets, {better} with something better')
+
+
+def main():
+    parser = argparse.ArgumentParser(description='Small sets of points and their best sizes.')
+    parser.add_argument('what', choices=['rows', 'run', 'self'])
+    parser.add_argument('--program', default=PROGRAM, help='a built program')
+    parser.add_argument('--kinds', nargs='+', choices=KINDS, default=[kind for kind in KINDS if kind != 'kgon'])
+    parser.add_argument('--rounds', type=int, default=20)
+    parser.add_argument('--first', type=int, default=1, help='the seed of the first round; the rows have 0')
+    words = parser.parse_args()
+    if words.what == 'rows':
+        write_table('small', [kind for kind in KINDS if kind != 'kgon'])
+        write_table('small_kgon', ['kgon'])
+    elif words.what == 'run':
+        try_program(words.program, words.kinds, words.rounds, words.first)
+    else:
+        try_brute_force(words.rounds)
+
+
+if __name__ == '__main__':
+    main()
