@@ -1,6 +1,6 @@
 """Small sets of points with the best sizes that trying everything finds: as rows for crates/rows, or put to a built program.
 
-    python3 bench/small_sets.py rows                  writes the tables small and small_kgon of crates/rows/data
+    python3 bench/small_sets.py rows                  writes the table small of crates/rows/data
     python3 bench/small_sets.py run --rounds 20       puts 20 times 25 other sets of each kind to the program
     python3 bench/small_sets.py self --rounds 20      puts other directions to the brute force itself
 
@@ -294,13 +294,12 @@ def main():
     parser = argparse.ArgumentParser(description='Small sets of points and their best sizes.')
     parser.add_argument('what', choices=['rows', 'run', 'self'])
     parser.add_argument('--program', default=PROGRAM, help='a built program')
-    parser.add_argument('--kinds', nargs='+', choices=KINDS, default=[kind for kind in KINDS if kind != 'kgon'])
+    parser.add_argument('--kinds', nargs='+', choices=KINDS, default=KINDS)
     parser.add_argument('--rounds', type=int, default=20)
     parser.add_argument('--first', type=int, default=1, help='the seed of the first round; the rows have 0')
     words = parser.parse_args()
     if words.what == 'rows':
-        write_table('small', [kind for kind in KINDS if kind != 'kgon'])
-        write_table('small_kgon', ['kgon'])
+        write_table('small', KINDS)
     elif words.what == 'run':
         try_program(words.program, words.kinds, words.rounds, words.first)
     else:
