@@ -12,7 +12,7 @@ short : (n limit : ℕ) → n ≤ limit → nat_le n limit ≡ true
 short n limit h = grind (arith, nat_tests)
 
 -- a file within its limit reads as its text does
-answer_in-text : (bytes : List ℕ) → length bytes ≤ limit_of answer_file → answer_in bytes ≡ read_answer (reading bytes)
+pub answer_in-text : (bytes : List ℕ) → length bytes ≤ limit_of answer_file → answer_in bytes ≡ read_answer (reading bytes)
 answer_in-text bytes h = ap (λ t. cond t (Ok bytes) (Err (too_long answer_file)) >>= λ whole. read_answer (reading whole)) (short (length bytes) (limit_of answer_file) h)
 
 -- the same of a file that is told

@@ -33,7 +33,7 @@ sized (Some folder) ask form file sets answer text points best taken line =
     (sizing ask sets, ap (λ r. r >>= λ sets. Ok (wanted true ask sets)) points, record { size = size_of answer; optimum = record { answer = answer; best = best; printed = refl }; taken = taken; line = line })
 
 -- where both files are accepted, the answer is to be judged
-check_work : (folder : Folder) (ask : Ask) (form : Form) (points answer : List ℕ) (sets : Sets) (a : Answer) → points_in ask (bytes_of folder points) ≡ Ok sets → answer_in (bytes_of folder answer) ≡ Ok a
+pub check_work : (folder : Folder) (ask : Ask) (form : Form) (points answer : List ℕ) (sets : Sets) (a : Answer) → points_in ask (bytes_of folder points) ≡ Ok sets → answer_in (bytes_of folder answer) ≡ Ok a
     → work_of folder (check_task ask form points answer) ≡ Ok (checking ask sets a)
 check_work folder ask form points answer sets a p q =
     ap (λ r. r >>= λ sets. answer_in (bytes_of folder answer) >>= λ a. Ok (checking ask sets a)) p ∙ ap (λ r. r >>= λ a. Ok (checking ask sets a)) q

@@ -6,6 +6,7 @@
 //! - `solving`: the answer to what is asked
 //! - `demo_points`, `demo_text`: points made from a seed, and what is told of them; a size alone
 //! - `output`: what a run writes
+//! - `laws`: what the contract comes to for two runs
 //! - `cause`, `telling`: why there is no whole output, and the line that says so
 #![tactic(auto)]
 
@@ -13,6 +14,7 @@ mod cause;
 mod command;
 mod demo_points;
 mod demo_text;
+pub mod laws;
 mod output;
 mod reading;
 mod solving;

@@ -1,13 +1,13 @@
 //! The files that a command names, each read to its end or to its limit before its text is judged.
-ghost use Rattle.std.specs.Prelude.{◌≡◌, ◌+◌, ◌<◌, ◌≤◌, max, length, IsTrue, IfSome, IfOk, IfErr, OnOk};
+ghost use Rattle.std.specs.Prelude.{◌≡◌, ◌+◌, ◌<◌, ◌≤◌, [], ◌∷◌, max, length, IsTrue, IfSome, IfOk, IfErr, OnOk};
 ghost use Rattle.bounds_model.specs.Asks.{Suits, IsValid};
 ghost use Rattle.bounds_model.specs.ErrorLines.{points_file, answer_file};
 ghost use Rattle.bounded_coords.specs.Asked.{asked};
 ghost use Rattle.answers.specs.Answers.{answer_of};
-ghost use Rattle.bnd_io.specs.Files.{Continues, bytes_of};
+ghost use Rattle.bnd_io.specs.Files.{Continues, NoFault, bytes_of};
 ghost use Rattle.bounds_tool.specs.Judging.{points_in, answer_in, limit_of};
 ghost use Rattle.bounds_tool.specs.Causes.{meant, meant_file};
-ghost use Rattle.bounds_tool.specs.Run.{FileCause, PointsCause, AnswerCause};
+ghost use Rattle.bounds_tool.specs.Run.{FileCause, PointsCause, AnswerCause, IsReadToEnd, ReadsOnly, most_of, IsOfFault};
 
 use crate::cause::{Cause, InputFile};
 use answers::Answer;
@@ -35,9 +35,11 @@ fn read_file<F: Files>(
     files: &mut F,
 ) -> Result<FileBytes, Cause>
     ensures continues { Continues (F.state files.old) (F.state files.new) }
+    ensures reads { ReadsOnly (name.now ∷ []) (most_of (meant_file file)) (F.state files.old) (F.state files.new) }
+    ensures no_fault { IfErr result (λ cause. ¬ IsOfFault (meant cause)) → NoFault (F.state files.old) (F.state files.new) }
     ensures bytes { IfOk result (λ bytes. IfSome (F.state files.old).told (λ folder. bytes_of folder name.now ≡ bytes)) }
     ensures within { IfOk result (λ bytes. length bytes ≤ limit_of (meant_file file)) }
-    ensures to_its_end { OnOk result (IsTrue (F.state files.new).ended) }
+    ensures to_its_end { OnOk result (IsReadToEnd name.now (F.state files.new)) }
     ensures most { (F.state files.new).taken ≤ max (F.state files.old).taken (limit_of (meant_file file) + 1) }
     ensures cause { IfErr result (λ cause. FileCause F.last_count (meant_file file) name.now (F.state files.old) (F.state files.new) (meant cause)) }
 {
@@ -62,9 +64,11 @@ pub(crate) fn read_points<F: Files>(
 ) -> Result<OwnedSets, Cause>
     requires { IsValid (asked ask.now) }
     ensures continues { Continues (F.state files.old) (F.state files.new) }
+    ensures reads { ReadsOnly (name.now ∷ []) (most_of points_file) (F.state files.old) (F.state files.new) }
+    ensures no_fault { IfErr result (λ cause. ¬ IsOfFault (meant cause)) → NoFault (F.state files.old) (F.state files.new) }
     ensures points { IfOk result (λ sets. IfSome (F.state files.old).told (λ folder. points_in (asked ask.now) (bytes_of folder name.now) ≡ Ok sets)) }
     ensures suits { IfOk result (λ sets. Suits (asked ask.now) sets) }
-    ensures to_its_end { OnOk result (IsTrue (F.state files.new).ended) }
+    ensures to_its_end { OnOk result (IsReadToEnd name.now (F.state files.new)) }
     ensures most { (F.state files.new).taken ≤ max (F.state files.old).taken (limit_of points_file + 1) }
     ensures cause { IfErr result (λ cause. PointsCause F.last_count (asked ask.now) name.now (F.state files.old) (F.state files.new) (meant cause)) }
 {
@@ -87,8 +91,10 @@ pub(crate) fn read_answer<F: Files>(
     files: &mut F,
 ) -> Result<Answer, Cause>
     ensures continues { Continues (F.state files.old) (F.state files.new) }
+    ensures reads { ReadsOnly (name.now ∷ []) (most_of answer_file) (F.state files.old) (F.state files.new) }
+    ensures no_fault { IfErr result (λ cause. ¬ IsOfFault (meant cause)) → NoFault (F.state files.old) (F.state files.new) }
     ensures answer { IfOk result (λ answer. IfSome (F.state files.old).told (λ folder. answer_in (bytes_of folder name.now) ≡ Ok (answer_of answer))) }
-    ensures to_its_end { OnOk result (IsTrue (F.state files.new).ended) }
+    ensures to_its_end { OnOk result (IsReadToEnd name.now (F.state files.new)) }
     ensures most { (F.state files.new).taken ≤ max (F.state files.old).taken (limit_of answer_file + 1) }
     ensures cause { IfErr result (λ cause. AnswerCause F.last_count name.now (F.state files.old) (F.state files.new) (meant cause)) }
 {
