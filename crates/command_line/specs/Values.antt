@@ -7,7 +7,7 @@ use Rattle.std.specs.declared.option.Option.TheVariants.{Some, None}
 use Rattle.bounds_model.specs.AnswerText.Numerals.{◌>>=◌, natural_number, whole_number}
 use Rattle.bounds_model.specs.EmptyRectangle.{Box}
 use Rattle.point_text.specs.declared.text.Form.{Form}
-use Rattle.point_text.specs.declared.text.Form.TheVariants.{Text}
+use Rattle.point_text.specs.declared.text.Form.TheVariants.{Text, Csv}
 
 -- a number from a least to a greatest one, in decimal digits without a sign and without a leading zero
 unfoldable pub number_within : ℕ → ℕ → List ℕ → Option ℕ
@@ -48,4 +48,5 @@ frame_written text = do
 unfoldable pub form_named : List ℕ → Option Form
 form_named word =
     if bytes_eq word (codes "text") then Some Text
+    else if bytes_eq word (codes "csv") then Some Csv
     else None

@@ -3,7 +3,7 @@
 use crate::read_words;
 use crate::values::frame_written;
 
-static WORDS: [(&[&str], &str); 19] = [
+static WORDS: [(&[&str], &str); 20] = [
     (
         &["circle", "a"],
         "Ok(Solve { ask: Circle, form: Text, brief: false, file: Name { text: \"a\" } })",
@@ -16,7 +16,11 @@ static WORDS: [(&[&str], &str); 19] = [
         &["--p=2", "centres", "a"],
         "Ok(Solve { ask: Centres(2), form: Text, brief: false, file: Name { text: \"a\" } })",
     ),
-    (&["circle", "a", "--form", "csv"], "Err(BadValue(Form))"),
+    (
+        &["circle", "a", "--form", "csv"],
+        "Ok(Solve { ask: Circle, form: Csv, brief: false, file: Name { text: \"a\" } })",
+    ),
+    (&["circle", "a", "--form", "table"], "Err(BadValue(Form))"),
     (
         &["--brief", "--form", "text", "circle", "a"],
         "Ok(Solve { ask: Circle, form: Text, brief: true, file: Name { text: \"a\" } })",

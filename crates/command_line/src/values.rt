@@ -95,6 +95,7 @@ pub(crate) fn form_named(word: &str) -> Option<Form>
 {
     match word {
         "text" => Some(Form::Text),
+        "csv" => Some(Form::Csv),
         _ => None,
     }
 }

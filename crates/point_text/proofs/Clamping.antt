@@ -3,8 +3,9 @@ use Rattle.std.proofs.Common.{◌≡◌, ◌∙◌, refl, sym, ap, ℕ, ℤ, pos
 use Rattle.std.proofs.lemmas.Int.{ints}
 use Rattle.std.proofs.lemmas.Bool.Decides.{nat_tests}
 use Rattle.std.specs.Option.{option_map}
+use Rattle.bounds_model.specs.Plane.{PlanePoint, plane_limit}
 use Rattle.bounds_model.specs.Space.{SpacePoint, space_limit}
-use Rattle.bounds_model.specs.PointText.{Meaning, is_within, says_point, out_of_bounds, space_meaning}
+use Rattle.bounds_model.specs.PointText.{Meaning, is_within, says_point, out_of_bounds, plane_meaning, space_meaning}
 use Rattle.point_text.specs.Clamps.{clamped}
 
 -- a number is in bounds where its clamped one is
@@ -34,6 +35,16 @@ through_clamp limit z small inside outside =
 cond_and : {A : Type 0} (a b : Bool) (x y : A) → cond (a && b) x y ≡ cond a (cond b x y) y
 cond_and true b x y = refl
 cond_and false b x y = refl
+
+-- clamping two numbers does not change what they mean
+pub plane_clamped : (x y : ℤ) → plane_meaning (Some (clamped x) ∷ Some (clamped y) ∷ []) ≡ plane_meaning (Some x ∷ Some y ∷ [])
+plane_clamped x y =
+    let point : ℤ → ℤ → Meaning PlanePoint = λ x y. says_point (record { x = x; y = y }) in
+    let parted = λ (x y : ℤ). cond_and (is_within plane_limit x) (is_within plane_limit y) (point x y) out_of_bounds in
+    let last : ℤ → ℤ → Meaning PlanePoint = λ x y. cond (is_within plane_limit y) (point x y) out_of_bounds in
+    parted (clamped x) (clamped y)
+    ∙ (through_clamp plane_limit x (omega arith) (λ x. last x (clamped y)) out_of_bounds
+    ∙ (ap (λ m. cond (is_within plane_limit x) m out_of_bounds) (through_clamp plane_limit y (omega arith) (point x) out_of_bounds) ∙ sym (parted x y)))
 
 -- clamping three numbers does not change what they mean
 pub space_clamped : (x y z : ℤ) → space_meaning (Some (clamped x) ∷ Some (clamped y) ∷ Some (clamped z) ∷ []) ≡ space_meaning (Some x ∷ Some y ∷ Some z ∷ [])

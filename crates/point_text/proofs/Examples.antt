@@ -5,6 +5,9 @@ use Rattle.bounds_model.specs.Space.{SpacePoint}
 use Rattle.bounds_model.specs.EmptyRectangle.{Box}
 use Rattle.bounds_model.specs.Asks.{ask_circle, ask_sphere, ask_empty, ask_distance, plane, space, two, bare}
 use Rattle.bounds_model.specs.PointText.{sets_of_text, bad_line, out_of_range, no_points, wrong_sets}
+use Rattle.csv.proofs.OnLiterals.{csv_on_literals}
+use Rattle.point_text.specs.declared.text.Form.TheVariants.{Csv}
+use Rattle.point_text.specs.Files.{sets_of_fields, sets_of_file}
 
 abbrev at : ℤ → ℤ → PlanePoint
 at x y = record { x = x; y = y }
@@ -149,3 +152,52 @@ one_set = refl
 three_sets : sets_of_text ask_distance (codes "0 0 0\n---\n1 1 1\n---\n2 2 2\n") ≡ Err (wrong_sets 3)
 unfolding sets_of_text
 three_sets = refl
+
+-- ---- records
+
+as_records : sets_of_file Csv ask_circle (codes "0,0\r\n4,0\r\n0,3\r\n") ≡ Ok (plane (at (pos 0) (pos 0) ∷ at (pos 4) (pos 0) ∷ at (pos 0) (pos 3) ∷ []))
+unfolding sets_of_fields csv_on_literals
+as_records = refl
+
+-- quotes are no part of a field, and the last record may lack its end
+quoted : sets_of_file Csv ask_circle (codes "\"1\",2\n-3,\"+04\"") ≡ Ok (plane (at (pos 1) (pos 2) ∷ at (neg_ℤ (pos 3)) (pos 4) ∷ []))
+unfolding sets_of_fields csv_on_literals
+quoted = refl
+
+-- a record of the field `---`, quoted or not, parts sets
+parting_records : sets_of_file Csv ask_circle (codes "0,0\n---\n\"---\"\n") ≡ Err (wrong_sets 3)
+unfolding sets_of_fields csv_on_literals
+parting_records = refl
+
+-- the first record is a point like any other
+header_row : sets_of_file Csv ask_circle (codes "x,y\n0,0\n") ≡ Err (bad_line 1)
+unfolding sets_of_fields csv_on_literals
+header_row = refl
+
+-- records are counted, an empty line is none, and there are no comments
+no_comment : sets_of_file Csv ask_circle (codes "\n0,0\n\n# c\n") ≡ Err (bad_line 2)
+unfolding sets_of_fields csv_on_literals
+no_comment = refl
+
+-- a blank is a part of its field
+no_blank : sets_of_file Csv ask_circle (codes "0, 0\n") ≡ Err (bad_line 1)
+unfolding sets_of_fields csv_on_literals
+no_blank = refl
+
+-- a record of one empty field is no empty line
+empty_field : sets_of_file Csv ask_circle (codes "0,0\n\"\"\n") ≡ Err (bad_line 2)
+unfolding sets_of_fields csv_on_literals
+empty_field = refl
+
+-- a quote that is left open holds the rest of the file
+open_quote : sets_of_file Csv ask_circle (codes "0,0\n\"1,2\n3,4\n") ≡ Err (bad_line 2)
+unfolding sets_of_fields csv_on_literals
+open_quote = refl
+
+no_record : sets_of_file Csv ask_circle [] ≡ Err (no_points 1)
+unfolding sets_of_fields csv_on_literals
+no_record = refl
+
+records_of_space : sets_of_file Csv ask_distance (codes "0,0,0\n---\n3,0,0\n") ≡ Ok (two (at_height (pos 0) (pos 0) (pos 0) ∷ []) (at_height (pos 3) (pos 0) (pos 0) ∷ []))
+unfolding sets_of_fields csv_on_literals
+records_of_space = refl

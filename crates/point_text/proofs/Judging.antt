@@ -9,6 +9,8 @@ use Rattle.bounded_coords.specs.declared.ask.Ask.{Ask}
 use Rattle.bounded_coords.specs.declared.ask.Ask.TheVariants.{Circle, Sphere, Rectangle, Parallelogram, Strip, Annulus, Empty, Kgon, Distance, Centres}
 use Rattle.point_text.specs.declared.text.TextFault.{TextFault}
 use Rattle.point_text.specs.Refusals.{refusal_of, Answers}
+use Rattle.point_text.specs.Files.{sets_of_fields}
+use Rattle.point_text.specs.Judged.{plane_meanings, CallsFor}
 
 -- where no line is refused, the sets decide
 pub judged_sets : {P : Type 0} (judge : List (List P) → Result Sets Refusal) (lines : List (Meaning P)) (outcome : Result Sets TextFault)
@@ -48,3 +50,17 @@ plane_text (Empty frame) bytes sphere distance empty = absurd (empty frame refl)
 plane_text (Kgon k) bytes sphere distance empty = refl
 plane_text Distance bytes sphere distance empty = absurd (distance refl)
 plane_text (Centres p) bytes sphere distance empty = refl
+
+-- the same of lines with these fields
+pub plane_called : (ask : Ask) → (ask ≡ Sphere → ⊥) → (ask ≡ Distance → ⊥) → ((frame : _) → ask ≡ Empty frame → ⊥) → CallsFor (asked ask) (λ lines. judged plane_set (plane_meanings lines))
+unfolding sets_of_fields
+plane_called Circle sphere distance empty lines = refl
+plane_called Sphere sphere distance empty lines = absurd (sphere refl)
+plane_called Rectangle sphere distance empty lines = refl
+plane_called Parallelogram sphere distance empty lines = refl
+plane_called Strip sphere distance empty lines = refl
+plane_called Annulus sphere distance empty lines = refl
+plane_called (Empty frame) sphere distance empty lines = absurd (empty frame refl)
+plane_called (Kgon k) sphere distance empty lines = refl
+plane_called Distance sphere distance empty lines = absurd (distance refl)
+plane_called (Centres p) sphere distance empty lines = refl

@@ -5,7 +5,12 @@ use Rattle.bounds_model.specs.Plane.{PlanePoint}
 use Rattle.bounds_model.specs.Space.{SpacePoint}
 use Rattle.bounds_model.specs.Asks.{Ask, ask_circle, ask_sphere, ask_rectangle, ask_parallelogram, ask_strip, ask_annulus, ask_empty, ask_kgon, ask_distance, ask_centres, Sets, plane, space, two, bare, Suits}
 use Rattle.bounds_model.specs.PointText.{Meaning, Refusal, sets_of, first_refusal, unless_refused, judged, plane_meaning, space_meaning, meanings, plane_set, plane_set_or_bare, space_set, space_sets, sets_of_text}
+use Rattle.bounds_model.specs.EmptyRectangle.{Box}
+use Rattle.point_text.specs.declared.text.Form.{Form}
+use Rattle.point_text.specs.declared.text.Form.TheVariants.{Text, Csv}
 use Rattle.point_text.specs.declared.text.TextFault.{TextFault}
+use Rattle.point_text.specs.Files.{sets_of_fields, records_of, sets_of_file}
+use Rattle.point_text.specs.Judged.{plane_meanings, space_meanings}
 use Rattle.point_text.specs.Refusals.{Answers}
 
 module _ (Q : Sets → Type 0) where
@@ -53,27 +58,48 @@ module _ (Q : Sets → Type 0) where
   answer_gives (Ok sets) judgement is gives = IfOk-at_ok Q is gives
   answer_gives (Err fault) judgement is gives = tt
 
-plane_text_suits : (ask : Ask) (bytes : List ℕ) → ((points : List PlanePoint) → Suits ask (plane points)) → IfOk (judged plane_set (meanings plane_meaning bytes)) (Suits ask)
-plane_text_suits ask bytes each =
-    let lines = meanings plane_meaning bytes in
-    judged_gives (Suits ask) plane_set lines (plane_set_gives (Suits ask) each (sets_of lines))
+plane_lines_suit : (ask : Ask) (lines : List (Meaning PlanePoint)) → ((points : List PlanePoint) → Suits ask (plane points)) → IfOk (judged plane_set lines) (Suits ask)
+plane_lines_suit ask lines each = judged_gives (Suits ask) plane_set lines (plane_set_gives (Suits ask) each (sets_of lines))
+
+plane_or_bare_suits : (frame : Box) (lines : List (Meaning PlanePoint)) → IfOk (judged plane_set_or_bare lines) (Suits (ask_empty frame))
+plane_or_bare_suits frame lines =
+    judged_gives (Suits (ask_empty frame)) plane_set_or_bare lines (plane_set_or_bare_gives (Suits (ask_empty frame)) tt (λ points. tt) (sets_of lines))
+
+space_lines_suit : (lines : List (Meaning SpacePoint)) → IfOk (judged space_set lines) (Suits ask_sphere)
+space_lines_suit lines = judged_gives (Suits ask_sphere) space_set lines (space_set_gives (Suits ask_sphere) (λ points. tt) (sets_of lines))
+
+two_sets_suit : (lines : List (Meaning SpacePoint)) → IfOk (judged space_sets lines) (Suits ask_distance)
+two_sets_suit lines = judged_gives (Suits ask_distance) space_sets lines (space_sets_gives (Suits ask_distance) (λ ps qs. tt) (sets_of lines))
 
 -- the sets of a text suit what is asked
-pub sets_of_text-suits : (ask : Ask) (bytes : List ℕ) → IfOk (sets_of_text ask bytes) (Suits ask)
+sets_of_text-suits : (ask : Ask) (bytes : List ℕ) → IfOk (sets_of_text ask bytes) (Suits ask)
 unfolding sets_of_text
-sets_of_text-suits ask_circle bytes = plane_text_suits ask_circle bytes (λ points. tt)
-sets_of_text-suits ask_sphere bytes =
-    let lines = meanings space_meaning bytes in
-    judged_gives (Suits ask_sphere) space_set lines (space_set_gives (Suits ask_sphere) (λ points. tt) (sets_of lines))
-sets_of_text-suits ask_rectangle bytes = plane_text_suits ask_rectangle bytes (λ points. tt)
-sets_of_text-suits ask_parallelogram bytes = plane_text_suits ask_parallelogram bytes (λ points. tt)
-sets_of_text-suits ask_strip bytes = plane_text_suits ask_strip bytes (λ points. tt)
-sets_of_text-suits ask_annulus bytes = plane_text_suits ask_annulus bytes (λ points. tt)
-sets_of_text-suits (ask_empty frame) bytes =
-    let lines = meanings plane_meaning bytes in
-    judged_gives (Suits (ask_empty frame)) plane_set_or_bare lines (plane_set_or_bare_gives (Suits (ask_empty frame)) tt (λ points. tt) (sets_of lines))
-sets_of_text-suits (ask_kgon k) bytes = plane_text_suits (ask_kgon k) bytes (λ points. tt)
-sets_of_text-suits ask_distance bytes =
-    let lines = meanings space_meaning bytes in
-    judged_gives (Suits ask_distance) space_sets lines (space_sets_gives (Suits ask_distance) (λ ps qs. tt) (sets_of lines))
-sets_of_text-suits (ask_centres count) bytes = plane_text_suits (ask_centres count) bytes (λ points. tt)
+sets_of_text-suits ask_circle bytes = plane_lines_suit ask_circle (meanings plane_meaning bytes) (λ points. tt)
+sets_of_text-suits ask_sphere bytes = space_lines_suit (meanings space_meaning bytes)
+sets_of_text-suits ask_rectangle bytes = plane_lines_suit ask_rectangle (meanings plane_meaning bytes) (λ points. tt)
+sets_of_text-suits ask_parallelogram bytes = plane_lines_suit ask_parallelogram (meanings plane_meaning bytes) (λ points. tt)
+sets_of_text-suits ask_strip bytes = plane_lines_suit ask_strip (meanings plane_meaning bytes) (λ points. tt)
+sets_of_text-suits ask_annulus bytes = plane_lines_suit ask_annulus (meanings plane_meaning bytes) (λ points. tt)
+sets_of_text-suits (ask_empty frame) bytes = plane_or_bare_suits frame (meanings plane_meaning bytes)
+sets_of_text-suits (ask_kgon k) bytes = plane_lines_suit (ask_kgon k) (meanings plane_meaning bytes) (λ points. tt)
+sets_of_text-suits ask_distance bytes = two_sets_suit (meanings space_meaning bytes)
+sets_of_text-suits (ask_centres count) bytes = plane_lines_suit (ask_centres count) (meanings plane_meaning bytes) (λ points. tt)
+
+-- so do those of lines with these fields
+sets_of_fields-suits : (ask : Ask) (lines : List (List (List ℕ))) → IfOk (sets_of_fields ask lines) (Suits ask)
+unfolding sets_of_fields
+sets_of_fields-suits ask_circle lines = plane_lines_suit ask_circle (plane_meanings lines) (λ points. tt)
+sets_of_fields-suits ask_sphere lines = space_lines_suit (space_meanings lines)
+sets_of_fields-suits ask_rectangle lines = plane_lines_suit ask_rectangle (plane_meanings lines) (λ points. tt)
+sets_of_fields-suits ask_parallelogram lines = plane_lines_suit ask_parallelogram (plane_meanings lines) (λ points. tt)
+sets_of_fields-suits ask_strip lines = plane_lines_suit ask_strip (plane_meanings lines) (λ points. tt)
+sets_of_fields-suits ask_annulus lines = plane_lines_suit ask_annulus (plane_meanings lines) (λ points. tt)
+sets_of_fields-suits (ask_empty frame) lines = plane_or_bare_suits frame (plane_meanings lines)
+sets_of_fields-suits (ask_kgon k) lines = plane_lines_suit (ask_kgon k) (plane_meanings lines) (λ points. tt)
+sets_of_fields-suits ask_distance lines = two_sets_suit (space_meanings lines)
+sets_of_fields-suits (ask_centres count) lines = plane_lines_suit (ask_centres count) (plane_meanings lines) (λ points. tt)
+
+-- the sets of a file suit what is asked
+pub sets_of_file-suits : (form : Form) (ask : Ask) (bytes : List ℕ) → IfOk (sets_of_file form ask bytes) (Suits ask)
+sets_of_file-suits Text ask bytes = sets_of_text-suits ask bytes
+sets_of_file-suits Csv ask bytes = sets_of_fields-suits ask (records_of bytes)

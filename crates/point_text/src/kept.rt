@@ -50,7 +50,7 @@ impl<P: Copy> KeptSets<P> {
     /// Adds a point to the last set.
     pub(crate) fn add(&mut self, p: P) -> Result<(), PushFault>
         ensures sets { OnOk result ((sets : List (List P)) → Keeps self.old sets → Keeps self.new (with_point p sets)) }
-        ensures count { OnOk result (self.new.count ≡ self.old.count) }
+        ensures count { self.new.count ≡ self.old.count }
         ensures full { (sets : List (List P)) → Keeps self.old sets → (result ≡ Err Full) ↔ (length (last_set sets) ≡ 10000) }
     {
         match self.count {

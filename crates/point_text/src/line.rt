@@ -1,14 +1,17 @@
 //! What one line says.
-ghost use Rattle.std.specs.Prelude.{◌≡◌, ◌∷◌, [], List, Option, ℤ, map, Some, MatchOption};
-ghost use Rattle.bounds_model.specs.PointText.{Meaning, number, fields_of, line_meaning, plane_meaning, space_meaning};
+ghost use Rattle.std.specs.Prelude.{◌≡◌, ◌∷◌, [], List, Option, ℕ, ℤ, map, Some, MatchOption};
+ghost use Rattle.bounds_model.specs.PointText.{Meaning, number, fields_of, fields_meaning, line_meaning, plane_meaning, space_meaning};
+ghost use Rattle.point_text.specs.Fields.{AreFields};
 ghost use Rattle.point_text.specs.Clamps.{clamped};
 ghost use Rattle.point_text.specs.Lines.{meaning_of, numbers_of, HasNoNumber};
 
 use crate::cuts::{content_of, next_field};
+use crate::fields::Fields;
 use crate::number::read_number;
 use bounded_coords::{Point2, Point3};
 
 /// What a line says, where `P` are the points.
+#[derive(Clone, Copy)]
 pub(crate) enum Line<P> {
     /// Nothing: it has no fields.
     Nothing,
@@ -26,6 +29,10 @@ pub(crate) enum Line<P> {
 pub(crate) trait TextPoint: Copy {
     /// What a line says whose fields have these numbers.
     ghost numbers_meaning: { List (Option ℤ) → Meaning Self };
+
+    /// What a line says whose fields come to this.
+    fn say(fields: Fields) -> Line<Self>
+        ensures { (line : List (List ℕ)) → AreFields fields line → meaning_of result ≡ fields_meaning numbers_meaning line };
 
     /// Reads the fields of a line as the coordinates of a point.
     fn read_fields(fields: &[u8]) -> Line<Self>
@@ -56,6 +63,15 @@ fn plane_line(x: i64, y: i64) -> Line<Point2>
 impl TextPoint for Point2 {
     ghost numbers_meaning = { plane_meaning };
 
+    fn say(fields: Fields) -> Line<Point2> {
+        match fields {
+            Fields::Empty => Line::Nothing,
+            Fields::Separator => Line::EndOfSet,
+            Fields::Two(x, y) => plane_line(x, y),
+            _ => Line::Bad,
+        }
+    }
+
     fn read_fields(fields: &[u8]) -> Line<Point2> {
         let Some((x, rest)) = next_number(fields) else {
             return Line::Bad;
@@ -82,6 +98,15 @@ fn space_line(x: i64, y: i64, z: i64) -> Line<Point3>
 
 impl TextPoint for Point3 {
     ghost numbers_meaning = { space_meaning };
+
+    fn say(fields: Fields) -> Line<Point3> {
+        match fields {
+            Fields::Empty => Line::Nothing,
+            Fields::Separator => Line::EndOfSet,
+            Fields::Three(x, y, z) => space_line(x, y, z),
+            _ => Line::Bad,
+        }
+    }
 
     fn read_fields(fields: &[u8]) -> Line<Point3> {
         let Some((x, rest)) = next_number(fields) else {

@@ -15,13 +15,23 @@ fn read(rt: &impl Abort, alloc: Global, ask: &Ask, text: &[u8]) -> Result<OwnedS
     parse(alloc, text, Form::Text, ask)
 }
 
-fn is_refused(rt: &impl Abort, alloc: Global, ask: &Ask, text: &[u8], fault: TextFault)
-    requires { IsValid (asked ask.now) }
-{
-    match read(rt, alloc, ask, text) {
+/// The text was refused for this.
+pub(crate) fn has_fault(
+    rt: &impl Abort,
+    read: Result<OwnedSets, TextFault>,
+    text: &[u8],
+    fault: TextFault,
+) {
+    match read {
         Ok(_) => panic!(rt; "{text:?} is not refused"),
         Err(found) => assert_eq!(rt; found, fault, "{text:?}"),
     }
+}
+
+fn is_refused(rt: &impl Abort, alloc: Global, ask: &Ask, text: &[u8], fault: TextFault)
+    requires { IsValid (asked ask.now) }
+{
+    has_fault(rt, read(rt, alloc, ask, text), text, fault);
 }
 
 fn are_in_plane(rt: &impl Abort, cloud: Cloud2<'_>, points: &[(i32, i32)]) {
@@ -32,7 +42,7 @@ fn are_in_plane(rt: &impl Abort, cloud: Cloud2<'_>, points: &[(i32, i32)]) {
     }
 }
 
-fn are_in_space(rt: &impl Abort, cloud: Cloud3<'_>, points: &[(i32, i32, i32)]) {
+pub(crate) fn are_in_space(rt: &impl Abort, cloud: Cloud3<'_>, points: &[(i32, i32, i32)]) {
     assert_eq!(rt; cloud.len() as usize, points.len());
     for i in 0..cloud.len() {
         let p = cloud.at(i);
@@ -40,15 +50,25 @@ fn are_in_space(rt: &impl Abort, cloud: Cloud3<'_>, points: &[(i32, i32, i32)]) 
     }
 }
 
-/// The text says these points of the plane.
-fn gives(rt: &impl Abort, alloc: Global, text: &[u8], points: &[(i32, i32)]) {
-    match read(rt, alloc, &Ask::Circle, text) {
+/// The text was read as these points of the plane.
+pub(crate) fn has_points(
+    rt: &impl Abort,
+    read: Result<OwnedSets, TextFault>,
+    text: &[u8],
+    points: &[(i32, i32)],
+) {
+    match read {
         Ok(sets) => match sets.view() {
             Sets::Plane(cloud) => are_in_plane(rt, cloud, points),
             _ => panic!(rt; "{text:?} has no points of the plane"),
         },
         Err(fault) => panic!(rt; "{text:?} is refused: {fault:?}"),
     }
+}
+
+/// The text says these points of the plane.
+fn gives(rt: &impl Abort, alloc: Global, text: &[u8], points: &[(i32, i32)]) {
+    has_points(rt, read(rt, alloc, &Ask::Circle, text), text, points);
 }
 
 #[test]

@@ -1,0 +1,64 @@
+-- The first refused line of lines to which one more was added.
+use Rattle.std.proofs.Common.{◌≡◌, ◌∙◌, refl, sym, ap, ℕ, ◌+◌, true, false, Option, Some, None, List, [], ◌∷◌, ◌++◌, length, length-append, append_assoc, append-nil, IfSome, MatchOption}
+use Rattle.std.specs.Option.{option_or, is_some}
+use Rattle.bounds_model.specs.PointText.{Meaning, Refusal, sets_of, line_refusal, first_refusal}
+use Rattle.point_text.specs.declared.kept.KeptSets.{KeptSets}
+use Rattle.point_text.specs.declared.text.TextFault.{TextFault}
+use Rattle.point_text.specs.Refusals.{refusal_of}
+use Rattle.point_text.specs.Kept.{Keeps}
+use Rattle.point_text.specs.Judged.{Accepts}
+
+or_assoc : (a b c : Option Refusal) → option_or a (option_or b c) ≡ option_or (option_or a b) c
+or_assoc None b c = refl
+or_assoc (Some r) b c = refl
+
+or_none : (a : Option Refusal) → option_or a None ≡ a
+or_none None = refl
+or_none (Some r) = refl
+
+module _ {P : Type 0} where
+  -- the first refused line of two lists stands in the first of them or in the second
+  pub first_refusal-append : (before lines more : List (Meaning P)) → first_refusal before (lines ++ more) ≡ option_or (first_refusal before lines) (first_refusal (before ++ lines) more)
+  first_refusal-append before [] more = ap (λ b. first_refusal b more) (sym (append-nil before))
+  first_refusal-append before (line ∷ lines) more =
+      ap (option_or (line_refusal before line)) (first_refusal-append (before ++ line ∷ []) lines more)
+      ∙ (or_assoc (line_refusal before line) (first_refusal (before ++ line ∷ []) lines) (first_refusal ((before ++ line ∷ []) ++ lines) more)
+      ∙ ap (λ b. option_or (first_refusal before (line ∷ lines)) (first_refusal b more)) (append_assoc before (line ∷ []) lines))
+
+  -- behind lines of which none is refused, the next one decides
+  pub refusal_of_next : (lines : List (Meaning P)) (next : Meaning P) → first_refusal [] lines ≡ None → first_refusal [] (lines ++ next ∷ []) ≡ line_refusal lines next
+  refusal_of_next lines next none =
+      first_refusal-append [] lines (next ∷ []) ∙ (ap (λ o. option_or o (first_refusal lines (next ∷ []))) none ∙ or_none (line_refusal lines next))
+
+  -- a refused line decides whatever follows
+  pub refusal_stays : (lines more : List (Meaning P)) (r : Refusal) → first_refusal [] lines ≡ Some r → first_refusal [] (lines ++ more) ≡ Some r
+  refusal_stays lines more r is = first_refusal-append [] lines more ∙ ap (λ o. option_or o (first_refusal lines more)) is
+
+  stays : (fault : Option Refusal) (lines more : List (Meaning P)) → IfSome fault (λ r. first_refusal [] lines ≡ Some r) → IfSome fault (λ r. first_refusal [] (lines ++ more) ≡ Some r)
+  stays None lines more is = is
+  stays (Some r) lines more is = refusal_stays lines more r is
+
+  -- so does a fault that was found
+  pub fault_stays : (fault : Option TextFault) (lines more : List (Meaning P)) (A B : Type 0) → is_some fault ≡ true
+      → MatchOption fault A (λ f. IfSome (refusal_of f) (λ r. first_refusal [] lines ≡ Some r))
+      → MatchOption fault B (λ f. IfSome (refusal_of f) (λ r. first_refusal [] (lines ++ more) ≡ Some r))
+  fault_stays None lines more A B some is = cc
+  fault_stays (Some f) lines more A B some is = stays (refusal_of f) lines more is
+
+  -- one more line is accepted
+  pub accepts_next : (kept next : KeptSets P) (count : ℕ) (lines : List (Meaning P)) (m : Meaning P) → Accepts kept count lines → line_refusal lines m ≡ None
+      → Keeps next (sets_of (lines ++ m ∷ [])) → Accepts next (count + 1) (lines ++ m ∷ [])
+  accepts_next kept next count lines m is good keeps = record {
+    accepted = refusal_of_next lines m is.accepted ∙ good;
+    as_many = length-append lines (m ∷ []) ∙ ap (λ n. n + 1) is.as_many;
+    keeps = keeps;
+  }
+
+-- where no fault was found
+pub no_fault : (fault : Option TextFault) → false ≡ is_some fault → fault ≡ None
+no_fault None none = refl
+no_fault (Some f) none = cc
+
+pub without_fault : (fault : Option TextFault) (A : Type 0) (B : TextFault → Type 0) → false ≡ is_some fault → MatchOption fault A B → A
+without_fault None A B none is = is
+without_fault (Some f) A B none is = cc

@@ -1,0 +1,73 @@
+//! Lines, judged in their order.
+ghost use Rattle.std.specs.Prelude.{◌≡◌, ◌≤◌, ◌<◌, ◌+◌, ◌^◌, List, [], ◌∷◌, ◌++◌, IfOk, IfErr, IfSome, Some, None};
+ghost use Rattle.bounds_model.specs.PointText.{Meaning, sets_of, first_refusal};
+
+use crate::TextFault;
+use crate::kept::KeptSets;
+use crate::line::Line;
+use bounded_coords::PushFault;
+use std::alloc::Global;
+
+/// What the lines so far come to: their sets, or the first fault.
+#[derive(Drop)]
+pub(crate) struct Judge<P> {
+    sets: KeptSets<P>,
+    lines: u32,
+    fault: Option<TextFault>,
+    ghost few: { sets.count ≤ lines + 1 },
+}
+
+impl<P: Copy> Judge<P> {
+    ghost use Rattle.point_text.specs.Lines.{meaning_of};
+    ghost use Rattle.point_text.specs.Kept.{Keeps};
+    ghost use Rattle.point_text.specs.Refusals.{refusal_of};
+    ghost use Rattle.point_text.specs.Judged.{HasJudged};
+
+    /// No line so far.
+    pub(crate) fn new(alloc: Global) -> Judge<P>
+        ensures judged { HasJudged result [] }
+        ensures lines { result.lines ≡ 0 }
+    {
+        Judge {
+            sets: KeptSets::new(alloc),
+            lines: 0,
+            fault: None,
+        }
+    }
+
+    /// Judges what the next line says. Behind the first fault nothing is kept.
+    pub(crate) fn take(&mut self, line: Line<P>)
+        requires { self.old.lines + 2 < 2 ^ 32 }
+        ensures judged { (before : List (Meaning P)) → HasJudged self.old before → HasJudged self.new (before ++ meaning_of line ∷ []) }
+        ensures lines { self.new.lines ≤ self.old.lines + 1 }
+    {
+        if self.fault.is_some() {
+            return;
+        }
+        self.lines += 1;
+        match line {
+            Line::Nothing => {}
+            Line::EndOfSet => self.sets.end_set(),
+            Line::Point(p) => match self.sets.add(p) {
+                Ok(()) => {}
+                Err(PushFault::Full) => self.fault = Some(TextFault::TooMany(self.lines)),
+                Err(PushFault::OutOfMemory) => self.fault = Some(TextFault::OutOfMemory),
+            },
+            Line::Bad => self.fault = Some(TextFault::BadLine(self.lines)),
+            Line::OutOfRange => self.fault = Some(TextFault::OutOfRange(self.lines)),
+        }
+    }
+
+    /// The sets of the lines, or the first fault.
+    pub(crate) fn end(self) -> Result<KeptSets<P>, TextFault>
+        ensures accepted { IfOk result (λ kept. (lines : List (Meaning P)) → HasJudged self lines → first_refusal [] lines ≡ None) }
+        ensures sets { IfOk result (λ kept. (lines : List (Meaning P)) → HasJudged self lines → Keeps kept (sets_of lines)) }
+        ensures refused { IfErr result (λ fault. (lines : List (Meaning P)) → HasJudged self lines
+            → IfSome (refusal_of fault) (λ refusal. first_refusal [] lines ≡ Some refusal)) }
+    {
+        match self.fault {
+            Some(fault) => Err(fault),
+            None => Ok(self.sets),
+        }
+    }
+}
