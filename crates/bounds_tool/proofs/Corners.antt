@@ -21,17 +21,17 @@ many (ask_kgon k) (plane points) count h = h.too_many
 many ask sets count h = absurd h
 
 -- what holds of the points in each folder
-where_read : (told : Option Folder) (ask : model.Ask) (file : List ℕ) (sets : Sets) {P : Sets → Type 0} → P sets → IfSome told (λ folder. points_in ask (bytes_of folder file) ≡ Ok sets)
-    → IfSome told (λ folder. (sets : Sets) × (points_in ask (bytes_of folder file) ≡ Ok sets) × P sets)
-where_read None ask file sets p points = tt
-where_read (Some folder) ask file sets p points = (sets, points, p)
+where_read : (told : Option Folder) (form : Form) (ask : model.Ask) (file : List ℕ) (sets : Sets) {P : Sets → Type 0} → P sets → IfSome told (λ folder. points_in form ask (bytes_of folder file) ≡ Ok sets)
+    → IfSome told (λ folder. (sets : Sets) × (points_in form ask (bytes_of folder file) ≡ Ok sets) × P sets)
+where_read None form ask file sets p points = tt
+where_read (Some folder) form ask file sets p points = (sets, points, p)
 
 -- why the points of a file were not answered for
 pub unsolved_file : (last : Option ℕ) (ask : Ask) (form : Form) (brief : Bool) (file : List ℕ) (old new : FilesState) (sets : Sets) (fault : KgonFault)
-    → IfSome old.told (λ folder. points_in (asked ask) (bytes_of folder file) ≡ Ok sets) → IsUnsolved ask sets fault
+    → IfSome old.told (λ folder. points_in form (asked ask) (bytes_of folder file) ≡ Ok sets) → IsUnsolved ask sets fault
     → ComesOf last (solve_task (asked ask) form brief file) old new (meant (unsolved fault))
 unsolved_file last ask form brief file old new sets (TooManyCorners count) points h =
-    inr (many (asked ask) sets count h, where_read old.told (asked ask) file sets {P = λ sets. HasTooManyCorners (asked ask) sets count} h points)
+    inr (many (asked ask) sets count h, where_read old.told form (asked ask) file sets {P = λ sets. HasTooManyCorners (asked ask) sets count} h points)
 unsolved_file last ask form brief file old new sets OutOfMemory points h = inl tt
 
 -- why points that were made were not

@@ -58,33 +58,33 @@ where_told None f = tt
 where_told (Some folder) f = f folder
 
 -- where the point file is refused, so is the task
-solve_refused : (ask : Ask) (form : Form) (brief : Bool) (file : List ℕ) (cause : Cause) (folder : Folder) → points_in ask (bytes_of folder file) ≡ Err cause → work_of folder (solve_task ask form brief file) ≡ Err cause
+solve_refused : (ask : Ask) (form : Form) (brief : Bool) (file : List ℕ) (cause : Cause) (folder : Folder) → points_in form ask (bytes_of folder file) ≡ Err cause → work_of folder (solve_task ask form brief file) ≡ Err cause
 solve_refused ask form brief file cause folder h = ap (λ r. r >>= λ sets. Ok (wanted brief ask sets)) h
 
-check_refused : (ask : Ask) (form : Form) (points answer : List ℕ) (cause : Cause) (folder : Folder) → points_in ask (bytes_of folder points) ≡ Err cause → work_of folder (check_task ask form points answer) ≡ Err cause
+check_refused : (ask : Ask) (form : Form) (points answer : List ℕ) (cause : Cause) (folder : Folder) → points_in form ask (bytes_of folder points) ≡ Err cause → work_of folder (check_task ask form points answer) ≡ Err cause
 check_refused ask form points answer cause folder h = ap (λ r. r >>= λ sets. answer_in (bytes_of folder answer) >>= λ a. Ok (checking ask sets a)) h
 
 -- where the point file is accepted, a refusal of the answer file is one of the task
-answer_refused : (ask : Ask) (form : Form) (points answer : List ℕ) (cause : Cause) (folder : Folder) → (sets : Result Sets Cause) → points_in ask (bytes_of folder points) ≡ sets → is_ok sets ≡ true → answer_in (bytes_of folder answer) ≡ Err cause
+answer_refused : (ask : Ask) (form : Form) (points answer : List ℕ) (cause : Cause) (folder : Folder) → (sets : Result Sets Cause) → points_in form ask (bytes_of folder points) ≡ sets → is_ok sets ≡ true → answer_in (bytes_of folder answer) ≡ Err cause
     → work_of folder (check_task ask form points answer) ≡ Err cause
 answer_refused ask form points answer cause folder (Ok sets) is accepted h =
     ap (λ r. r >>= λ sets. answer_in (bytes_of folder answer) >>= λ a. Ok (checking ask sets a)) is ∙ ap (λ r. r >>= λ a. Ok (checking ask sets a)) h
 answer_refused ask form points answer cause folder (Err other) is accepted h = absurd cc
 
-in_points : (last : Option ℕ) (task : Task) (ask : Ask) (name : List ℕ) (old new : FilesState) (cause : Cause) → Contains (files_of task) name
-    → ((folder : Folder) → points_in ask (bytes_of folder name) ≡ Err cause → work_of folder task ≡ Err cause) → PointsCause last ask name old new cause → Ending last task old new cause
-in_points last task ask name old new (open_fault points_file) there refused h = by_fault name there (inl h) refl
-in_points last task ask name old new (read_fault points_file) there refused h = by_fault name there (inr h) refl
-in_points last task ask name old new out_of_memory there refused h = by_memory refl
-in_points last task ask name old new cause there refused h = by_refusal (if_told old.told refused h.1) (points_status cause h.0)
+in_points : (last : Option ℕ) (task : Task) (form : Form) (ask : Ask) (name : List ℕ) (old new : FilesState) (cause : Cause) → Contains (files_of task) name
+    → ((folder : Folder) → points_in form ask (bytes_of folder name) ≡ Err cause → work_of folder task ≡ Err cause) → PointsCause last form ask name old new cause → Ending last task old new cause
+in_points last task form ask name old new (open_fault points_file) there refused h = by_fault name there (inl h) refl
+in_points last task form ask name old new (read_fault points_file) there refused h = by_fault name there (inr h) refl
+in_points last task form ask name old new out_of_memory there refused h = by_memory refl
+in_points last task form ask name old new cause there refused h = by_refusal (if_told old.told refused h.1) (points_status cause h.0)
 
-in_answer : (last : Option ℕ) (ask : Ask) (form : Form) (points answer : List ℕ) (old new : FilesState) (cause : Cause) → PointsAccepted ask points old → AnswerCause last answer old new cause
+in_answer : (last : Option ℕ) (ask : Ask) (form : Form) (points answer : List ℕ) (old new : FilesState) (cause : Cause) → PointsAccepted form ask points old → AnswerCause last answer old new cause
     → Ending last (check_task ask form points answer) old new cause
 in_answer last ask form points answer old new (open_fault answer_file) accepted h = by_fault answer (1, omega arith, refl) (inl h) refl
 in_answer last ask form points answer old new (read_fault answer_file) accepted h = by_fault answer (1, omega arith, refl) (inr h) refl
 in_answer last ask form points answer old new out_of_memory accepted h = by_memory refl
 in_answer last ask form points answer old new cause accepted h =
-    by_refusal (if_both_told old.told (λ folder ok refused. answer_refused ask form points answer cause folder (points_in ask (bytes_of folder points)) refl ok refused) accepted h.1) (answer_status cause h.0)
+    by_refusal (if_both_told old.told (λ folder ok refused. answer_refused ask form points answer cause folder (points_in form ask (bytes_of folder points)) refl ok refused) accepted h.1) (answer_status cause h.0)
 
 -- too many corners end a run with the status of input
 corners_status : (cause : Cause) → IsOfCorners cause → cause_status cause ≡ Input
@@ -101,7 +101,7 @@ too_much : (brief : Bool) (ask : Ask) (sets : Sets) → AreTooMany ask sets → 
 too_much false ask sets h = h
 too_much true ask sets h = h
 
-corners_work : (folder : Folder) (ask : Ask) (form : Form) (brief : Bool) (file : List ℕ) (cause : Cause) → (sets : Sets) × (points_in ask (bytes_of folder file) ≡ Ok sets) × CornersCause ask sets cause
+corners_work : (folder : Folder) (ask : Ask) (form : Form) (brief : Bool) (file : List ℕ) (cause : Cause) → (sets : Sets) × (points_in form ask (bytes_of folder file) ≡ Ok sets) × CornersCause ask sets cause
     → (work : Work) × (work_of folder (solve_task ask form brief file) ≡ Ok work) × IsTooMuch work
 corners_work folder ask form brief file cause h = (wanted brief ask h.0, ap (λ r. r >>= λ sets. Ok (wanted brief ask sets)) h.1, too_much brief ask h.0 (are_too_many ask h.0 cause h.2))
 
@@ -111,9 +111,9 @@ in_demo last ask seed count old new (too_many_corners n) h = by_corners (where_t
 in_demo last ask seed count old new cause h = absurd h
 
 ending : (last : Option ℕ) (task : Task) (old new : FilesState) (cause : Cause) → ComesOf last task old new cause → Ending last task old new cause
-ending last (solve_task ask form brief file) old new cause (inl h) = in_points last (solve_task ask form brief file) ask file old new cause (0, omega arith, refl) (solve_refused ask form brief file cause) h
+ending last (solve_task ask form brief file) old new cause (inl h) = in_points last (solve_task ask form brief file) form ask file old new cause (0, omega arith, refl) (solve_refused ask form brief file cause) h
 ending last (solve_task ask form brief file) old new cause (inr h) = by_corners (if_told old.told (λ folder c. corners_work folder ask form brief file cause c) h.1) (corners_status cause h.0)
-ending last (check_task ask form points answer) old new cause (inl h) = in_points last (check_task ask form points answer) ask points old new cause (0, omega arith, refl) (check_refused ask form points answer cause) h
+ending last (check_task ask form points answer) old new cause (inl h) = in_points last (check_task ask form points answer) form ask points old new cause (0, omega arith, refl) (check_refused ask form points answer cause) h
 ending last (check_task ask form points answer) old new cause (inr h) = in_answer last ask form points answer old new cause h.0 h.1
 ending last (demo_task ask seed count) old new cause (inl h) = by_memory (ap cause_status h)
 ending last (demo_task ask seed count) old new cause (inr h) = in_demo last ask seed count old new cause h

@@ -16,7 +16,7 @@ use Rattle.bounds_tool.specs.declared.output.Output.TheVariants.{Verdict}
 
 -- the text of an answer that passes is the output of a solving task
 pub solved : (told : Option Folder) (ask : Ask) (form : Form) (file : List ℕ) (sets : Sets) (answer : Answer) (text : List ℕ)
-    → IfSome told (λ folder. points_in ask (bytes_of folder file) ≡ Ok sets)
+    → IfSome told (λ folder. points_in form ask (bytes_of folder file) ≡ Ok sets)
     → Passes ask sets answer → IsBest ask sets answer → ¬ AreTooMany ask sets → Spells text answer
     → IfSome told (λ folder. (work : Work) × (work_of folder (solve_task ask form false file) ≡ Ok work) × IsDone work text)
 solved None ask form file sets answer text points passes best taken spells = tt
@@ -25,7 +25,7 @@ solved (Some folder) ask form file sets answer text points passes best taken spe
 
 -- the line of the size of a best answer is the output of a task that asks for it alone
 pub sized : (told : Option Folder) (ask : Ask) (form : Form) (file : List ℕ) (sets : Sets) (answer : Answer) (text : List ℕ)
-    → IfSome told (λ folder. points_in ask (bytes_of folder file) ≡ Ok sets)
+    → IfSome told (λ folder. points_in form ask (bytes_of folder file) ≡ Ok sets)
     → IsBest ask sets answer → ¬ AreTooMany ask sets → text ≡ size_line (size_of answer)
     → IfSome told (λ folder. (work : Work) × (work_of folder (solve_task ask form true file) ≡ Ok work) × IsDone work text)
 sized None ask form file sets answer text points best taken line = tt
@@ -33,7 +33,7 @@ sized (Some folder) ask form file sets answer text points best taken line =
     (sizing ask sets, ap (λ r. r >>= λ sets. Ok (wanted true ask sets)) points, record { size = size_of answer; optimum = record { answer = answer; best = best; printed = refl }; taken = taken; line = line })
 
 -- where both files are accepted, the answer is to be judged
-pub check_work : (folder : Folder) (ask : Ask) (form : Form) (points answer : List ℕ) (sets : Sets) (a : Answer) → points_in ask (bytes_of folder points) ≡ Ok sets → answer_in (bytes_of folder answer) ≡ Ok a
+pub check_work : (folder : Folder) (ask : Ask) (form : Form) (points answer : List ℕ) (sets : Sets) (a : Answer) → points_in form ask (bytes_of folder points) ≡ Ok sets → answer_in (bytes_of folder answer) ≡ Ok a
     → work_of folder (check_task ask form points answer) ≡ Ok (checking ask sets a)
 check_work folder ask form points answer sets a p q =
     ap (λ r. r >>= λ sets. answer_in (bytes_of folder answer) >>= λ a. Ok (checking ask sets a)) p ∙ ap (λ r. r >>= λ a. Ok (checking ask sets a)) q
@@ -44,7 +44,7 @@ not_true e = cc
 
 -- what a checker says is the output of a task that checks
 pub checked : (told : Option Folder) (ask : Ask) (form : Form) (points answer : List ℕ) (sets : Sets) (a : Answer) (passing : Bool)
-    → IfSome told (λ folder. points_in ask (bytes_of folder points) ≡ Ok sets)
+    → IfSome told (λ folder. points_in form ask (bytes_of folder points) ≡ Ok sets)
     → IfSome told (λ folder. answer_in (bytes_of folder answer) ≡ Ok a)
     → (IsTrue passing ↔ Passes ask sets a) → (IsTrue passing → IsBest ask sets a)
     → IfSome told (λ folder. (work : Work) × (work_of folder (check_task ask form points answer) ≡ Ok work) × IsMeantAs (Verdict passing) work (outputs.bytes_of (Verdict passing)))

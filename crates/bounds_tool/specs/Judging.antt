@@ -5,11 +5,12 @@ use Rattle.std.specs.declared.result.Result.TheVariants.{Ok, Err}
 use Rattle.bounds_model.specs.Asks.{Ask, Sets}
 use Rattle.bounds_model.specs.Answers.{Answer}
 use Rattle.bounds_model.specs.PointText as text
-use Rattle.bounds_model.specs.PointText.{sets_of_text}
 use Rattle.bounds_model.specs.AnswerText.Formats as format
 use Rattle.bounds_model.specs.AnswerText.Reading.{reading}
 use Rattle.bounds_model.specs.Demo.{demo_sets}
 use Rattle.bounds_model.specs.ErrorLines.{Cause, InputFile, points_file, answer_file, too_long, bad_line, out_of_range, too_many_points, no_points, wrong_sets, bad_answer, big_number}
+use Rattle.point_text.specs.declared.text.Form.{Form}
+use Rattle.point_text.specs.Files.{sets_of_file}
 use Rattle.bnd_io.specs.Files.{Folder, bytes_of}
 use Rattle.command_line.specs.Words.{Task, solve_task, check_task, demo_task, task_of}
 
@@ -56,11 +57,11 @@ abbrev pub read_answer : Result Answer format.Refusal → Result Answer Cause
 read_answer (Ok answer) = Ok answer
 read_answer (Err refusal) = Err (answer_cause refusal)
 
--- the points of a point file, for what is asked
-abbrev pub points_in : Ask → List ℕ → Result Sets Cause
-points_in ask bytes = do
+-- the points of a point file in this form, for what is asked
+abbrev pub points_in : Form → Ask → List ℕ → Result Sets Cause
+points_in form ask bytes = do
   whole ← bytes_within points_file bytes
-  read_points (sets_of_text ask whole)
+  read_points (sets_of_file form ask whole)
 
 -- the answer of an answer file
 abbrev pub answer_in : List ℕ → Result Answer Cause
@@ -76,10 +77,10 @@ wanted true = sizing
 -- the work of a task: the point file is judged whole before the answer file
 abbrev pub work_of : Folder → Task → Result Work Cause
 work_of folder (solve_task ask form brief file) = do
-  sets ← points_in ask (bytes_of folder file)
+  sets ← points_in form ask (bytes_of folder file)
   Ok (wanted brief ask sets)
 work_of folder (check_task ask form points answer) = do
-  sets ← points_in ask (bytes_of folder points)
+  sets ← points_in form ask (bytes_of folder points)
   a ← answer_in (bytes_of folder answer)
   Ok (checking ask sets a)
 work_of folder (demo_task ask seed count) = Ok (demonstrating ask count (demo_sets ask seed count))

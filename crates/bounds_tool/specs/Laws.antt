@@ -15,5 +15,5 @@ use Rattle.bounds_tool.specs.Run.{MayEnd}
 abbrev pub WrittenIsConfirmed : Type 0
 WrittenIsConfirmed =
     (folder : Folder) (ask : Ask) (form : Form) (points answer : List ℕ) (sets : Sets) (status : Status)
-    → points_in ask (bytes_of folder points) ≡ Ok sets → IsSolution ask sets (bytes_of folder answer)
+    → points_in form ask (bytes_of folder points) ≡ Ok sets → IsSolution ask sets (bytes_of folder answer)
     → MayEnd (work_of folder (check_task ask form points answer)) status → (status ≡ Done) ⊎ (status ≡ Memory)
