@@ -90,6 +90,9 @@ class Figures:
 def measure(program, question, sizes, runs, folder):
     kind, options, makers = question
     words = ' '.join([kind] + options)
+    if subprocess.run([program, kind], capture_output=True).stderr == b'bounds: usage: unknown command\n':
+        print(f'The program does not know `{kind}`.\n')
+        return
     heads = [f'{size} points' for size in sizes] + ['reading', 'of reading', '`check`', 'of reading', 'peak', "peak of `check`"]
     print(f'`{words}`, times in ms, peaks in MiB; from the fifth column on for {sizes[-1]} points:\n')
     print('| points | ' + ' | '.join(heads) + ' |')

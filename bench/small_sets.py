@@ -99,27 +99,9 @@ SPACE_SHAPES = [
 ]
 
 
-def small(rng):
+def few(rng):
     """At most five points of space of any shape."""
     return rng.choice(SPACE_SHAPES)[1](rng)[:5]
-
-
-PAIR_SHAPES = [
-    ('one point each', lambda rng: (draw(rng, 3, 1, 9), draw(rng, 3, 1, 9))),
-    ('equal points', lambda rng: ([(1, 2, 3)] * 2, [(1, 2, 3)] * 3)),
-    ('a point and a grid', lambda rng: (draw(rng, 3, 1, 3), draw(rng, 3, 5, 2))),
-    ('sets of one grid', lambda rng: (draw(rng, 3, 5, 2), draw(rng, 3, 4, 2))),
-    ('sets side by side', lambda rng: (draw(rng, 3, 5, 3), moved(draw(rng, 3, 5, 3), draw(rng, 3, 1, 12)[0]))),
-    ('sets of one plane', lambda rng: tuple(split(on_a_plane(rng)))),
-    ('sets of one line', lambda rng: tuple(split(on_a_line(rng, 3)))),
-    ('two lines', lambda rng: (on_a_line(rng, 3)[:4], on_a_line(rng, 3)[:4])),
-    ('a set and itself moved', lambda rng: (lambda points: (points, moved(points, draw(rng, 3, 1, 5)[0])))(draw(rng, 3, 4, 2))),
-    ('two cubes', lambda rng: (cube(rng), moved(cube(rng), draw(rng, 3, 1, 4)[0]))),
-    ('sets of the whole range', lambda rng: (draw(rng, 3, 4, SPACE), draw(rng, 3, 4, SPACE))),
-    ('small sets far apart', lambda rng: (moved(draw(rng, 3, 4, 9), (-7000, 0, 0)), moved(draw(rng, 3, 4, 9), (7000, 3, 1)))),
-    ('any two shapes', lambda rng: (small(rng), small(rng))),
-    ('any two shapes', lambda rng: (small(rng), moved(small(rng), draw(rng, 3, 1, 6)[0]))),
-]
 
 
 def split(points):
@@ -128,6 +110,30 @@ def split(points):
 
 def cube(rng):
     return [tuple(rng.choice([-1, 1]) for _ in range(3)) for _ in range(5)]
+
+
+def set_and_copy(rng):
+    points = draw(rng, 3, 4, 2)
+    return points, moved(points, draw(rng, 3, 1, 5)[0])
+
+
+# Each shape gives two sets of points of space, of at most five points each.
+PAIR_SHAPES = [
+    ('one point each', lambda rng: (draw(rng, 3, 1, 9), draw(rng, 3, 1, 9))),
+    ('equal points', lambda rng: ([(1, 2, 3)] * 2, [(1, 2, 3)] * 3)),
+    ('a point and a grid', lambda rng: (draw(rng, 3, 1, 3), draw(rng, 3, 5, 2))),
+    ('sets of one grid', lambda rng: (draw(rng, 3, 5, 2), draw(rng, 3, 4, 2))),
+    ('sets side by side', lambda rng: (draw(rng, 3, 5, 3), moved(draw(rng, 3, 5, 3), draw(rng, 3, 1, 12)[0]))),
+    ('sets of one plane', lambda rng: split(on_a_plane(rng))),
+    ('sets of one line', lambda rng: split(on_a_line(rng, 3))),
+    ('two lines', lambda rng: (on_a_line(rng, 3)[:4], on_a_line(rng, 3)[:4])),
+    ('a set and itself moved', set_and_copy),
+    ('two cubes', lambda rng: (cube(rng), moved(cube(rng), draw(rng, 3, 1, 4)[0]))),
+    ('sets of the whole range', lambda rng: (draw(rng, 3, 4, SPACE), draw(rng, 3, 4, SPACE))),
+    ('small sets far apart', lambda rng: (moved(draw(rng, 3, 4, 9), (-7000, 0, 0)), moved(draw(rng, 3, 4, 9), (7000, 3, 1)))),
+    ('any two shapes', lambda rng: (few(rng), few(rng))),
+    ('any two shapes', lambda rng: (few(rng), moved(few(rng), draw(rng, 3, 1, 6)[0]))),
+]
 
 
 def in_range(points):

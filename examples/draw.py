@@ -102,13 +102,15 @@ def corner(u, a, v, b):
     return (a * v[1] - b * u[1]) / determinant, (b * u[0] - a * v[0]) / determinant
 
 
-def between(picture, u, u_bounds, v, v_bounds, points):
-    """The parallelogram between bounds for two normals, and the points that touch it."""
+def between(picture, u, u_bounds, v, v_bounds, points, line=OBJECT):
+    """The parallelogram between bounds for two normals, with the points that touch it. It gives the corners."""
     order = [(0, 0), (1, 0), (1, 1), (0, 1)]
-    picture.polygon([corner(u, u_bounds[i], v, v_bounds[j]) for i, j in order], OBJECT, OBJECT)
+    corners = [corner(u, u_bounds[i], v, v_bounds[j]) for i, j in order]
+    picture.polygon(corners, line, OBJECT)
     for p in points:
         if any(p[0] * n[0] + p[1] * n[1] in bounds for n, bounds in ((u, u_bounds), (v, v_bounds))):
             picture.dot(p, WITNESS, 3.5)
+    return corners
 
 
 def numbers(words):
@@ -131,7 +133,9 @@ def draw_strip(picture, parts, sets):
     products = [p[0] * along[0] + p[1] * along[1] for p in sets[0]]
     length = max(products) - min(products) or 1
     ends = [min(products) - length / 12, max(products) + length / 12]
-    between(picture, u, bounds, along, ends, sets[0])
+    low_start, high_start, high_end, low_end = between(picture, u, bounds, along, ends, sets[0], 'none')
+    picture.line(low_start, low_end, OBJECT)
+    picture.line(high_start, high_end, OBJECT)
 
 
 def draw_rectangle(picture, parts, sets):

@@ -16,9 +16,9 @@ FIELD = '--box=0,0,1000,700'
 
 # The kind, its points, its options, and what the drawing is told beside the answer.
 PICTURES = [
-    ('circle', 'sites.txt', [], []),
+    ('circle', 'villages.txt', [], []),
     ('sphere', 'atoms.txt', [], []),
-    ('rectangle', 'plot.txt', [], []),
+    ('rectangle', 'sites.txt', [], []),
     ('parallelogram', 'drill_holes.txt', [], []),
     ('strip', 'drill_holes.txt', [], []),
     ('annulus', 'bearing.txt', [], []),
