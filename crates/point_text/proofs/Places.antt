@@ -1,9 +1,13 @@
 -- The first place of a byte, and the parts of a list before and after it.
-use Rattle.std.proofs.Common.{◌≡◌, ◌∙◌, refl, sym, ap, ℕ, suc, ◌+◌, Bool, true, false, cond, not, ltb, List, [], ◌∷◌, length, Some, None, arith, take, drop}
+use Rattle.std.proofs.Common.{◌≡◌, ◌∙◌, refl, sym, ap, ℕ, suc, ◌+◌, ◌<◌, ◌==◌, Bool, true, false, cond, not, ltb, List, [], ◌∷◌, ◌++◌, length, get_or, Some, None, arith, take, drop}
+use Rattle.std.proofs.Math.Seq.{take-length}
+use Rattle.std.proofs.lemmas.Bool.{eqb-true}
+use Rattle.std.proofs.lemmas.Grind.{common_steps}
+use Rattle.std.proofs.lemmas.List.Elements.{All-head, All-tail}
 use Rattle.std.proofs.lemmas.Bool.Decides.{nat_tests}
-use Rattle.std.specs.List.{position_from, position_or_len, before_first, after_first}
+use Rattle.std.specs.List.{All, position_from, position_or_len, before_first, after_first}
 use Rattle.std.proofs.lemmas.Iterator.Adapters.{position_from-zero}
-use Rattle.std.proofs.lemmas.List.Sums.{prefix_len-le-length}
+use Rattle.std.proofs.lemmas.List.Sums.{prefix_len-le-length, fails_before_first, passes_at_first, split_at_first}
 
 -- where a place is found, it is the first one
 pub place_found : (p : ℕ → Bool) (xs : List ℕ) (i : ℕ) → Some i ≡ position_from p 0 xs → i ≡ position_or_len p xs
@@ -39,11 +43,34 @@ before_first-cons_no p b xs other = ap (λ n. take n (b ∷ xs)) (position-cons_
 pub before_first-cons_yes : (p : ℕ → Bool) (b : ℕ) (xs : List ℕ) → p b ≡ true → before_first p (b ∷ xs) ≡ []
 before_first-cons_yes p b xs this = ap (λ n. take n (b ∷ xs)) (position-cons_yes p b xs this)
 
-pub after_first-cons_no : (p : ℕ → Bool) (b : ℕ) (xs : List ℕ) → p b ≡ false → after_first p (b ∷ xs) ≡ after_first p xs
-after_first-cons_no p b xs other =
-    let next = position-cons_no p b xs other in
-    let more : position_or_len p (b ∷ xs) + 1 ≡ suc (position_or_len p xs + 1) = omega (arith, next) in
-    ap (λ n. drop n (b ∷ xs)) more
+-- ---- the parts of a list at the first place
 
-pub after_first-cons_yes : (p : ℕ → Bool) (b : ℕ) (xs : List ℕ) → p b ≡ true → after_first p (b ∷ xs) ≡ xs
-after_first-cons_yes p b xs this = ap (λ n. drop (n + 1) (b ∷ xs)) (position-cons_yes p b xs this)
+before_none : (p : ℕ → Bool) (xs : List ℕ) → All (λ b. p b ≡ false) (before_first p xs)
+before_none p xs = λ k e m. let fails = fails_before_first p xs k e (grind (arith, common_steps)) in grind (arith, common_steps)
+
+pub before_place : (p : ℕ → Bool) (xs : List ℕ) (i : ℕ) → Some i ≡ position_from p 0 xs → All (λ b. p b ≡ false) (take i xs)
+before_place p xs i is = rw (place_found p xs i is) (before_none p xs)
+
+pub all_before : (p : ℕ → Bool) (xs : List ℕ) → None ≡ position_from p 0 xs → All (λ b. p b ≡ false) xs
+all_before p xs is =
+    let whole : before_first p xs ≡ xs = ap (λ n. take n xs) (place_missing p xs is) ∙ take-length xs in
+    rw whole at (before_none p xs)
+
+pub cut_at_place : (byte : ℕ) (xs : List ℕ) (i : ℕ) → Some i ≡ position_from (λ b. b == byte) 0 xs → i < length xs → xs ≡ take i xs ++ byte ∷ drop (i + 1) xs
+cut_at_place byte xs i is within =
+    let p : ℕ → Bool = λ b. b == byte in
+    let place : i ≡ position_or_len p xs = place_found p xs i is in
+    let found : position_or_len p xs < length xs = omega (arith, within, place) in
+    let same : get_or xs (position_or_len p xs) 0 ≡ byte = eqb-true _ byte (passes_at_first p xs 0 found) in
+    split_at_first p xs 0 found ∙ (ap (λ b. before_first p xs ++ b ∷ after_first p xs) same ∙ ap (λ n. take n xs ++ byte ∷ drop (n + 1) xs) (sym place))
+
+-- ---- the part before the first, where it is known
+
+pub before_first_all : (p : ℕ → Bool) (xs : List ℕ) → All (λ b. p b ≡ false) xs → before_first p xs ≡ xs
+before_first_all p [] none = refl
+before_first_all p (b ∷ xs) none = before_first-cons_no p b xs (All-head (λ b. p b ≡ false) b xs none) ∙ ap (λ ys. b ∷ ys) (before_first_all p xs (All-tail (λ b. p b ≡ false) b xs none))
+
+pub before_first_at : (p : ℕ → Bool) (xs : List ℕ) (y : ℕ) (ys : List ℕ) → All (λ b. p b ≡ false) xs → p y ≡ true → before_first p (xs ++ y ∷ ys) ≡ xs
+before_first_at p [] y ys none here = before_first-cons_yes p y ys here
+before_first_at p (b ∷ xs) y ys none here =
+    before_first-cons_no p b (xs ++ y ∷ ys) (All-head (λ b. p b ≡ false) b xs none) ∙ ap (λ zs. b ∷ zs) (before_first_at p xs y ys (All-tail (λ b. p b ≡ false) b xs none) here)

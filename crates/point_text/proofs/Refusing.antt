@@ -1,12 +1,15 @@
 -- The first refused line of lines to which one more was added.
-use Rattle.std.proofs.Common.{◌≡◌, ◌∙◌, refl, sym, ap, ℕ, ◌+◌, true, false, Option, Some, None, List, [], ◌∷◌, ◌++◌, length, length-append, append_assoc, append-nil, IfSome, MatchOption}
+use Rattle.std.proofs.Common.{◌≡◌, ◌∙◌, refl, sym, ap, ℕ, ◌+◌, ◌<◌, true, false, cond, nat_le, arith, Option, Some, None, Result, List, [], ◌∷◌, ◌++◌, length, length-append, append_assoc, append-nil, IfSome, MatchOption}
 use Rattle.std.specs.Option.{option_or, is_some}
-use Rattle.bounds_model.specs.PointText.{Meaning, Refusal, sets_of, line_refusal, first_refusal}
+use Rattle.std.proofs.lemmas.Bool.Decides.{nat_tests}
+use Rattle.bounds_model.specs.Asks.{Sets}
+use Rattle.bounds_model.specs.PointText.{Meaning, Refusal, says_point, says_nothing, too_many, most_points, sets_of, last_set, line_refusal, first_refusal, unless_refused, judged}
 use Rattle.point_text.specs.declared.kept.KeptSets.{KeptSets}
 use Rattle.point_text.specs.declared.text.TextFault.{TextFault}
 use Rattle.point_text.specs.Refusals.{refusal_of}
 use Rattle.point_text.specs.Kept.{Keeps}
 use Rattle.point_text.specs.Judged.{Accepts}
+use Rattle.point_text.proofs.SetLaws.{sets_of-nothing}
 
 or_assoc : (a b c : Option Refusal) → option_or a (option_or b c) ≡ option_or (option_or a b) c
 or_assoc None b c = refl
@@ -62,3 +65,23 @@ no_fault (Some f) none = cc
 pub without_fault : (fault : Option TextFault) (A : Type 0) (B : TextFault → Type 0) → false ≡ is_some fault → MatchOption fault A B → A
 without_fault None A B none is = is
 without_fault (Some f) A B none is = cc
+
+-- a line that says nothing changes nothing
+pub judged_nothing : {P : Type 0} (judge : List (List P) → Result Sets Refusal) (lines : List (Meaning P)) → judged judge (lines ++ says_nothing ∷ []) ≡ judged judge lines
+judged_nothing judge lines =
+    ap (λ sets. unless_refused (first_refusal [] (lines ++ says_nothing ∷ [])) (judge sets)) (sets_of-nothing lines)
+    ∙ ap (λ refusal. unless_refused refusal (judge (sets_of lines))) (first_refusal-append [] lines (says_nothing ∷ []) ∙ or_none (first_refusal [] lines))
+
+-- ---- a line that says a point
+
+-- a point for which there is room is not refused
+pub point_taken : {P : Type 0} (before : List (Meaning P)) (p : P) → length (last_set (sets_of before)) < most_points → line_refusal before (says_point p) ≡ None
+point_taken before p free =
+    let room : nat_le most_points (length (last_set (sets_of before))) ≡ false = grind (arith, nat_tests) in
+    ap (λ v. cond v (Some (too_many (length before + 1))) None) room
+
+-- a point for which there is none is one too many
+pub point_refused : {P : Type 0} (before : List (Meaning P)) (p : P) → length (last_set (sets_of before)) ≡ most_points → line_refusal before (says_point p) ≡ Some (too_many (length before + 1))
+point_refused before p full =
+    let none : nat_le most_points (length (last_set (sets_of before))) ≡ true = grind (arith, nat_tests) in
+    ap (λ v. cond v (Some (too_many (length before + 1))) None) none

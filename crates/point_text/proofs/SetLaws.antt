@@ -61,7 +61,7 @@ module _ {P : Type 0} where
   sets_of-nothing (bad_form ∷ rest) = sets_of-nothing rest
   sets_of-nothing (out_of_bounds ∷ rest) = sets_of-nothing rest
 
-  onto_first-end : (p : P) (sets : List (List P)) → 0 < length sets → onto_first p (sets ++ [] ∷ []) ≡ onto_first p sets ++ [] ∷ []
+  pub onto_first-end : (p : P) (sets : List (List P)) → 0 < length sets → onto_first p (sets ++ [] ∷ []) ≡ onto_first p sets ++ [] ∷ []
   onto_first-end p [] some = absurd (omega arith)
   onto_first-end p (points ∷ sets) some = refl
 
@@ -73,12 +73,12 @@ module _ {P : Type 0} where
   sets_of-end (bad_form ∷ rest) = sets_of-end rest
   sets_of-end (out_of_bounds ∷ rest) = sets_of-end rest
 
-  onto_first-with_point : (q p : P) (sets : List (List P)) → 0 < length sets → onto_first q (with_point p sets) ≡ with_point p (onto_first q sets)
+  pub onto_first-with_point : (q p : P) (sets : List (List P)) → 0 < length sets → onto_first q (with_point p sets) ≡ with_point p (onto_first q sets)
   onto_first-with_point q p [] some = absurd (omega arith)
   onto_first-with_point q p (points ∷ []) some = refl
   onto_first-with_point q p (points ∷ next ∷ sets) some = refl
 
-  with_point-after : (p : P) (sets : List (List P)) → 0 < length sets → [] ∷ with_point p sets ≡ with_point p ([] ∷ sets)
+  pub with_point-after : (p : P) (sets : List (List P)) → 0 < length sets → [] ∷ with_point p sets ≡ with_point p ([] ∷ sets)
   with_point-after p [] some = absurd (omega arith)
   with_point-after p (points ∷ sets) some = refl
 

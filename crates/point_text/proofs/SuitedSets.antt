@@ -9,6 +9,8 @@ use Rattle.bounds_model.specs.EmptyRectangle.{Box}
 use Rattle.point_text.specs.declared.text.Form.{Form}
 use Rattle.point_text.specs.declared.text.Form.TheVariants.{Text, Csv}
 use Rattle.point_text.specs.declared.text.TextFault.{TextFault}
+use Rattle.point_text.specs.declared.reader.Reader.{Reader}
+use Rattle.point_text.specs.Reading.{StandsFor}
 use Rattle.point_text.specs.Files.{sets_of_fields, records_of, sets_of_file}
 use Rattle.point_text.specs.Judged.{plane_meanings, space_meanings}
 use Rattle.point_text.specs.Refusals.{Answers}
@@ -72,7 +74,7 @@ two_sets_suit : (lines : List (Meaning SpacePoint)) → IfOk (judged space_sets 
 two_sets_suit lines = judged_gives (Suits ask_distance) space_sets lines (space_sets_gives (Suits ask_distance) (λ ps qs. tt) (sets_of lines))
 
 -- the sets of a text suit what is asked
-sets_of_text-suits : (ask : Ask) (bytes : List ℕ) → IfOk (sets_of_text ask bytes) (Suits ask)
+pub sets_of_text-suits : (ask : Ask) (bytes : List ℕ) → IfOk (sets_of_text ask bytes) (Suits ask)
 unfolding sets_of_text
 sets_of_text-suits ask_circle bytes = plane_lines_suit ask_circle (meanings plane_meaning bytes) (λ points. tt)
 sets_of_text-suits ask_sphere bytes = space_lines_suit (meanings space_meaning bytes)
@@ -103,3 +105,9 @@ sets_of_fields-suits (ask_centres count) lines = plane_lines_suit (ask_centres c
 pub sets_of_file-suits : (form : Form) (ask : Ask) (bytes : List ℕ) → IfOk (sets_of_file form ask bytes) (Suits ask)
 sets_of_file-suits Text ask bytes = sets_of_text-suits ask bytes
 sets_of_file-suits Csv ask bytes = sets_of_fields-suits ask (records_of bytes)
+
+-- the sets that a reader gives suit every ask for which it stands for bytes
+pub all_suit : (reader : Reader) (outcome : Result Sets TextFault) → ((ask : Ask) (bytes : List ℕ) → StandsFor reader ask bytes → IfOk outcome (Suits ask))
+    → IfOk outcome (λ sets. (ask : Ask) (bytes : List ℕ) → StandsFor reader ask bytes → Suits ask sets)
+all_suit reader (Ok sets) each = each
+all_suit reader (Err fault) each = tt

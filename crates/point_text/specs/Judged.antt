@@ -10,6 +10,7 @@ use Rattle.point_text.specs.declared.judge.Judge.{Judge}
 use Rattle.point_text.specs.declared.judgement.Judgement.{Judgement}
 use Rattle.point_text.specs.declared.kept.KeptSets.{KeptSets}
 use Rattle.point_text.specs.declared.judgement.Judgement.TheVariants.{PlaneSet, PlaneSetOrBare, SpaceSet, SpaceSets}
+use Rattle.point_text.specs.declared.text.TextFault.TheVariants.{OutOfMemory}
 use Rattle.point_text.specs.Refusals.{refusal_of}
 use Rattle.point_text.specs.Kept.{Keeps}
 use Rattle.point_text.specs.Files.{sets_of_fields}
@@ -47,3 +48,10 @@ lines_judged (PlaneSet judge) = judge.lines
 lines_judged (PlaneSetOrBare judge) = judge.lines
 lines_judged (SpaceSet judge) = judge.lines
 lines_judged (SpaceSets judge) = judge.lines
+
+-- memory was refused
+abbrev pub WantsMemory : Judgement → Type 0
+WantsMemory (PlaneSet judge) = judge.fault ≡ Some OutOfMemory
+WantsMemory (PlaneSetOrBare judge) = judge.fault ≡ Some OutOfMemory
+WantsMemory (SpaceSet judge) = judge.fault ≡ Some OutOfMemory
+WantsMemory (SpaceSets judge) = judge.fault ≡ Some OutOfMemory

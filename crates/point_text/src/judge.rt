@@ -1,6 +1,7 @@
 //! Lines, judged in their order.
-ghost use Rattle.std.specs.Prelude.{◌≡◌, ◌≤◌, ◌<◌, ◌+◌, ◌^◌, List, [], ◌∷◌, ◌++◌, IfOk, IfErr, IfSome, Some, None};
+ghost use Rattle.std.specs.Prelude.{◌≡◌, ◌↔◌, IsTrue, Err, ◌≤◌, ◌<◌, ◌+◌, ◌^◌, List, [], ◌∷◌, ◌++◌, IfOk, IfErr, IfSome, Some, None};
 ghost use Rattle.bounds_model.specs.PointText.{Meaning, sets_of, first_refusal};
+ghost use Rattle.point_text.specs.declared.text.TextFault.TheVariants as fault;
 
 use crate::TextFault;
 use crate::kept::KeptSets;
@@ -27,6 +28,7 @@ impl<P: Copy> Judge<P> {
     pub(crate) fn new(alloc: Global) -> Judge<P>
         ensures judged { HasJudged result [] }
         ensures lines { result.lines ≡ 0 }
+        ensures fault { result.fault ≡ None }
     {
         Judge {
             sets: KeptSets::new(alloc),
@@ -40,6 +42,7 @@ impl<P: Copy> Judge<P> {
         requires { self.old.lines + 2 < 2 ^ 32 }
         ensures judged { (before : List (Meaning P)) → HasJudged self.old before → HasJudged self.new (before ++ meaning_of line ∷ []) }
         ensures lines { self.new.lines ≤ self.old.lines + 1 }
+        ensures failed { self.old.fault ≡ Some fault.OutOfMemory → self.new.fault ≡ Some fault.OutOfMemory }
     {
         if self.fault.is_some() {
             return;
@@ -58,12 +61,20 @@ impl<P: Copy> Judge<P> {
         }
     }
 
+    /// Whether memory was refused.
+    pub(crate) fn has_failed(&self) -> bool
+        ensures { IsTrue result ↔ (self.now.fault ≡ Some fault.OutOfMemory) }
+    {
+        matches!(self.fault, Some(TextFault::OutOfMemory))
+    }
+
     /// The sets of the lines, or the first fault.
     pub(crate) fn end(self) -> Result<KeptSets<P>, TextFault>
         ensures accepted { IfOk result (λ kept. (lines : List (Meaning P)) → HasJudged self lines → first_refusal [] lines ≡ None) }
         ensures sets { IfOk result (λ kept. (lines : List (Meaning P)) → HasJudged self lines → Keeps kept (sets_of lines)) }
         ensures refused { IfErr result (λ fault. (lines : List (Meaning P)) → HasJudged self lines
             → IfSome (refusal_of fault) (λ refusal. first_refusal [] lines ≡ Some refusal)) }
+        ensures failed { self.fault ≡ Some fault.OutOfMemory → result ≡ Err fault.OutOfMemory }
     {
         match self.fault {
             Some(fault) => Err(fault),

@@ -1,16 +1,16 @@
 //! The lines of a file, judged for what is asked.
-ghost use Rattle.std.specs.Prelude.{◌≡◌, ◌≢◌, ◌≤◌, ◌<◌, ◌+◌, ◌^◌, List, [], ◌∷◌, ◌++◌, ℕ, length, MatchResult};
+ghost use Rattle.std.specs.Prelude.{◌≡◌, ◌↔◌, IsTrue, Err, ◌≢◌, ◌≤◌, ◌<◌, ◌+◌, ◌^◌, List, [], ◌∷◌, ◌++◌, ℕ, length, MatchResult};
 ghost use Rattle.bounds_model.specs.Plane.{PlanePoint};
 ghost use Rattle.bounds_model.specs.Space.{SpacePoint};
 ghost use Rattle.bounds_model.specs.Asks as asks;
 ghost use Rattle.bounds_model.specs.PointText as model;
 ghost use Rattle.bounded_coords.specs.Asked.{asked};
-ghost use Rattle.point_text.specs.declared.text.TextFault.TheVariants.{WrongSets};
+ghost use Rattle.point_text.specs.declared.text.TextFault.TheVariants.{WrongSets, OutOfMemory};
 ghost use Rattle.point_text.specs.Refusals.{Answers};
 ghost use Rattle.point_text.specs.Kept.{Keeps};
 ghost use Rattle.point_text.specs.Fields.{AreFields};
 ghost use Rattle.point_text.specs.Files.{sets_of_fields};
-ghost use Rattle.point_text.specs.Judged.{IsJudgement, lines_judged};
+ghost use Rattle.point_text.specs.Judged.{IsJudgement, WantsMemory, lines_judged};
 
 use crate::fields::Fields;
 use crate::judge::Judge;
@@ -38,6 +38,7 @@ impl Judgement {
     pub(crate) fn new(alloc: Global, ask: &Ask) -> Judgement
         ensures judged { IsJudgement result (asked ask.now) [] }
         ensures lines { lines_judged result ≡ 0 }
+        ensures fresh { WantsMemory result → ⊥ }
     {
         match ask {
             Ask::Sphere => Judgement::SpaceSet(Judge::new(alloc)),
@@ -53,6 +54,7 @@ impl Judgement {
         ensures judged { (ask : asks.Ask) (before : List (List (List ℕ))) (line : List (List ℕ)) → IsJudgement self.old ask before → AreFields fields line
             → IsJudgement self.new ask (before ++ line ∷ []) }
         ensures lines { lines_judged self.new ≤ lines_judged self.old + 1 }
+        ensures failed { WantsMemory self.old → WantsMemory self.new }
     {
         match self {
             Judgement::PlaneSet(judge) => judge.take(Point2::say(fields)),
@@ -62,9 +64,22 @@ impl Judgement {
         }
     }
 
+    /// Whether memory was refused.
+    pub(crate) fn has_failed(&self) -> bool
+        ensures { IsTrue result ↔ WantsMemory self.now }
+    {
+        match self {
+            Judgement::PlaneSet(judge) => judge.has_failed(),
+            Judgement::PlaneSetOrBare(judge) => judge.has_failed(),
+            Judgement::SpaceSet(judge) => judge.has_failed(),
+            Judgement::SpaceSets(judge) => judge.has_failed(),
+        }
+    }
+
     /// The sets that the lines say, or why they are refused.
     pub(crate) fn end(self) -> Result<OwnedSets, TextFault>
-        ensures { (ask : asks.Ask) (lines : List (List (List ℕ))) → IsJudgement self ask lines → Answers result (sets_of_fields ask lines) }
+        ensures sets { (ask : asks.Ask) (lines : List (List (List ℕ))) → IsJudgement self ask lines → Answers result (sets_of_fields ask lines) }
+        ensures failed { WantsMemory self → result ≡ Err OutOfMemory }
     {
         match self {
             Judgement::PlaneSet(judge) => plane_set(judge.end()?),

@@ -35,4 +35,4 @@ returns c =
     let is = c.loop-row.invariant.judges in
     let step = rw c.in-None.is at ((c.next.ensures.steps turns is.untrimmed).0 is.ready) in
     let all = judges_all (asked c.args.ask.now) c.args.bytes.now c.loop-row.row-iterator.rdr c.next.new.self.rdr c.loop-row.judgement is step in
-    rw all (c.end.ensures (asked c.args.ask.now) is.before is.judged)
+    rw all (c.end.ensures.sets (asked c.args.ask.now) is.before is.judged)

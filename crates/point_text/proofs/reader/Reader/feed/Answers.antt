@@ -1,0 +1,25 @@
+use Rattle.std.proofs.Common.{◌≡◌, ◌∙◌, ◌++◌, ◌∷◌, ◌+◌, ◌-◌, ◌==◌, sym, ap, take, drop, length, length-drop, arith}
+use Rattle.std.proofs.lemmas.List.{take_all}
+use Rattle.point_text.proofs.Places.{before_place, cut_at_place, all_before}
+use Rattle.point_text.proofs.Pieces.{reads_none, reads_line, reads_rest}
+use Rattle.point_text.proofs.reader.Reader.feed.Goals as goal
+
+pub lines-init : goal.lines-init
+lines-init c = reads_none c.args.self.now c.args.piece.now
+
+pub end_line-requires-clause-within : goal.end_line-requires-clause-within
+end_line-requires-clause-within c = before_place (λ b. b == 10) c.lines.rest.now c.in-Some.place (sym c.in-Some.is ∙ c.place_of.ensures.place)
+
+pub lines-preserved : goal.lines-preserved
+lines-preserved c =
+    let rest = c.lines.rest.now in
+    let place = c.in-Some.place in
+    let is = sym c.in-Some.is ∙ c.place_of.ensures.place in
+    let whole : take (length rest - (place + 1)) (drop (place + 1) rest) ≡ drop (place + 1) rest =
+    take_all (length rest - (place + 1)) (drop (place + 1) rest) (let size = length-drop (place + 1) rest in omega (arith, size)) in
+    let cut = cut_at_place 10 rest place is c.in-Some.ensures.within in
+    reads_line c.args.self.now c.lines.self c.end_line.new.self c.args.piece.now rest (take place rest) _ c.lines.invariant (cut ∙ ap (λ ys. take place rest ++ 10 ∷ ys) (sym whole))
+    c.end_line.ensures.taken c.end_line.ensures.stands c.end_line.ensures.stays
+
+pub go_on-requires-clause-within : goal.go_on-requires-clause-within
+go_on-requires-clause-within c = all_before (λ b. b == 10) c.lines.rest.now c.in_default.ensures.place

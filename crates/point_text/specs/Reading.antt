@@ -1,0 +1,29 @@
+-- What a reader of pieces has read.
+use Rattle.std.specs.Prelude.{◌≡◌, ℕ, List, [], ◌∷◌, ◌++◌, length, map}
+use Rattle.std.specs.List.{slice_split}
+use Rattle.bounds_model.specs.Asks.{Ask}
+use Rattle.bounds_model.specs.PointText.{is_line_feed, content, fields_of}
+use Rattle.point_text.specs.declared.reader.Reader.{Reader}
+use Rattle.point_text.specs.InHand.{IsLineInHand}
+use Rattle.point_text.specs.Judged.{IsJudgement, WantsMemory}
+
+-- how many bytes the reader took
+abbrev pub bytes_taken : Reader → ℕ
+bytes_taken reader = reader.taken
+
+-- memory was refused
+abbrev pub HasFailed : Reader → Type 0
+HasFailed reader = WantsMemory reader.judgement
+
+-- the fields of a line
+abbrev pub line_fields : List ℕ → List (List ℕ)
+line_fields line = fields_of (content line)
+
+-- for this ask, the reader took these bytes: line feeds part them into whole lines, which were judged, and the line in hand
+pub record StandsFor (reader : Reader) (ask : Ask) (bytes : List ℕ) : Type 0 where
+  pub taken : reader.taken ≡ length bytes
+  pub whole : List (List ℕ)
+  pub last : List ℕ
+  pub lines : slice_split is_line_feed bytes ≡ whole ++ last ∷ []
+  pub judged : IsJudgement reader.judgement ask (map line_fields whole)
+  pub in_hand : IsLineInHand reader.line last

@@ -1,0 +1,112 @@
+//! A point file in the text form, read in pieces of any cut.
+ghost use Rattle.std.specs.Prelude.{◌≡◌, ◌≤◌, ◌+◌, ◌^◌, List, ℕ, [], ◌++◌, codes, false, length, IfOk, OnOk, OnErr, Err};
+ghost use Rattle.bounds_model.specs.Asks as asks;
+ghost use Rattle.bounds_model.specs.Asks.{Suits};
+ghost use Rattle.std.specs.List.{All};
+ghost use Rattle.bounds_model.specs.PointText.{is_line_feed, sets_of_text};
+ghost use Rattle.bounded_coords.specs.Asked.{asked};
+ghost use Rattle.point_text.specs.declared.text.TextFault.TheVariants as fault;
+ghost use Rattle.point_text.specs.Refusals.{Answers};
+ghost use Rattle.point_text.specs.Judged.{lines_judged};
+
+use crate::cuts::place_of;
+use crate::judgement::Judgement;
+use crate::line_in_hand::LineInHand;
+use crate::{OwnedSets, TextFault};
+use bounded_coords::{Ask, OutOfMemory};
+use std::alloc::Global;
+
+/// What the bytes of a text come to so far, for what is asked. It keeps points, and no bytes.
+#[derive(Drop)]
+pub struct Reader {
+    taken: u32,
+    judgement: Judgement,
+    line: LineInHand,
+    ghost short: { taken ≤ 2 ^ 21 },
+    ghost counted: { lines_judged judgement ≤ taken },
+}
+
+impl Reader {
+    ghost use Rattle.point_text.specs.Reading.{StandsFor, HasFailed, bytes_taken};
+
+    /// The reader of no bytes. It takes no memory.
+    pub fn new(alloc: Global, ask: &Ask) -> Reader
+        ensures stands { StandsFor result (asked ask.now) [] }
+        ensures fresh { HasFailed result → ⊥ }
+    {
+        Reader {
+            taken: 0,
+            judgement: Judgement::new(alloc, ask),
+            line: LineInHand::new(),
+        }
+    }
+
+    /// How many bytes it took.
+    pub fn taken(&self) -> u32
+        ensures { result ≡ bytes_taken self.now }
+    {
+        self.taken
+    }
+
+    /// Reads bytes that end no line.
+    fn go_on(&mut self, part: &[u8])
+        requires short { bytes_taken self.old + length part.now ≤ 2 ^ 21 }
+        requires within { All (λ b. is_line_feed b ≡ false) part.now }
+        ensures taken { bytes_taken self.new ≡ bytes_taken self.old + length part.now }
+        ensures stands { (ask : asks.Ask) (bytes : List ℕ) → StandsFor self.old ask bytes → StandsFor self.new ask (bytes ++ part.now) }
+        ensures stays { HasFailed self.old → HasFailed self.new }
+    {
+        self.taken += part.len() as u32;
+        self.line = self.line.with(part);
+    }
+
+    /// Reads bytes and a line feed behind them, the first one.
+    fn end_line(&mut self, part: &[u8])
+        requires short { bytes_taken self.old + length part.now + 1 ≤ 2 ^ 21 }
+        requires within { All (λ b. is_line_feed b ≡ false) part.now }
+        ensures taken { bytes_taken self.new ≡ bytes_taken self.old + length part.now + 1 }
+        ensures stands { (ask : asks.Ask) (bytes : List ℕ) → StandsFor self.old ask bytes → StandsFor self.new ask (bytes ++ part.now ++ codes "\n") }
+        ensures stays { HasFailed self.old → HasFailed self.new }
+    {
+        self.taken += part.len() as u32 + 1;
+        self.judgement.take(self.line.with(part).end());
+        self.line = LineInHand::new();
+    }
+
+    /// Reads the next bytes, which may be cut anywhere. A fault of the text does not end the reading. Where
+    /// memory was refused, the reader has failed, now and at every later call.
+    pub fn feed(&mut self, piece: &[u8]) -> Result<(), OutOfMemory>
+        requires { bytes_taken self.old + length piece.now ≤ 2 ^ 21 }
+        ensures taken { bytes_taken self.new ≡ bytes_taken self.old + length piece.now }
+        ensures stands { (ask : asks.Ask) (bytes : List ℕ) → StandsFor self.old ask bytes → StandsFor self.new ask (bytes ++ piece.now) }
+        ensures going { OnOk result (HasFailed self.new → ⊥) }
+        ensures failed { OnErr result (HasFailed self.new) }
+        ensures stays { HasFailed self.old → HasFailed self.new }
+    {
+        let mut rest = piece;
+        'lines: while let Some(place) = place_of(rest, b'\n') {
+            self.end_line(&rest[..place]);
+            rest = &rest[place + 1..];
+        }
+        self.go_on(rest);
+        if self.judgement.has_failed() {
+            return Err(OutOfMemory);
+        }
+        Ok(())
+    }
+
+    /// The sets of the text that ends here, or why it is refused.
+    pub fn finish(self) -> Result<OwnedSets, TextFault>
+        ensures sets { (ask : asks.Ask) (bytes : List ℕ) → StandsFor self ask bytes → Answers result (sets_of_text ask bytes) }
+        ensures suits { IfOk result (λ sets. (ask : asks.Ask) (bytes : List ℕ) → StandsFor self ask bytes → Suits ask sets) }
+        ensures failed { HasFailed self → result ≡ Err fault.OutOfMemory }
+    {
+        let Reader {
+            mut judgement,
+            line,
+            ..
+        } = self;
+        judgement.take(line.end());
+        judgement.end()
+    }
+}
