@@ -1,9 +1,11 @@
 -- What is opened and read.
-use Rattle.std.proofs.Common.{◌≡◌, ◌≢◌, ◌⊎◌, inl, inr, refl, sym, ap, subst, ◌∙◌, ℕ, ◌+◌, ◌^◌, ◌≤◌, min, max, Bool, true, false, cond, List, [], ◌∷◌, arith}
+use Rattle.std.proofs.Common.{◌≡◌, ◌≢◌, ◌⊎◌, inl, inr, refl, sym, ap, subst, ◌∙◌, ℕ, ◌+◌, ◌^◌, ◌≤◌, min, max, Bool, true, false, cond, List, [], ◌∷◌, Option, Some, None, Result, Ok, IfSome, arith}
+use Rattle.std.specs.Prelude.{IsOk}
+use Rattle.bounds_model.specs.ErrorLines.{Cause}
 use Rattle.std.specs.Str.{bytes_eq}
 use Rattle.std.proofs.lemmas.Slice.Eq.{bytes_eq-Decides}
 use Rattle.std.proofs.lemmas.Bool.Decides.{not_from_Decides}
-use Rattle.bnd_io.specs.Files.{FilesState, Continues, NoFault, CountsOpen, CountsNoOpen, grown, at_most_u64}
+use Rattle.bnd_io.specs.Files.{Folder, FilesState, Continues, NoFault, CountsOpen, CountsNoOpen, grown, at_most_u64}
 use Rattle.bounds_tool.specs.Run.{times, ReadsOnly}
 
 -- ---- counts
@@ -92,3 +94,10 @@ reads_none names most state = record { continues = continues_same state; opens =
   where
     add : (a b : ℕ) → a ≤ a + b
     add a b = omega arith
+
+-- ---- acceptance
+
+-- points that were read were accepted
+pub accepted : {X : Type 0} (told : Option Folder) (read : Folder → Result X Cause) (x : X) → IfSome told (λ folder. read folder ≡ Ok x) → IfSome told (λ folder. IsOk (read folder))
+accepted None read x h = tt
+accepted (Some folder) read x h = subst IsOk (sym h) refl

@@ -1,5 +1,5 @@
 -- How often points are read.
-use Rattle.std.proofs.Common.{◌≡◌, ◌∙◌, refl, sym, subst, ℕ, ◌+◌, ◌*◌, ◌≤◌, arith, Bool, List, Option, Some, None, Result, Ok, Err, IfSome}
+use Rattle.std.proofs.Common.{◌≡◌, ◌∙◌, refl, sym, ap, subst, ℕ, ◌+◌, ◌*◌, ◌≤◌, arith, Bool, List, Option, Some, None, Result, Ok, Err, IfSome}
 use Rattle.bounds_model.specs.Asks.{Ask, ask_centres, Sets}
 use Rattle.bounds_model.specs.Demo.{demo_sets}
 use Rattle.bounds_model.specs.ErrorLines.{Cause}
@@ -15,10 +15,11 @@ no_more n m = omega arith
 
 -- the points that a file is read as are these
 same_sets : (form : Form) (ask : Ask) (bytes : List ℕ) (sets other : Sets) → points_in form ask bytes ≡ Ok sets → points_in form ask bytes ≡ Ok other → sets ≡ other
-same_sets form ask bytes sets other e f = inside (sym e ∙ f)
+same_sets form ask bytes sets other e f = ap sets_or (sym e ∙ f)
   where
-    inside : Ok {E = Cause} sets ≡ Ok other → sets ≡ other
-    inside g = cc
+    sets_or : Result Sets Cause → Sets
+    sets_or (Ok found) = found
+    sets_or (Err cause) = sets
 
 -- where no step was counted
 pub no_steps : (task : Result Task Cause) (old : FilesState) (count : ℕ) → StepsOfTask task old count count
@@ -26,7 +27,7 @@ no_steps (Ok (solve_task (ask_centres p) form brief file)) old count = by_told o
   where
     by_told : (told : Option Folder) → IfSome told (λ folder. (sets : Sets) → points_in form (ask_centres p) (bytes_of folder file) ≡ Ok sets → count ≤ count + 1000 * point_count sets)
     by_told None = tt
-    by_told (Some folder) sets e = no_more count (1000 * point_count sets)
+    by_told (Some folder) = λ sets e. no_more count (1000 * point_count sets)
 no_steps (Ok (demo_task (ask_centres p) seed n)) old count = no_more count (1000 * point_count (demo_sets (ask_centres p) seed n))
 no_steps task old count = tt
 
@@ -38,7 +39,7 @@ file_steps (ask_centres p) form brief file old sets before now points few = by_t
     by_told : (told : Option Folder) → IfSome told (λ folder. points_in form (ask_centres p) (bytes_of folder file) ≡ Ok sets)
         → IfSome told (λ folder. (other : Sets) → points_in form (ask_centres p) (bytes_of folder file) ≡ Ok other → now ≤ before + 1000 * point_count other)
     by_told None e = tt
-    by_told (Some folder) e other f = subst (λ (s : Sets). now ≤ before + 1000 * point_count s) (same_sets form (ask_centres p) (bytes_of folder file) sets other e f) (few p refl)
+    by_told (Some folder) e = λ other f. subst (λ (s : Sets). now ≤ before + 1000 * point_count s) (same_sets form (ask_centres p) (bytes_of folder file) sets other e f) (few p refl)
 file_steps ask form brief file old sets before now points few = tt
 
 pub demo_steps : (ask : Ask) (seed count : ℕ) (old : FilesState) (before now : ℕ) → ((p : ℕ) → ask ≡ ask_centres p → now ≤ before + 1000 * point_count (demo_sets ask seed count))

@@ -1,15 +1,20 @@
 -- The work that a task calls for, and its outputs, where the files tell.
-use Rattle.std.proofs.Common.{◌≡◌, ◌∙◌, refl, ap, ℕ, Bool, true, false, List, Option, Some, None, Ok, IfSome, IsTrue, ◌↔◌}
+use Rattle.std.proofs.Common.{◌≡◌, ◌∙◌, refl, ap, ℕ, Bool, true, false, List, Option, Some, None, Result, Ok, Err, IfSome, IsTrue, ◌↔◌}
+use Rattle.std.specs.Prelude.{IfOk}
 use Rattle.bounds_model.specs.Asks.{Ask, Sets}
 use Rattle.bounds_model.specs.Answers.{Answer, Passes, IsBest}
 use Rattle.bounds_model.specs.AnswerText.Spelling.{Spells}
-use Rattle.bnd_io.specs.Files.{Folder, bytes_of}
+use Rattle.bnd_io.specs.Files.{Folder, FilesState, bytes_of}
+use Rattle.bounds_model.specs.Demo.{demo_sets}
 use Rattle.bounds_model.specs.Answers.{IsOptimum, size_of}
 use Rattle.bounds_model.specs.AnswerText.SpelledParts.{size_line}
 use Rattle.point_text.specs.declared.text.Form.{Form}
-use Rattle.command_line.specs.Words.{solve_task, check_task}
+use Rattle.command_line.specs.Words.{solve_task, check_task, demo_task, task_of}
 use Rattle.bounds_tool.specs.Solving.{AreTooMany}
-use Rattle.bounds_tool.specs.Judging.{Work, solving, sizing, checking, wanted, ◌>>=◌, points_in, answer_in, work_of}
+use Rattle.bounds_tool.specs.Judging.{Work, solving, sizing, checking, demonstrating, wanted, ◌>>=◌, points_in, answer_in, work_of, judge_task, judge}
+use Rattle.bounds_tool.specs.Run.{OutputBy}
+use Rattle.bounds_tool.specs.declared.cause.Cause.{Cause}
+use Rattle.bounds_tool.specs.declared.output.Output.{Output}
 use Rattle.bounds_tool.specs.Outputs as outputs
 use Rattle.bounds_tool.specs.Outputs.{IsSolution, IsSize, IsDone, IsMeantAs}
 use Rattle.bounds_tool.specs.declared.output.Output.TheVariants.{Verdict}
@@ -53,3 +58,14 @@ checked (Some folder) ask form points answer sets a true p q passes best =
     (checking ask sets a, check_work folder ask form points answer sets a p q, record { passes = passes.0 refl; best = best refl; yes = refl })
 checked (Some folder) ask form points answer sets a false p q passes best =
     (checking ask sets a, check_work folder ask form points answer sets a p q, record { fails = λ h. not_true (passes.1 h); no = refl })
+
+-- what is made of a seed is the output of a demonstration
+pub demonstrated : (words : List (List ℕ)) (files : FilesState) (ask : Ask) (seed count : ℕ) (result : Result Output Cause) → task_of words ≡ Ok (demo_task ask seed count)
+    → IfOk result (λ output. IsMeantAs output (demonstrating ask count (demo_sets ask seed count)) (outputs.bytes_of output))
+    → IfOk result (λ output. OutputBy (IsMeantAs output) words files (outputs.bytes_of output))
+demonstrated words files ask seed count (Err cause) is h = tt
+demonstrated words files ask seed count (Ok output) is h = by_told files.told
+  where
+    by_told : (told : Option Folder) → IfSome told (λ folder. (work : Work) × (judge words folder ≡ Ok work) × IsMeantAs output work (outputs.bytes_of output))
+    by_told None = tt
+    by_told (Some folder) = (demonstrating ask count (demo_sets ask seed count), ap (judge_task folder) is, h)
