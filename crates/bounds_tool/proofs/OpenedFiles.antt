@@ -1,12 +1,13 @@
 -- What is opened and read.
-use Rattle.std.proofs.Common.{◌≡◌, ◌≢◌, ◌⊎◌, inl, inr, refl, sym, ap, subst, ◌∙◌, ℕ, ◌+◌, ◌^◌, ◌≤◌, min, max, Bool, true, false, cond, List, [], ◌∷◌, Option, Some, None, Result, Ok, IfSome, arith}
+use Rattle.std.proofs.Common.{◌≡◌, ◌≢◌, ◌⊎◌, inl, inr, refl, sym, ap, subst, ◌∙◌, ℕ, ◌+◌, ◌^◌, ◌≤◌, min, max, Bool, true, false, cond, List, [], ◌∷◌, Option, Some, None, Result, Ok, Err, IfSome, arith}
 use Rattle.std.specs.Prelude.{IsOk}
 use Rattle.bounds_model.specs.ErrorLines.{Cause}
 use Rattle.std.specs.Str.{bytes_eq}
 use Rattle.std.proofs.lemmas.Slice.Eq.{bytes_eq-Decides}
 use Rattle.std.proofs.lemmas.Bool.Decides.{not_from_Decides}
 use Rattle.bnd_io.specs.Files.{Folder, FilesState, Continues, NoFault, CountsOpen, CountsNoOpen, grown, at_most_u64}
-use Rattle.bounds_tool.specs.Run.{times, ReadsOnly}
+use Rattle.command_line.specs.Words.{Task, solve_task, check_task, demo_task}
+use Rattle.bounds_tool.specs.Run.{times, ReadsOnly, ReadsOfTask}
 
 -- ---- counts
 
@@ -101,3 +102,12 @@ reads_none names most state = record { continues = continues_same state; opens =
 pub accepted : {X : Type 0} (told : Option Folder) (read : Folder → Result X Cause) (x : X) → IfSome told (λ folder. read folder ≡ Ok x) → IfSome told (λ folder. IsOk (read folder))
 accepted None read x h = tt
 accepted (Some folder) read x h = subst IsOk (sym h) refl
+
+-- ---- the whole run
+
+pub continues_of : (task : Result Task Cause) (old new : FilesState) → ReadsOfTask task old new → Continues old new
+continues_of (Err cause) old new same = subst (Continues old) (sym same) (continues_same old)
+continues_of (Ok (solve_task ask form brief file)) old new h = h.continues
+continues_of (Ok (check_task ask form points answer)) old new (inl h) = h.continues
+continues_of (Ok (check_task ask form points answer)) old new (inr h) = h.1.continues
+continues_of (Ok (demo_task ask seed count)) old new same = subst (Continues old) (sym same) (continues_same old)

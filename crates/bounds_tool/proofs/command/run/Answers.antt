@@ -2,6 +2,8 @@ use Rattle.std.proofs.Common.{◌∙◌, sym}
 use Rattle.bounds_tool.specs.Causes.{meant}
 use Rattle.bounds_tool.specs.Run.{texts}
 use Rattle.bounds_tool.proofs.Endings.{IsRefusal-cause, TaskFault-cause, MayEnd-cause, MayEnd-output, wrote_prefix}
+use Rattle.command_line.specs.Words.{task_of}
+use Rattle.bounds_tool.proofs.OpenedFiles.{continues_of}
 use Rattle.bounds_tool.proofs.command.run.Goals as goal
 
 pub returns-in-Ok-write_all-clause-complete : goal.returns-in-Ok-write_all-clause-complete
@@ -23,3 +25,12 @@ returns-clause-read g c = λ e.
 pub returns-clause-complete : goal.returns-clause-complete
 returns-clause-complete g c =
     MayEnd-cause _ g.F.Files.last_count (texts c.args.words.now) (g.F.Files.state c.args.files.now) (g.F.Files.state c.output.new.files) (meant c.in-Err.cause) c.give_up-in-Err.result c.in-Err.ensures.cause c.give_up-in-Err.ensures.status
+
+pub returns-in-Ok-write_all-clause-continues : goal.returns-in-Ok-write_all-clause-continues
+returns-in-Ok-write_all-clause-continues g c = continues_of (task_of (texts c.args.words.now)) (g.F.Files.state c.args.files.now) (g.F.Files.state c.output.new.files) c.in-Ok.ensures.reads
+
+pub returns-in-Ok-clause-continues : goal.returns-in-Ok-clause-continues
+returns-in-Ok-clause-continues g c = continues_of (task_of (texts c.args.words.now)) (g.F.Files.state c.args.files.now) (g.F.Files.state c.output.new.files) c.in-Ok.ensures.reads
+
+pub returns-clause-continues : goal.returns-clause-continues
+returns-clause-continues g c = continues_of (task_of (texts c.args.words.now)) (g.F.Files.state c.args.files.now) (g.F.Files.state c.output.new.files) c.in-Err.ensures.reads
