@@ -3,13 +3,15 @@ ghost use Rattle.std.specs.Prelude.{◌≡◌, ◌≤◌, ◌+◌, ◌^◌, List
 ghost use Rattle.bounds_model.specs.Asks as asks;
 ghost use Rattle.bounds_model.specs.Asks.{Suits};
 ghost use Rattle.std.specs.List.{All};
-ghost use Rattle.bounds_model.specs.PointText.{is_line_feed, sets_of_text};
+ghost use Rattle.bounds_model.specs.PointText.{is_line_feed, content, fields_of, sets_of_text};
 ghost use Rattle.bounded_coords.specs.Asked.{asked};
 ghost use Rattle.point_text.specs.declared.text.TextFault.TheVariants as fault;
 ghost use Rattle.point_text.specs.Refusals.{Answers};
+ghost use Rattle.point_text.specs.Fields.{AreFields};
 ghost use Rattle.point_text.specs.Judged.{lines_judged};
 
-use crate::cuts::place_of;
+use crate::cuts::{place_of, read_line};
+use crate::fields::Fields;
 use crate::judgement::Judgement;
 use crate::line_in_hand::LineInHand;
 use crate::{OwnedSets, TextFault};
@@ -22,8 +24,17 @@ pub struct Reader {
     taken: u32,
     judgement: Judgement,
     line: LineInHand,
+    /// Whether the line in hand has a byte.
+    begun: bool,
     ghost short: { taken ≤ 2 ^ 21 },
     ghost counted: { lines_judged judgement ≤ taken },
+}
+
+/// Whether there is a byte, where there was one before this part, or not.
+fn has_byte(before: bool, part: &[u8]) -> bool
+    ensures { result ≡ false → (before ≡ false) × (part.now ≡ []) }
+{
+    before || !part.is_empty()
 }
 
 impl Reader {
@@ -38,6 +49,7 @@ impl Reader {
             taken: 0,
             judgement: Judgement::new(alloc, ask),
             line: LineInHand::new(),
+            begun: false,
         }
     }
 
@@ -58,6 +70,19 @@ impl Reader {
     {
         self.taken += part.len() as u32;
         self.line = self.line.with(part);
+        self.begun = has_byte(self.begun, part);
+    }
+
+    /// What the fields of the line in hand come to, where it ends behind these bytes. A line that is whole
+    /// in its piece is read as one slice, which is faster.
+    fn line_with(&self, part: &[u8]) -> Fields
+        ensures { (ask : asks.Ask) (bytes : List ℕ) (is : StandsFor self.now ask bytes) → AreFields result (fields_of (content (is.last ++ part.now))) }
+    {
+        if self.begun {
+            self.line.with(part).end()
+        } else {
+            read_line(part)
+        }
     }
 
     /// Reads bytes and a line feed behind them, the first one.
@@ -68,9 +93,11 @@ impl Reader {
         ensures stands { (ask : asks.Ask) (bytes : List ℕ) → StandsFor self.old ask bytes → StandsFor self.new ask (bytes ++ part.now ++ codes "\n") }
         ensures stays { HasFailed self.old → HasFailed self.new }
     {
+        let fields = self.line_with(part);
         self.taken += part.len() as u32 + 1;
-        self.judgement.take(self.line.with(part).end());
+        self.judgement.take(fields);
         self.line = LineInHand::new();
+        self.begun = false;
     }
 
     /// Reads the next bytes, which may be cut anywhere. A fault of the text does not end the reading. Where

@@ -12,7 +12,7 @@ returns-clause-stands c ask bytes is =
     let size = length-append bytes part in
     let more = length-append (bytes ++ part) (codes "\n") in
     let joined = split_joined_all is_line_feed part bytes is.whole is.last is.lines c.requires.within in
-    let fields = c.end.ensures line (c.with.ensures is.last is.in_hand) in
+    let fields = c.line_with-fields.ensures ask bytes is in
     record {
       taken = omega (arith, is.taken, size, more);
       whole = is.whole ++ line ∷ [];
@@ -20,4 +20,5 @@ returns-clause-stands c ask bytes is =
       lines = split_parted is_line_feed (bytes ++ part) 10 is.whole line joined refl;
       judged = rw (map-append line_fields is.whole (line ∷ [])) (c.take.ensures.judged ask (map line_fields is.whole) (line_fields line) is.judged fields);
       in_hand = c.new-self.ensures;
+      begun = λ none. refl;
     }
