@@ -1,5 +1,5 @@
 -- The fields of a line, cut off one by one.
-use Rattle.std.proofs.Common.{◌≡◌, ◌∙◌, refl, sym, ap, ℕ, ◌+◌, ◌<◌, inl, inr, Bool, true, false, cond, not, nat_le, List, [], ◌∷◌, ◌++◌, length, filter, drop, arith}
+use Rattle.std.proofs.Common.{◌≡◌, ◌∙◌, refl, sym, ap, ℕ, ◌+◌, ◌<◌, inl, inr, Bool, true, false, cond, not, nat_le, List, [], ◌∷◌, length, filter, drop, arith}
 use Rattle.std.proofs.lemmas.Bool.{cases_lt}
 use Rattle.std.proofs.lemmas.Bool.Decides.{nat_tests}
 use Rattle.std.proofs.Math.ListN.{drop_of_length-le}
@@ -7,9 +7,7 @@ use Rattle.std.proofs.lemmas.List.{take_all, length-take-le}
 use Rattle.std.specs.List.{slice_split, position_or_len, before_first, after_first}
 use Rattle.std.proofs.lemmas.List.Sums.{fails_before_first, prefix_len-le-length}
 use Rattle.std.proofs.lemmas.List.Splits.{slice_split_first, slice_split_none, slice_split-cons_yes}
-use Rattle.bounds_model.specs.PointText.{is_blank, content, fields_of}
-use Rattle.point_text.specs.declared.fields.Fields.{Fields}
-use Rattle.point_text.specs.Fields.{AreFields}
+use Rattle.bounds_model.specs.PointText.{is_blank, fields_of}
 use Rattle.point_text.proofs.Places.{position-cons_no, position-cons_yes}
 
 abbrev pub is_filled : List ℕ → Bool
@@ -68,11 +66,3 @@ fields_of-first xs some =
           ap (filter is_filled) (slice_split_none is_blank xs (λ k d lt. fails_before_first is_blank xs k d (omega arith)))
           ∙ (kept xs [] (omega arith) ∙ (ap (λ field. field ∷ []) (sym whole) ∙ ap (λ rest. before_first is_blank xs ∷ fields_of rest) (sym nothing)))
     ]
-
--- ---- the fields that were cut off
-
--- of the line's fields, the first ones come to this, and the rest has the others
-pub record HasRead (line : List ℕ) (fields : Fields) (rest : List ℕ) : Type 0 where
-  pub done : List (List ℕ)
-  pub all : fields_of (content line) ≡ done ++ fields_of rest
-  pub are : AreFields fields done

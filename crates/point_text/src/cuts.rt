@@ -1,17 +1,13 @@
 //! Places in a text, and fields cut off a line.
-ghost use Rattle.std.specs.Prelude.{◌≡◌, ℕ, Bool, ◌<◌, ◌≤◌, ◌-◌, ◌==◌, [], ◌∷◌, not, length, IfSome, MatchOption};
+ghost use Rattle.std.specs.Prelude.{◌≡◌, ℕ, Bool, ◌<◌, ◌==◌, [], ◌∷◌, not, length, IfSome, MatchOption};
 ghost use Rattle.std.specs.List.{before_first, after_first, position_from};
 ghost use Rattle.bounds_model.specs.PointText.{is_blank, content, fields_of};
-ghost use Rattle.point_text.specs.Fields.{AreFields};
-
-use crate::fields::{Fields, read_field};
 
 /// What stands before this place and what stands after it, or all and nothing without a place.
 fn parted(text: &[u8], place: Option<usize>) -> (&[u8], &[u8])
     requires { IfSome place (λ i. i < length text.now) }
     ensures before { (p : ℕ → Bool) → place ≡ position_from p 0 text.now → result.0.now ≡ before_first p text.now }
     ensures after { (p : ℕ → Bool) → place ≡ position_from p 0 text.now → result.1.now ≡ after_first p text.now }
-    ensures shorter { length result.1.now ≤ length text.now - 1 }
 {
     match place {
         Some(place) => (&text[..place], &text[place + 1..]),
@@ -37,7 +33,7 @@ fn cut(text: &[u8], byte: u8) -> (&[u8], &[u8])
 }
 
 /// The part of a line that counts.
-fn content_of(line: &[u8]) -> &[u8]
+pub(crate) fn content_of(line: &[u8]) -> &[u8]
     ensures { result.now ≡ content line.now }
 {
     match line {
@@ -70,25 +66,11 @@ fn field_end(text: &[u8]) -> Option<usize>
 }
 
 /// The first field and what stands behind it, or None where there is no field.
-fn next_field(text: &[u8]) -> Option<(&[u8], &[u8])>
-    ensures fields { MatchOption result (fields_of text.now ≡ [])
+pub(crate) fn next_field(text: &[u8]) -> Option<(&[u8], &[u8])>
+    ensures { MatchOption result (fields_of text.now ≡ [])
         (λ parts. fields_of text.now ≡ parts.0.now ∷ fields_of parts.1.now) }
-    ensures shorter { IfSome result (λ parts. length parts.1.now < length text.now) }
 {
     let start = field_start(text)?;
     let text = &text[start..];
     Some(parted(text, field_end(text)))
-}
-
-/// What the fields of a whole line come to, which is given without its line feed.
-pub(crate) fn read_line(line: &[u8]) -> Fields
-    ensures { AreFields result (fields_of (content line.now)) }
-{
-    let mut fields = Fields::Empty;
-    let mut rest = content_of(line);
-    'fields: while let Some((field, behind)) = next_field(rest) {
-        fields = fields.with(read_field(field));
-        rest = behind;
-    }
-    fields
 }

@@ -3,15 +3,13 @@ ghost use Rattle.std.specs.Prelude.{◌≡◌, ◌≤◌, ◌+◌, ◌^◌, List
 ghost use Rattle.bounds_model.specs.Asks as asks;
 ghost use Rattle.bounds_model.specs.Asks.{Suits};
 ghost use Rattle.std.specs.List.{All};
-ghost use Rattle.bounds_model.specs.PointText.{is_line_feed, content, fields_of, sets_of_text};
+ghost use Rattle.bounds_model.specs.PointText.{is_line_feed, sets_of_text};
 ghost use Rattle.bounded_coords.specs.Asked.{asked};
 ghost use Rattle.point_text.specs.declared.text.TextFault.TheVariants as fault;
 ghost use Rattle.point_text.specs.Refusals.{Answers};
-ghost use Rattle.point_text.specs.Fields.{AreFields};
 ghost use Rattle.point_text.specs.Judged.{lines_judged};
 
-use crate::cuts::{place_of, read_line};
-use crate::fields::Fields;
+use crate::cuts::place_of;
 use crate::judgement::Judgement;
 use crate::line_in_hand::LineInHand;
 use crate::{OwnedSets, TextFault};
@@ -73,18 +71,6 @@ impl Reader {
         self.begun = has_byte(self.begun, part);
     }
 
-    /// What the fields of the line in hand come to, where it ends behind these bytes. A line that is whole
-    /// in its piece is read as one slice, which is faster.
-    fn line_with(&self, part: &[u8]) -> Fields
-        ensures { (ask : asks.Ask) (bytes : List ℕ) (is : StandsFor self.now ask bytes) → AreFields result (fields_of (content (is.last ++ part.now))) }
-    {
-        if self.begun {
-            self.line.with(part).end()
-        } else {
-            read_line(part)
-        }
-    }
-
     /// Reads bytes and a line feed behind them, the first one.
     fn end_line(&mut self, part: &[u8])
         requires short { bytes_taken self.old + length part.now + 1 ≤ 2 ^ 21 }
@@ -93,9 +79,13 @@ impl Reader {
         ensures stands { (ask : asks.Ask) (bytes : List ℕ) → StandsFor self.old ask bytes → StandsFor self.new ask (bytes ++ part.now ++ codes "\n") }
         ensures stays { HasFailed self.old → HasFailed self.new }
     {
-        let fields = self.line_with(part);
         self.taken += part.len() as u32 + 1;
-        self.judgement.take(fields);
+        // A line that is whole in its piece is read as one slice, which is faster.
+        if !self.begun {
+            self.judgement.take_line(part);
+            return;
+        }
+        self.judgement.take(self.line.with(part).end());
         self.line = LineInHand::new();
         self.begun = false;
     }
