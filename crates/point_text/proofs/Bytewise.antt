@@ -1,5 +1,5 @@
 -- A field, as one more byte is read.
-use Rattle.std.proofs.Common.{◌≡◌, ◌≢◌, ◌∙◌, refl, sym, ap, ℕ, ℤ, pos, neg_ℤ, suc, zero, ◌+◌, ◌*◌, ◌≤◌, ◌==◌, ◌&&◌, min, Bool, true, false, cond, List, [], ◌∷◌, ◌++◌, length, length-append, nat_le, codes, append_assoc, append-nil, Option, Some, None, arith, inl, inr, ◌⊎◌, fold}
+use Rattle.std.proofs.Common.{◌≡◌, ◌≢◌, ◌∙◌, refl, sym, ap, ℕ, pos, neg_ℤ, suc, zero, ◌+◌, ◌*◌, ◌≤◌, ◌==◌, ◌&&◌, min, Bool, true, false, cond, List, [], ◌∷◌, ◌++◌, length, length-append, nat_le, codes, append_assoc, append-nil, Option, Some, None, arith}
 use Rattle.std.specs.Option.{option_map}
 use Rattle.std.specs.List.{list_all}
 use Rattle.std.specs.Char.{is_ascii_digit}
@@ -9,7 +9,7 @@ use Rattle.std.proofs.lemmas.Bool.{eqb-true}
 use Rattle.std.proofs.lemmas.Bool.Decides.{nat_tests}
 use Rattle.std.proofs.lemmas.List.Folds.{list_all-append}
 use Rattle.std.proofs.lemmas.List.Sums.{fold-append}
-use Rattle.bounds_model.specs.PointText.{natural, number, digits_number, digit_size, is_minus, is_plus}
+use Rattle.bounds_model.specs.PointText.{natural, number, digits_number, digit_size}
 use Rattle.point_text.specs.Clamps.{clamped_size, clamped}
 use Rattle.point_text.specs.Fields.{clamped_number}
 use Rattle.point_text.specs.declared.field_in_hand.FieldInHand.{FieldInHand}

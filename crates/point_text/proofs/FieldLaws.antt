@@ -1,9 +1,9 @@
 -- What fields come to, as one more is read.
-use Rattle.std.proofs.Common.{◌≡◌, ◌∙◌, refl, sym, ap, ℕ, ℤ, false, List, [], ◌∷◌, ◌++◌, map, codes, append_assoc, Option, Some, None}
+use Rattle.std.proofs.Common.{◌≡◌, ◌∙◌, refl, ap, ℕ, ℤ, false, List, [], ◌∷◌, ◌++◌, map, codes, append_assoc, Option, Some, None}
 use Rattle.std.proofs.lemmas.List.{map-append}
 use Rattle.std.specs.Option.{option_map}
 use Rattle.std.specs.Str.{bytes_eq}
-use Rattle.bounds_model.specs.PointText.{number, fields_meaning, plane_meaning, space_meaning, bad_form}
+use Rattle.bounds_model.specs.PointText.{number}
 use Rattle.point_text.specs.Clamps.{clamped}
 use Rattle.point_text.specs.Fields.{clamped_number, IsField, AreBad, AreFields}
 use Rattle.point_text.specs.declared.fields.Field.{Field}

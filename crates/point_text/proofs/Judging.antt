@@ -1,8 +1,8 @@
 -- A text is judged as the fields of its lines are.
-use Rattle.std.proofs.Common.{◌≡◌, ◌∙◌, refl, sym, ap, ℕ, List, [], ◌∷◌, ◌++◌, map}
+use Rattle.std.proofs.Common.{◌≡◌, ◌∙◌, refl, ap, ℕ, List, [], ◌∷◌, ◌++◌, map}
 use Rattle.std.proofs.lemmas.List.{map-append}
-use Rattle.bounds_model.specs.Asks.{Ask, Sets, ask_circle, ask_sphere, ask_rectangle, ask_parallelogram, ask_strip, ask_annulus, ask_empty, ask_kgon, ask_distance, ask_centres}
-use Rattle.bounds_model.specs.PointText.{Meaning, judged, says_nothing, fields_meaning, line_meaning, plane_meaning, space_meaning, plane_set, plane_set_or_bare, space_set, space_sets, text_lines, sets_of_text}
+use Rattle.bounds_model.specs.Asks.{Ask, ask_circle, ask_sphere, ask_rectangle, ask_parallelogram, ask_strip, ask_annulus, ask_empty, ask_kgon, ask_distance, ask_centres}
+use Rattle.bounds_model.specs.PointText.{judged, fields_meaning, line_meaning, plane_meaning, space_meaning, plane_set, plane_set_or_bare, space_set, space_sets, text_lines, sets_of_text}
 use Rattle.bounded_coords.specs.Asked.{asked}
 use Rattle.bounded_coords.specs.declared.ask.Ask as coords
 use Rattle.bounded_coords.specs.declared.ask.Ask.TheVariants.{Circle, Sphere, Rectangle, Parallelogram, Strip, Annulus, Empty, Kgon, Distance, Centres}

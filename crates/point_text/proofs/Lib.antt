@@ -1,4 +1,5 @@
 pub mod Places
+pub mod FieldCuts
 pub mod Clamping
 pub mod FieldLaws
 pub mod Points

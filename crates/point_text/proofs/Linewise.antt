@@ -1,8 +1,8 @@
 -- A line, as one more byte is read.
-use Rattle.std.proofs.Common.{◌≡◌, ◌∙◌, refl, sym, ap, ℕ, suc, ◌+◌, ◌-◌, ◌==◌, Bool, true, false, cond, List, [], ◌∷◌, ◌++◌, length, length-append, take, get_or, nat_le, codes, append_assoc, append-nil, arith, inl, inr, None}
-use Rattle.std.specs.List.{All, before_first, filter}
+use Rattle.std.proofs.Common.{◌≡◌, ◌∙◌, refl, sym, ap, ℕ, ◌-◌, ◌==◌, Bool, true, false, cond, List, [], ◌∷◌, ◌++◌, length, length-append, take, get_or, nat_le, codes, append_assoc, arith, inl, inr, None}
+use Rattle.std.specs.List.{before_first}
 use Rattle.std.specs.Str.Lines.{strip_carriage_return}
-use Rattle.std.proofs.Math.Seq.{take-append_seam, take-append-add, get_or-append_seam}
+use Rattle.std.proofs.Math.Seq.{take-append_seam, get_or-append_seam}
 use Rattle.std.proofs.lemmas.Bool.Decides.{nat_tests}
 use Rattle.std.proofs.lemmas.List.Elements.{filter-append, All-append, All-cons}
 use Rattle.bounds_model.specs.PointText.{is_comment_sign, content, number}
@@ -10,7 +10,7 @@ use Rattle.point_text.specs.declared.field_in_hand.FieldInHand.{FieldInHand}
 use Rattle.point_text.specs.declared.field_in_hand.FieldInHand.TheVariants.{Empty, Plus, Minus, TwoDashes, ThreeDashes, Positive, Negative, Other}
 use Rattle.point_text.specs.declared.line_in_hand.LineInHand.TheVariants.{Commented}
 use Rattle.point_text.specs.declared.line_in_hand.ContentInHand.{ContentInHand}
-use Rattle.point_text.specs.InHand.{IsFieldInHand, IsLineInHand, HasNoComment, Write, filled}
+use Rattle.point_text.specs.InHand.{IsFieldInHand, IsLineInHand, HasNoComment, filled}
 use Rattle.point_text.proofs.Bytewise.{write_some}
 use Rattle.point_text.proofs.Places.{before_first_all, before_first_at}
 

@@ -43,6 +43,15 @@ before_first-cons_no p b xs other = ap (λ n. take n (b ∷ xs)) (position-cons_
 pub before_first-cons_yes : (p : ℕ → Bool) (b : ℕ) (xs : List ℕ) → p b ≡ true → before_first p (b ∷ xs) ≡ []
 before_first-cons_yes p b xs this = ap (λ n. take n (b ∷ xs)) (position-cons_yes p b xs this)
 
+pub after_first-cons_no : (p : ℕ → Bool) (b : ℕ) (xs : List ℕ) → p b ≡ false → after_first p (b ∷ xs) ≡ after_first p xs
+after_first-cons_no p b xs other =
+    let next = position-cons_no p b xs other in
+    let more : position_or_len p (b ∷ xs) + 1 ≡ suc (position_or_len p xs + 1) = omega (arith, next) in
+    ap (λ n. drop n (b ∷ xs)) more
+
+pub after_first-cons_yes : (p : ℕ → Bool) (b : ℕ) (xs : List ℕ) → p b ≡ true → after_first p (b ∷ xs) ≡ xs
+after_first-cons_yes p b xs this = ap (λ n. drop (n + 1) (b ∷ xs)) (position-cons_yes p b xs this)
+
 -- ---- the parts of a list at the first place
 
 before_none : (p : ℕ → Bool) (xs : List ℕ) → All (λ b. p b ≡ false) (before_first p xs)

@@ -1,5 +1,5 @@
 -- The records of a text, read one by one.
-use Rattle.std.proofs.Common.{◌≡◌, ◌∙◌, refl, sym, ap, ℕ, zero, suc, ◌+◌, ◌<◌, ◌≤◌, ◌==◌, ◌||◌, ◌&&◌, Bool, true, false, cond, List, [], ◌∷◌, ◌++◌, length, take, Option, Some, None, arith, append_assoc, append-nil, Bor, inl}
+use Rattle.std.proofs.Common.{◌≡◌, ◌∙◌, refl, sym, ap, ℕ, zero, suc, ◌+◌, ◌<◌, ◌≤◌, ◌==◌, ◌||◌, Bool, true, false, cond, List, [], ◌∷◌, ◌++◌, length, take, Option, Some, None, arith, append_assoc, append-nil, Bor, inl}
 use Rattle.csv.specs.Machine.{Read, step, in_field, start_field, start_record, ends_at_end, is_end, fields_after, field_after, next_record}
 use Rattle.csv.specs.Reading.{is_bom, default_config, strip_bom, records_from, Reached, Ready, ReadRecord, source_of}
 use Rattle.csv.specs.Records.{field_at}

@@ -1,9 +1,9 @@
 -- The text of a point file in each of its forms.
-use Rattle.std.specs.Prelude.{ℕ, List, [], ◌∷◌, map}
+use Rattle.std.specs.Prelude.{ℕ, List, map}
 use Rattle.std.specs.declared.result.Result.{Result}
 use Rattle.csv.specs.Reading.{records, default_config, strip_bom}
 use Rattle.bounds_model.specs.Asks.{Ask, ask_sphere, ask_empty, ask_distance, Sets}
-use Rattle.bounds_model.specs.PointText.{Meaning, Refusal, fields_meaning, plane_meaning, space_meaning, judged, plane_set, plane_set_or_bare, space_set, space_sets, sets_of_text}
+use Rattle.bounds_model.specs.PointText.{Refusal, fields_meaning, plane_meaning, space_meaning, judged, plane_set, plane_set_or_bare, space_set, space_sets, sets_of_text}
 use Rattle.point_text.specs.declared.text.Form.{Form}
 use Rattle.point_text.specs.declared.text.Form.TheVariants.{Text, Csv}
 

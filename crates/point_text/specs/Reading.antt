@@ -1,5 +1,5 @@
 -- What a reader of pieces has read.
-use Rattle.std.specs.Prelude.{◌≡◌, ℕ, List, [], ◌∷◌, ◌++◌, length, map}
+use Rattle.std.specs.Prelude.{◌≡◌, ℕ, false, List, [], ◌∷◌, ◌++◌, length, map}
 use Rattle.std.specs.List.{slice_split}
 use Rattle.bounds_model.specs.Asks.{Ask}
 use Rattle.bounds_model.specs.PointText.{is_line_feed, content, fields_of}
@@ -27,3 +27,4 @@ pub record StandsFor (reader : Reader) (ask : Ask) (bytes : List ℕ) : Type 0 w
   pub lines : slice_split is_line_feed bytes ≡ whole ++ last ∷ []
   pub judged : IsJudgement reader.judgement ask (map line_fields whole)
   pub in_hand : IsLineInHand reader.line last
+  pub begun : reader.begun ≡ false → last ≡ []

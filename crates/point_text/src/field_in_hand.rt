@@ -117,14 +117,3 @@ impl FieldInHand {
         }
     }
 }
-
-/// What a whole field of these bytes is.
-pub(crate) fn read_field(bytes: &[u8]) -> Field
-    ensures { IsField result bytes.now }
-{
-    let mut field = FieldInHand::Empty;
-    for byte in bytes {
-        field = field.with(*byte);
-    }
-    field.end()
-}

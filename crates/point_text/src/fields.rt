@@ -2,6 +2,8 @@
 ghost use Rattle.std.specs.Prelude.{ℕ, List, [], ◌∷◌, ◌++◌};
 ghost use Rattle.point_text.specs.Fields.{IsField, AreFields};
 
+use crate::number::read_number;
+
 /// What a whole field is.
 #[derive(Clone, Copy)]
 pub(crate) enum Field {
@@ -28,6 +30,19 @@ pub(crate) enum Fields {
     Three(i64, i64, i64),
     /// Something else, which stays so whatever fields follow.
     Other,
+}
+
+/// What a field of these bytes is.
+pub(crate) fn read_field(bytes: &[u8]) -> Field
+    ensures { IsField result bytes.now }
+{
+    if bytes == b"---".as_slice() {
+        return Field::Separator;
+    }
+    match read_number(bytes) {
+        Some(number) => Field::Number(number),
+        None => Field::Other,
+    }
 }
 
 impl Fields {

@@ -15,7 +15,7 @@ ghost use Rattle.point_text.specs.Judged.{IsJudgement, WantsMemory, lines_judged
 use crate::fields::Fields;
 use crate::judge::Judge;
 use crate::kept::KeptSets;
-use crate::line::TextPoint;
+use crate::line::{TextPoint, read_line};
 use crate::{OwnedSets, TextFault};
 use bounded_coords::{Ask, Point2, Point3, Points};
 use std::alloc::Global;
@@ -61,6 +61,22 @@ impl Judgement {
             Judgement::PlaneSetOrBare(judge) => judge.take(Point2::say(fields)),
             Judgement::SpaceSet(judge) => judge.take(Point3::say(fields)),
             Judgement::SpaceSets(judge) => judge.take(Point3::say(fields)),
+        }
+    }
+
+    /// Judges the next line, given whole and without its line feed.
+    pub(crate) fn take_line(&mut self, line: &[u8])
+        requires { lines_judged self.old + 2 < 2 ^ 32 }
+        ensures judged { (ask : asks.Ask) (before : List (List (List ℕ))) → IsJudgement self.old ask before
+            → IsJudgement self.new ask (before ++ model.fields_of (model.content line.now) ∷ []) }
+        ensures lines { lines_judged self.new ≤ lines_judged self.old + 1 }
+        ensures failed { WantsMemory self.old → WantsMemory self.new }
+    {
+        match self {
+            Judgement::PlaneSet(judge) => judge.take(read_line(line)),
+            Judgement::PlaneSetOrBare(judge) => judge.take(read_line(line)),
+            Judgement::SpaceSet(judge) => judge.take(read_line(line)),
+            Judgement::SpaceSets(judge) => judge.take(read_line(line)),
         }
     }
 

@@ -7,8 +7,7 @@ ghost use Rattle.point_text.specs.Fields.{AreFields};
 ghost use Rattle.point_text.specs.Files.{sets_of_fields, records_of};
 ghost use Rattle.point_text.specs.Refusals.{Answers};
 
-use crate::field_in_hand::read_field;
-use crate::fields::Fields;
+use crate::fields::{Fields, read_field};
 use crate::judgement::Judgement;
 use crate::{OwnedSets, TextFault};
 use bounded_coords::Ask;

@@ -1,4 +1,4 @@
-use Rattle.std.proofs.Common.{◌∙◌, refl, sym, inr}
+use Rattle.std.proofs.Common.{◌∙◌, refl, inr}
 use Rattle.csv.specs.Records as csv
 use Rattle.bounded_coords.specs.Asked.{asked}
 use Rattle.point_text.proofs.RecordLaws.{judges_none, judges_more, judges_all}

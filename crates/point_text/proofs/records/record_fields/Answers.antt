@@ -1,6 +1,5 @@
-use Rattle.std.proofs.Common.{◌≡◌, ◌∙◌, ap, sym, suc, take, arith}
+use Rattle.std.proofs.Common.{◌≡◌, ◌∙◌, ap, suc, take, arith}
 use Rattle.csv.specs.Records as csv
-use Rattle.point_text.specs.Fields.{AreFields}
 use Rattle.point_text.proofs.RecordLaws.{take_field, take_fields}
 use Rattle.point_text.proofs.records.record_fields.Goals as goal
 

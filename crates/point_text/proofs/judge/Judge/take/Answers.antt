@@ -1,6 +1,5 @@
-use Rattle.std.proofs.Common.{◌≡◌, ◌∙◌, ◌+◌, ◌<◌, refl, sym, ap, arith, Err, Some, ◌∷◌, [], length, MatchOption}
-use Rattle.bounds_model.specs.PointText.{Meaning, says_nothing, ends_set, says_point, bad_form, out_of_bounds, bad_line, out_of_range, too_many, sets_of, last_set, most_points}
-use Rattle.point_text.specs.Judged.{Accepts}
+use Rattle.std.proofs.Common.{◌≡◌, ◌∙◌, ◌+◌, ◌<◌, refl, sym, ap, arith, Err, Some, length}
+use Rattle.bounds_model.specs.PointText.{says_nothing, ends_set, says_point, bad_form, out_of_bounds, bad_line, out_of_range, too_many, sets_of, last_set, most_points}
 use Rattle.point_text.proofs.SetLaws.{sets_of-nothing, sets_of-end, sets_of-point}
 use Rattle.point_text.proofs.Refusing.{fault_stays, without_fault, no_fault, accepts_next, refusal_of_next, point_taken, point_refused}
 use Rattle.point_text.proofs.judge.Judge.take.Goals as goal

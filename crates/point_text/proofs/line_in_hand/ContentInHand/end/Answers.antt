@@ -1,6 +1,4 @@
-use Rattle.std.proofs.Common.{◌∙◌, ap, sym}
-use Rattle.bounds_model.specs.PointText.{is_blank}
-use Rattle.point_text.specs.Fields.{AreFields}
+use Rattle.std.proofs.Common.{◌∙◌, ap}
 use Rattle.point_text.specs.InHand.{filled}
 use Rattle.point_text.proofs.Linewise.{field_some, filled_more}
 use Rattle.point_text.proofs.line_in_hand.ContentInHand.end.Goals as goal

@@ -1,4 +1,4 @@
-use Rattle.std.proofs.Common.{◌≡◌, ◌++◌, ◌∷◌, [], refl, codes}
+use Rattle.std.proofs.Common.{◌++◌, ◌∷◌, [], codes}
 use Rattle.point_text.proofs.Linewise.{comment_more, no_comment_returned}
 use Rattle.point_text.proofs.line_in_hand.LineInHand.with_byte.Goals as goal
 

@@ -1,7 +1,7 @@
 use Rattle.std.proofs.Common.{◌≡◌, ◌∙◌, ◌++◌, ◌∷◌, ◌+◌, ◌-◌, ◌==◌, sym, ap, take, drop, length, length-drop, arith}
 use Rattle.std.proofs.lemmas.List.{take_all}
 use Rattle.point_text.proofs.Places.{before_place, cut_at_place, all_before}
-use Rattle.point_text.proofs.Pieces.{reads_none, reads_line, reads_rest}
+use Rattle.point_text.proofs.Pieces.{reads_none, reads_line}
 use Rattle.point_text.proofs.reader.Reader.feed.Goals as goal
 
 pub lines-init : goal.lines-init
