@@ -1,7 +1,7 @@
 -- What a reader took of an open file.
-use Rattle.std.proofs.Common.{◌≡◌, ◌∙◌, sym, ap, ℕ, ◌+◌, ◌<◌, List, [], ◌++◌, length, length-append, append_assoc, append-nil, Option, Some, None, IfSome, arith}
+use Rattle.std.proofs.Common.{◌≡◌, ◌∙◌, sym, ap, subst, ℕ, ◌+◌, ◌<◌, List, [], ◌++◌, length, length-append, append_assoc, append-nil, Option, Some, None, IfSome, arith}
 use Rattle.bounds_model.specs.Asks.{Ask}
-use Rattle.bnd_io.specs.Files.{Folder}
+use Rattle.bnd_io.specs.Files.{Folder, bytes_of}
 use Rattle.point_text.specs.declared.reader.Reader.{Reader}
 use Rattle.point_text.specs.Reading.{StandsFor, bytes_taken}
 
@@ -46,3 +46,15 @@ took_too_many limit first now told all rest piece after took ask empty parts pas
         let more = ap length parts in
         let parted = length-append piece after in
         omega (arith, whole, size, more, parted, taken, past)
+
+-- a file that is named by its bytes
+pub took_file : (first now : Reader) (old middle : Option Folder) (name left : List ℕ) → middle ≡ old → IfSome middle (λ folder. left ≡ bytes_of folder name)
+    → ((ask : Ask) → StandsFor first ask [] → (bytes : List ℕ) × StandsFor now ask bytes × IfSome middle (λ _. bytes ≡ left))
+    → (ask : Ask) → StandsFor first ask [] → (bytes : List ℕ) × StandsFor now ask bytes × IfSome old (λ folder. bytes_of folder name ≡ bytes)
+took_file first now old middle name left same starts took ask empty =
+    let all = took ask empty in
+    (all.0, all.1, subst (λ told. IfSome told (λ folder. bytes_of folder name ≡ all.0)) same (whole middle all.0 starts all.2))
+  where
+    whole : (told : Option Folder) (bytes : List ℕ) → IfSome told (λ folder. left ≡ bytes_of folder name) → IfSome told (λ _. bytes ≡ left) → IfSome told (λ folder. bytes_of folder name ≡ bytes)
+    whole None bytes starts is = tt
+    whole (Some folder) bytes starts is = sym (is ∙ starts)
