@@ -1,9 +1,13 @@
 -- Why a run gives no whole output, in the words of the model.
+use Rattle.std.specs.declared.option.Option.{Option}
+use Rattle.std.specs.declared.option.Option.TheVariants.{Some, None}
+use Rattle.bounds_model.specs.PointText.{Refusal}
 use Rattle.bounds_model.specs.ErrorLines as model
 use Rattle.command_line.specs.Faults.{meant_fault}
 use Rattle.extremal_kgon.specs.declared.polygon.KgonFault as kgon
 use Rattle.bounds_tool.specs.declared.cause.InputFile.{InputFile}
 use Rattle.bounds_tool.specs.declared.cause.InputFile.TheVariants.{Points, Answer}
+use Rattle.bounds_tool.specs.Judging.{points_cause}
 use Rattle.bounds_tool.specs.declared.cause.Cause.{Cause}
 use Rattle.bounds_tool.specs.declared.cause.Cause.TheVariants.{Usage, NotOpened, NotRead, TooLong, BadLine, OutOfRange, TooMany, NoPoints, WrongSets, TooManyCorners, BadAnswer, BigNumber, OutputNotWritten, OutOfMemory}
 
@@ -33,3 +37,8 @@ meant OutOfMemory = model.out_of_memory
 abbrev pub unsolved : kgon.KgonFault → Cause
 unsolved (kgon.TheVariants.TooManyCorners count) = TooManyCorners count
 unsolved kgon.TheVariants.OutOfMemory = OutOfMemory
+
+-- the cause of a text of points without its sets: it is refused, or else memory is wanting
+abbrev pub without_sets : Option Refusal → model.Cause
+without_sets (Some refusal) = points_cause refusal
+without_sets None = model.out_of_memory

@@ -6,6 +6,7 @@ ghost use Rattle.bounds_tool.specs.Run.{cause_status};
 use crate::Status;
 use command_line::UsageFault;
 use extremal_kgon::KgonFault;
+use point_text::TextFault;
 
 /// A file that a command names.
 #[derive(Clone, Copy, Debug, PartialEq, Eq)]
@@ -59,6 +60,25 @@ impl From<KgonFault> for Cause {
         match fault {
             KgonFault::TooManyCorners(count) => Cause::TooManyCorners(count),
             KgonFault::OutOfMemory => Cause::OutOfMemory,
+        }
+    }
+}
+
+impl From<TextFault> for Cause {
+    ghost use Rattle.std.specs.Prelude.{◌≡◌};
+    ghost use Rattle.point_text.specs.Refusals.{refusal_of};
+    ghost use Rattle.bounds_tool.specs.Causes.{meant, without_sets};
+
+    ghost from_gives = { λ fault cause. meant cause ≡ without_sets (refusal_of fault) };
+
+    fn from(fault: TextFault) -> Cause {
+        match fault {
+            TextFault::BadLine(line) => Cause::BadLine(line),
+            TextFault::OutOfRange(line) => Cause::OutOfRange(line),
+            TextFault::TooMany(line) => Cause::TooMany(line),
+            TextFault::NoPoints(set) => Cause::NoPoints(set),
+            TextFault::WrongSets(count) => Cause::WrongSets(count),
+            TextFault::OutOfMemory => Cause::OutOfMemory,
         }
     }
 }

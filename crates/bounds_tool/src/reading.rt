@@ -5,15 +5,17 @@ ghost use Rattle.bounds_model.specs.ErrorLines.{points_file, answer_file};
 ghost use Rattle.bounded_coords.specs.Asked.{asked};
 ghost use Rattle.answers.specs.Answers.{answer_of};
 ghost use Rattle.bnd_io.specs.Files.{Continues, NoFault, bytes_of};
+ghost use Rattle.point_text.specs.declared.text.Form.TheVariants as forms;
 ghost use Rattle.bounds_tool.specs.Judging.{points_in, answer_in, limit_of};
 ghost use Rattle.bounds_tool.specs.Causes.{meant, meant_file};
 ghost use Rattle.bounds_tool.specs.Run.{FileCause, PointsCause, AnswerCause, IsReadToEnd, ReadsOnly, most_of, IsOfFault};
 
 use crate::cause::{Cause, InputFile};
+use crate::pouring::pour_points;
 use answers::Answer;
 use bnd_io::{FileBytes, Files, LoadFault, load};
 use bounded_coords::Ask;
-use point_text::{Form, OwnedSets, TextFault, parse};
+use point_text::{Form, OwnedSets, parse};
 use std::alloc::Global;
 use witness_format::{ReadFault, read};
 
@@ -54,6 +56,30 @@ fn read_file<F: Files>(
     }
 }
 
+/// The points of a file of comma-separated fields, which is loaded whole.
+fn load_points<F: Files>(
+    alloc: Global,
+    ask: &Ask,
+    name: &str,
+    files: &mut F,
+) -> Result<OwnedSets, Cause>
+    requires { IsValid (asked ask.now) }
+    ensures continues { Continues (F.state files.old) (F.state files.new) }
+    ensures reads { ReadsOnly (name.now ∷ []) (most_of points_file) (F.state files.old) (F.state files.new) }
+    ensures no_fault { IfErr result (λ cause. ¬ IsOfFault (meant cause)) → NoFault (F.state files.old) (F.state files.new) }
+    ensures points { IfOk result (λ sets. IfSome (F.state files.old).told (λ folder. points_in forms.Csv (asked ask.now) (bytes_of folder name.now) ≡ Ok sets)) }
+    ensures suits { IfOk result (λ sets. Suits (asked ask.now) sets) }
+    ensures to_its_end { OnOk result (IsReadToEnd name.now (F.state files.new)) }
+    ensures most { (F.state files.new).taken ≤ max (F.state files.old).taken (limit_of points_file + 1) }
+    ensures cause { IfErr result (λ cause. PointsCause F.last_count forms.Csv (asked ask.now) name.now (F.state files.old) (F.state files.new) (meant cause)) }
+{
+    let bytes = read_file(alloc, InputFile::Points, name, files)?;
+    match parse(alloc, bytes.as_slice(), Form::Csv, ask) {
+        Ok(sets) => Ok(sets),
+        Err(fault) => Err(Cause::from(fault)),
+    }
+}
+
 /// The points of a point file of this form, for what is asked.
 pub(crate) fn read_points<F: Files>(
     alloc: Global,
@@ -72,15 +98,9 @@ pub(crate) fn read_points<F: Files>(
     ensures most { (F.state files.new).taken ≤ max (F.state files.old).taken (limit_of points_file + 1) }
     ensures cause { IfErr result (λ cause. PointsCause F.last_count form (asked ask.now) name.now (F.state files.old) (F.state files.new) (meant cause)) }
 {
-    let bytes = read_file(alloc, InputFile::Points, name, files)?;
-    match parse(alloc, bytes.as_slice(), form, ask) {
-        Ok(sets) => Ok(sets),
-        Err(TextFault::BadLine(line)) => Err(Cause::BadLine(line)),
-        Err(TextFault::OutOfRange(line)) => Err(Cause::OutOfRange(line)),
-        Err(TextFault::TooMany(line)) => Err(Cause::TooMany(line)),
-        Err(TextFault::NoPoints(set)) => Err(Cause::NoPoints(set)),
-        Err(TextFault::WrongSets(count)) => Err(Cause::WrongSets(count)),
-        Err(TextFault::OutOfMemory) => Err(Cause::OutOfMemory),
+    match form {
+        Form::Text => pour_points(alloc, ask, name, files),
+        Form::Csv => load_points(alloc, ask, name, files),
     }
 }
 

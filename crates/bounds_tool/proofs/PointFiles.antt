@@ -1,0 +1,38 @@
+-- What a point file reads as.
+use Rattle.std.proofs.Common.{◌≡◌, ◌∙◌, refl, sym, ap, ℕ, ◌≤◌, true, cond, List, length, nat_le, Option, Some, None, Result, Ok, Err, IfSome, arith}
+use Rattle.std.proofs.lemmas.Bool.Decides.{nat_tests}
+use Rattle.bounds_model.specs.Asks.{Ask, Sets}
+use Rattle.bounds_model.specs.PointText.{Refusal}
+use Rattle.bounds_model.specs.ErrorLines.{points_file, too_long}
+use Rattle.bnd_io.specs.Files.{Folder, FilesState, bytes_of}
+use Rattle.point_text.specs.declared.text.Form.{Form}
+use Rattle.point_text.specs.declared.text.TextFault.{TextFault}
+use Rattle.point_text.specs.declared.text.TextFault.TheVariants.{BadLine, OutOfRange, TooMany, NoPoints, WrongSets, OutOfMemory}
+use Rattle.point_text.specs.Files.{sets_of_file}
+use Rattle.point_text.specs.Refusals.{refusal_of}
+use Rattle.bounds_tool.specs.Causes.{without_sets}
+use Rattle.bounds_tool.specs.Judging.{◌>>=◌, limit_of, points_in, read_points}
+use Rattle.bounds_tool.specs.Run.{PointsCause}
+
+short : (n limit : ℕ) → n ≤ limit → nat_le n limit ≡ true
+short n limit h = grind (arith, nat_tests)
+
+-- a file within its limit reads as its text does
+points_in-text : (form : Form) (ask : Ask) (bytes : List ℕ) → length bytes ≤ limit_of points_file → points_in form ask bytes ≡ read_points (sets_of_file form ask bytes)
+points_in-text form ask bytes h = ap (λ t. cond t (Ok bytes) (Err (too_long points_file)) >>= λ whole. read_points (sets_of_file form ask whole)) (short (length bytes) (limit_of points_file) h)
+
+-- the same of a file that is told
+pub points_in-told : (form : Form) (ask : Ask) (told : Option Folder) (name bytes : List ℕ) (judged : Result Sets Refusal) → IfSome told (λ folder. bytes_of folder name ≡ bytes) → length bytes ≤ limit_of points_file
+    → sets_of_file form ask bytes ≡ judged → IfSome told (λ folder. points_in form ask (bytes_of folder name) ≡ read_points judged)
+points_in-told form ask None name bytes judged is h reads = tt
+points_in-told form ask (Some folder) name bytes judged is h reads = ap (points_in form ask) is ∙ (points_in-text form ask bytes h ∙ ap read_points reads)
+
+-- a text without its sets
+pub points_refused : (last : Option ℕ) (form : Form) (ask : Ask) (name bytes : List ℕ) (old new : FilesState) (fault : TextFault) → IfSome old.told (λ folder. bytes_of folder name ≡ bytes) → length bytes ≤ limit_of points_file
+    → IfSome (refusal_of fault) (λ refusal. sets_of_file form ask bytes ≡ Err refusal) → PointsCause last form ask name old new (without_sets (refusal_of fault))
+points_refused last form ask name bytes old new (BadLine line) is h reads = (tt, points_in-told form ask old.told name bytes _ is h reads)
+points_refused last form ask name bytes old new (OutOfRange line) is h reads = (tt, points_in-told form ask old.told name bytes _ is h reads)
+points_refused last form ask name bytes old new (TooMany line) is h reads = (tt, points_in-told form ask old.told name bytes _ is h reads)
+points_refused last form ask name bytes old new (NoPoints set) is h reads = (tt, points_in-told form ask old.told name bytes _ is h reads)
+points_refused last form ask name bytes old new (WrongSets count) is h reads = (tt, points_in-told form ask old.told name bytes _ is h reads)
+points_refused last form ask name bytes old new OutOfMemory is h reads = tt

@@ -1,0 +1,31 @@
+use Rattle.std.proofs.Common.{◌≡◌, ◌≤◌, sym, subst, List, ℕ, length, rules, Ok}
+use Rattle.bounds_model.specs.ErrorLines.{points_file}
+use Rattle.bounded_coords.specs.Asked.{asked}
+use Rattle.point_text.specs.declared.text.Form.TheVariants.{Text}
+use Rattle.bounds_tool.specs.Judging.{limit_of}
+use Rattle.bounds_tool.specs.Run.{PointsCause}
+use Rattle.bounds_tool.proofs.PointFiles.{points_in-told, points_refused}
+use Rattle.bounds_tool.proofs.pouring.pour_points.Goals as goal
+
+pub returns-in-Ok-clause-points : goal.returns-in-Ok-clause-points
+returns-in-Ok-clause-points g c =
+    let ask = asked c.args.ask.now in
+    let took = c.in_ok-pour_file.ensures.stands ask c.new-reader.ensures.stands in
+    let short : length took.0 ≤ limit_of points_file = subst (λ n. n ≤ limit_of points_file) took.1.taken c.in_ok-pour_file.ensures.within in
+    points_in-told Text ask (g.F.Files.state c.args.files.now).told c.args.name.now took.0 (Ok c.in-Ok.sets) took.2 short (c.in-Ok.ensures.sets ask took.0 took.1)
+
+pub returns-in-Ok-clause-suits : goal.returns-in-Ok-clause-suits
+returns-in-Ok-clause-suits g c =
+    let ask = asked c.args.ask.now in
+    let took = c.in_ok-pour_file.ensures.stands ask c.new-reader.ensures.stands in
+    c.in-Ok.ensures.suits ask took.0 took.1
+
+pub returns-in-Err-clause-cause : goal.returns-in-Err-clause-cause
+returns-in-Err-clause-cause g c =
+    let ask = asked c.args.ask.now in
+    let old = g.F.Files.state c.args.files.now in
+    let new = g.F.Files.state c.pour_file.new.files in
+    let took = c.in_ok-pour_file.ensures.stands ask c.new-reader.ensures.stands in
+    let short : length took.0 ≤ limit_of points_file = subst (λ n. n ≤ limit_of points_file) took.1.taken c.in_ok-pour_file.ensures.within in
+    subst (λ cause. PointsCause g.F.Files.last_count Text ask c.args.name.now old new cause) (sym c.from.ensures)
+      (points_refused g.F.Files.last_count Text ask c.args.name.now took.0 old new c.in-Err.fault took.2 short (c.in-Err.ensures.sets ask took.0 took.1))
