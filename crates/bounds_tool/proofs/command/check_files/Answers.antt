@@ -23,12 +23,16 @@ pub returns-in-Ok-clause-reads : goal.returns-in-Ok-clause-reads
 returns-in-Ok-clause-reads g c =
     let old = g.F.Files.state c.args.files.now in
     let middle = g.F.Files.state c.read_points.new.files in
-    inr (accepted old.told (λ folder. points_in c.args.form (asked c.args.ask.now) (bytes_of folder c.args.points.now)) c.in_ok-sets.sets c.in_ok-sets.ensures.points,
-    reads_both c.args.points.now c.args.answer.now (most_of points_file) (most_of answer_file) old middle (g.F.Files.state c.read_answer.new.files) c.in_ok-sets.ensures.reads c.in_ok-answer.ensures.reads)
+    inr (
+      accepted old.told (λ folder. points_in c.args.form (asked c.args.ask.now) (bytes_of folder c.args.points.now)) c.in_ok-sets.sets c.in_ok-sets.ensures.points,
+      reads_both c.args.points.now c.args.answer.now (most_of points_file) (most_of answer_file) old middle (g.F.Files.state c.read_answer.new.files) c.in_ok-sets.ensures.reads c.in_ok-answer.ensures.reads,
+    )
 
 pub returns-clause-reads : goal.returns-clause-reads
 returns-clause-reads g c =
     let old = g.F.Files.state c.args.files.now in
     let middle = g.F.Files.state c.read_points.new.files in
-    inr (accepted old.told (λ folder. points_in c.args.form (asked c.args.ask.now) (bytes_of folder c.args.points.now)) c.in_ok-sets.sets c.in_ok-sets.ensures.points,
-    reads_both c.args.points.now c.args.answer.now (most_of points_file) (most_of answer_file) old middle (g.F.Files.state c.read_answer.new.files) c.in_ok-sets.ensures.reads c.in_ok-answer.ensures.reads)
+    inr (
+      accepted old.told (λ folder. points_in c.args.form (asked c.args.ask.now) (bytes_of folder c.args.points.now)) c.in_ok-sets.sets c.in_ok-sets.ensures.points,
+      reads_both c.args.points.now c.args.answer.now (most_of points_file) (most_of answer_file) old middle (g.F.Files.state c.read_answer.new.files) c.in_ok-sets.ensures.reads c.in_ok-answer.ensures.reads,
+    )
