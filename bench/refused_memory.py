@@ -11,6 +11,7 @@ instruction, where the system can't load it, or gives it no words (status 7). An
 import collections
 import os
 import resource
+import signal
 import subprocess
 import sys
 import tempfile
@@ -19,6 +20,8 @@ import shapes
 from measure import PROGRAM, QUESTIONS
 
 OUT_OF_MEMORY = b'bounds: out of memory\n'
+# The status that the loader of shared libraries ends with.
+NOT_LOADED = 127
 
 
 def run(command, limit):
@@ -27,7 +30,10 @@ def run(command, limit):
     def refuse():
         resource.setrlimit(resource.RLIMIT_AS, (limit, limit))
 
-    done = subprocess.run(command, capture_output=True, preexec_fn=refuse)
+    try:
+        done = subprocess.run(command, capture_output=True, preexec_fn=refuse)
+    except OSError:
+        return NOT_LOADED, b'', b''
     return done.returncode, done.stdout, done.stderr
 
 
@@ -40,10 +46,23 @@ def ending(result, whole):
         return 'out of memory'
     if status == 7 and out == b'':
         return 'no words'
-    # 127 is the loader's; a negative status is a signal from the system before the program runs.
-    if out == b'' and (status == 127 or status == -9 or (status == -11 and err == b'')):
+    # The system ends a program that it can't load by one of two signals.
+    if out == b'' and (status == NOT_LOADED or err == b'' and -status in (signal.SIGKILL, signal.SIGSEGV)):
         return 'not loaded'
     return f'wrong: status {status}, {len(out)} bytes, {err!r}'
+
+
+def endings(command, whole):
+    """How often each way to end was seen, under rising limits. What could be loaded once has to be loaded under a higher limit."""
+    seen = collections.Counter()
+    loaded = False
+    for pages in range(100, 4000, 7):
+        end = ending(run(command, 4096 * pages), whole)
+        if loaded and end == 'not loaded':
+            end = 'wrong: not loaded, under a higher limit than before'
+        loaded = loaded or end != 'not loaded'
+        seen[end] += 1
+    return seen
 
 
 def main():
@@ -63,11 +82,10 @@ def main():
                 file.write(solved.stdout)
             checking = [program, 'check', points, answer, '--kind', kind] + options
             for command, whole in ((solving, solved.stdout), (checking, b'yes\n')):
-                seen = collections.Counter()
-                for pages in range(100, 4000, 7):
-                    seen[ending(run(command, 4096 * pages), whole)] += 1
+                seen = endings(command, whole)
                 wrong += sum(count for end, count in seen.items() if end.startswith('wrong'))
-                print(' '.join(command[1:2] + [kind] + options), dict(seen), flush=True)
+                name = 'check' if command is checking else 'answer'
+                print(' '.join([name, kind] + options), dict(seen), flush=True)
     print(f'{wrong} wrong')
 
 

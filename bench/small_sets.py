@@ -204,6 +204,7 @@ def random_frame(points, rng):
     bottom, top = max(min(ys) - margin, -PLANE), min(max(ys) + margin, PLANE)
     if left >= right or bottom >= top:
         left, bottom = max(min(xs) - 2, -PLANE), max(min(ys) - 3, -PLANE)
+        left, bottom = min(left, PLANE - 5), min(bottom, PLANE - 4)
         right, top = left + 5, bottom + 4
     return left, bottom, right, top
 
