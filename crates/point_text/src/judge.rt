@@ -5,7 +5,7 @@ ghost use Rattle.point_text.specs.declared.text.TextFault.TheVariants as fault;
 
 use crate::TextFault;
 use crate::kept::KeptSets;
-use crate::line::Line;
+use crate::line::{Line, TextPoint, read_line};
 use bounded_coords::PushFault;
 use std::alloc::Global;
 
@@ -80,5 +80,23 @@ impl<P: Copy> Judge<P> {
             Some(fault) => Err(fault),
             None => Ok(self.sets),
         }
+    }
+}
+
+impl<P: TextPoint> Judge<P> {
+    ghost use Rattle.bounds_model.specs.PointText.{line_meaning};
+    ghost use Rattle.point_text.specs.Judged.{HasJudged};
+
+    /// Judges the next line, given whole and without its line feed. Behind the first fault it is not looked at.
+    pub(crate) fn take_line(&mut self, line: &[u8])
+        requires { self.old.lines + 2 < 2 ^ 32 }
+        ensures judged { (before : List (Meaning P)) → HasJudged self.old before → HasJudged self.new (before ++ line_meaning P.numbers_meaning line.now ∷ []) }
+        ensures lines { self.new.lines ≤ self.old.lines + 1 }
+        ensures failed { self.old.fault ≡ Some fault.OutOfMemory → self.new.fault ≡ Some fault.OutOfMemory }
+    {
+        if self.fault.is_some() {
+            return;
+        }
+        self.take(read_line(line));
     }
 }

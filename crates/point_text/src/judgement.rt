@@ -15,7 +15,7 @@ ghost use Rattle.point_text.specs.Judged.{IsJudgement, WantsMemory, lines_judged
 use crate::fields::Fields;
 use crate::judge::Judge;
 use crate::kept::KeptSets;
-use crate::line::{TextPoint, read_line};
+use crate::line::TextPoint;
 use crate::{OwnedSets, TextFault};
 use bounded_coords::{Ask, Point2, Point3, Points};
 use std::alloc::Global;
@@ -73,10 +73,10 @@ impl Judgement {
         ensures failed { WantsMemory self.old → WantsMemory self.new }
     {
         match self {
-            Judgement::PlaneSet(judge) => judge.take(read_line(line)),
-            Judgement::PlaneSetOrBare(judge) => judge.take(read_line(line)),
-            Judgement::SpaceSet(judge) => judge.take(read_line(line)),
-            Judgement::SpaceSets(judge) => judge.take(read_line(line)),
+            Judgement::PlaneSet(judge) => judge.take_line(line),
+            Judgement::PlaneSetOrBare(judge) => judge.take_line(line),
+            Judgement::SpaceSet(judge) => judge.take_line(line),
+            Judgement::SpaceSets(judge) => judge.take_line(line),
         }
     }
 
