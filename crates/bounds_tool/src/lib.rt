@@ -22,6 +22,8 @@ mod reading;
 mod solving;
 mod status;
 mod telling;
+#[cfg(test)]
+mod tests;
 
 pub use command::run;
 pub use command_line::{Name, Opt, Task, UsageFault, read_words};
