@@ -1,4 +1,4 @@
-use Rattle.std.proofs.Common.{◌≡◌, ◌≤◌, sym, subst, List, ℕ, length, rules, Ok}
+use Rattle.std.proofs.Common.{◌≤◌, sym, subst, length, Ok}
 use Rattle.bounds_model.specs.ErrorLines.{points_file}
 use Rattle.bounded_coords.specs.Asked.{asked}
 use Rattle.point_text.specs.declared.text.Form.TheVariants.{Text}
