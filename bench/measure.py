@@ -48,8 +48,10 @@ def once(command):
     return (time.perf_counter() - start) * 1000, done.returncode, done.stdout
 
 
-def least(command, runs):
-    return min(once(command)[0] for _ in range(runs))
+def least(commands, runs):
+    """The least time of each command. They are run in turn, so that what else the machine does falls on all of them alike."""
+    times = [[once(command)[0] for command in commands] for _ in range(runs)]
+    return [min(column) for column in zip(*times)]
 
 
 def peak(command):
@@ -80,9 +82,7 @@ class Figures:
         _, status, verdict = once(checking)
         if status != 0 or verdict != b'yes\n':
             sys.exit(f'{checking} ended with status {status} and {verdict}')
-        self.reading = least(reading, runs)
-        self.answering = least(answering, runs)
-        self.checking = least(checking, runs)
+        self.reading, self.answering, self.checking = least([reading, answering, checking], runs)
         self.peak = peak(answering)
         self.check_peak = peak(checking)
 

@@ -3,9 +3,15 @@
     python3 bench/refused_memory.py
     python3 bench/refused_memory.py PROGRAM
 
-A limit on the address space makes the system refuse memory, at a place that depends on the limit. Each run has to end in one of three
-ways: with the whole output and status 0; with status 6, no output and the line that says so; or before the program's first
-instruction, where the system can't load it, or gives it no words (status 7). Any other end is printed, and counts.
+A limit on the address space makes the system refuse memory, at a place that depends on the limit. Each run has to end in one of these
+ways, and under a higher limit in none that stands further up here:
+
+- the system can't load the program;
+- the program gets no memory for its words, and ends with status 6 or 7 before the run begins, with no line;
+- it ends with status 6, no output and the line that says so;
+- it ends with status 0 and the whole output.
+
+Any other end is printed, and counts.
 """
 
 import collections
@@ -22,6 +28,8 @@ from measure import PROGRAM, QUESTIONS
 OUT_OF_MEMORY = b'bounds: out of memory\n'
 # The status that the loader of shared libraries ends with.
 NOT_LOADED = 127
+# The ways to end, in the order of the limits under which they come.
+WAYS = ['not loaded', 'not begun', 'out of memory', 'done']
 
 
 def run(command, limit):
@@ -44,8 +52,8 @@ def ending(result, whole):
         return 'done'
     if (status, out, err) == (6, b'', OUT_OF_MEMORY):
         return 'out of memory'
-    if status == 7 and out == b'':
-        return 'no words'
+    if status in (6, 7) and out == b'' and err == b'':
+        return 'not begun'
     # The system ends a program that it can't load by one of two signals.
     if out == b'' and (status == NOT_LOADED or err == b'' and -status in (signal.SIGKILL, signal.SIGSEGV)):
         return 'not loaded'
@@ -53,14 +61,15 @@ def ending(result, whole):
 
 
 def endings(command, whole):
-    """How often each way to end was seen, under rising limits. What could be loaded once has to be loaded under a higher limit."""
+    """How often each way to end was seen, under rising limits. Once a run got further, none under a higher limit may end before."""
     seen = collections.Counter()
-    loaded = False
-    for pages in range(100, 4000, 7):
+    furthest = 0
+    for pages in range(600, 1600, 3):
         end = ending(run(command, 4096 * pages), whole)
-        if loaded and end == 'not loaded':
-            end = 'wrong: not loaded, under a higher limit than before'
-        loaded = loaded or end != 'not loaded'
+        if end in WAYS[:furthest]:
+            end = f'wrong: {end} under a higher limit than {WAYS[furthest]}'
+        elif end in WAYS:
+            furthest = WAYS.index(end)
         seen[end] += 1
     return seen
 
