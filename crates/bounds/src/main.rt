@@ -3,7 +3,7 @@
 
 ghost use Rattle.std.specs.Prelude.{◌≡◌, ◌<◌};
 
-use bnd_io::{RealFiles, RealSink};
+use bnd_io::{RealFiles, RealSink, write_all};
 use bounded_coords::Steps;
 use bounds_tool::run;
 use std::alloc::AllocError;
@@ -21,10 +21,20 @@ const NO_WORDS: u8 = 7;
 
 fn main(rt: HostRuntime) -> ExitCode {
     match env::args(&rt) {
-        Ok(args) => ExitCode::from(start(&rt, args).unwrap_or(NO_MEMORY)),
-        Err(e) if e.kind() == ErrorKind::OutOfMemory => ExitCode::from(NO_MEMORY),
+        Ok(args) => match start(&rt, args) {
+            Ok(number) => ExitCode::from(number),
+            Err(AllocError) => no_memory(&rt),
+        },
+        Err(e) if e.kind() == ErrorKind::OutOfMemory => no_memory(&rt),
         Err(_) => ExitCode::from(NO_WORDS),
     }
+}
+
+// The end where there is no memory for the words themselves.
+fn no_memory(rt: &HostRuntime) -> ExitCode {
+    let mut err = RealSink::new(rt.stderr());
+    let _ = write_all(&mut err, b"bounds: out of memory\n");
+    ExitCode::from(NO_MEMORY)
 }
 
 // Lends the words after the program's name, with a counter that was never used.
