@@ -7,7 +7,7 @@ A limit on the address space makes the system refuse memory, at a place that dep
 ways, and under a higher limit in none that stands further up here:
 
 - the system can't load the program;
-- the program gets no memory for its words, and ends with status 6 or 7 before the run begins, with no line;
+- the system refuses to give it its words, and it ends with status 7 before the run begins, with no line;
 - it ends with status 6, no output and the line that says so;
 - it ends with status 0 and the whole output.
 
@@ -52,7 +52,7 @@ def ending(result, whole):
         return 'done'
     if (status, out, err) == (6, b'', OUT_OF_MEMORY):
         return 'out of memory'
-    if status in (6, 7) and out == b'' and err == b'':
+    if (status, out, err) == (7, b'', b''):
         return 'not begun'
     # The system ends a program that it can't load by one of two signals.
     if out == b'' and (status == NOT_LOADED or err == b'' and -status in (signal.SIGKILL, signal.SIGSEGV)):
