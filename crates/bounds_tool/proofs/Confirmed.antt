@@ -5,7 +5,7 @@ use Rattle.bounds_model.specs.Answers.{Answer, Passes}
 use Rattle.text_laws.proofs.AnswerTexts.TextLaws.{reads_what_is_spelled, is_spelled_short}
 use Rattle.bnd_io.specs.Files.{bytes_of}
 use Rattle.bounds_tool.specs.declared.status.Status.{Status}
-use Rattle.bounds_tool.specs.declared.status.Status.TheVariants.{Done, No, Memory}
+use Rattle.bounds_tool.specs.declared.status.Status.TheVariants.{Done, Memory}
 use Rattle.bounds_tool.specs.Judging.{checking, answer_in, read_answer}
 use Rattle.bounds_tool.specs.Outputs.{IsSolution}
 use Rattle.bounds_tool.specs.Run.{MayEnd}

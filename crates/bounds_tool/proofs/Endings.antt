@@ -1,7 +1,6 @@
 -- How a task ends that gives no output.
 use Rattle.std.proofs.Common.{◌≡◌, ◌∙◌, ◌⊎◌, inl, inr, refl, sym, ap, subst, is_ok, ℕ, Bool, true, false, List, Option, Some, None, Result, Ok, Err, IfSome, Contains, arith}
 use Rattle.bounds_model.specs.Asks.{Ask, Sets}
-use Rattle.bounds_model.specs.Answers.{Answer}
 use Rattle.bounds_model.specs.Demo.{demo_sets}
 use Rattle.bounds_model.specs.ErrorLines.{Cause, points_file, answer_file, open_fault, read_fault, too_long, bad_line, out_of_range, too_many_points, no_points, wrong_sets, too_many_corners, bad_answer, big_number, out_of_memory}
 use Rattle.point_text.specs.declared.text.Form.{Form}

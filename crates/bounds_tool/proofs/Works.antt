@@ -6,7 +6,7 @@ use Rattle.bounds_model.specs.Answers.{Answer, Passes, IsBest}
 use Rattle.bounds_model.specs.AnswerText.Spelling.{Spells}
 use Rattle.bnd_io.specs.Files.{Folder, FilesState, bytes_of}
 use Rattle.bounds_model.specs.Demo.{demo_sets}
-use Rattle.bounds_model.specs.Answers.{IsOptimum, size_of}
+use Rattle.bounds_model.specs.Answers.{size_of}
 use Rattle.bounds_model.specs.AnswerText.SpelledParts.{size_line}
 use Rattle.point_text.specs.declared.text.Form.{Form}
 use Rattle.command_line.specs.Words.{solve_task, check_task, demo_task, task_of}
