@@ -11,6 +11,7 @@ use Rattle.std.proofs.lemmas.List.Folds.{list_all-append}
 use Rattle.std.proofs.lemmas.List.Sums.{fold-append}
 use Rattle.bounds_model.specs.PointText.{natural, number, digits_number, digit_size}
 use Rattle.point_text.specs.Clamps.{clamped_size, clamped}
+use Rattle.point_text.specs.Digits.{number_behind}
 use Rattle.point_text.specs.Fields.{clamped_number}
 use Rattle.point_text.specs.declared.field_in_hand.FieldInHand.{FieldInHand}
 use Rattle.point_text.specs.declared.field_in_hand.FieldInHand.TheVariants as field
@@ -31,7 +32,7 @@ all_digits digits n e = by (nat_le 1 (length digits)) (list_all is_ascii_digit d
     by true false some all is = cc
     by false a some all is = cc
 
-natural_all : (digits : List ℕ) → nat_le 1 (length digits) ≡ true → list_all is_ascii_digit digits ≡ true → natural digits ≡ Some (digits_number digits)
+pub natural_all : (digits : List ℕ) → nat_le 1 (length digits) ≡ true → list_all is_ascii_digit digits ≡ true → natural digits ≡ Some (digits_number digits)
 natural_all digits some all = rw (some, all) refl
 
 -- a byte that is no digit
@@ -42,12 +43,12 @@ natural_none digits b more other =
     ap (λ t. cond (nat_le 1 (length (digits ++ b ∷ more)) && t) (Some (digits_number (digits ++ b ∷ more))) None) none
     ∙ ap (λ t. cond t (Some (digits_number (digits ++ b ∷ more))) None) (and-false (nat_le 1 (length (digits ++ b ∷ more))))
 
-written : (digits : List ℕ) (size : ℕ) (a : Option ℕ) → natural digits ≡ a → option_map clamped_size a ≡ Some size → (n : ℕ) × (natural digits ≡ Some n) × (size ≡ min n 200001)
-written digits size None is e = cc
-written digits size (Some n) is e = (n, is, cc)
+written_number : (digits : List ℕ) (size : ℕ) (a : Option ℕ) → natural digits ≡ a → option_map clamped_size a ≡ Some size → (n : ℕ) × (natural digits ≡ Some n) × (size ≡ min n 200001)
+written_number digits size None is e = cc
+written_number digits size (Some n) is e = (n, is, cc)
 
 pub write_some : (digits : List ℕ) (size : ℕ) → Write digits size → nat_le 1 (length digits) ≡ true
-write_some digits size is = let w = written digits size (natural digits) refl is in (all_digits digits w.0 w.1).some
+write_some digits size is = let w = written_number digits size (natural digits) refl is in (all_digits digits w.0 w.1).some
 
 -- the first digit
 pub write_one : (d size : ℕ) → is_ascii_digit d ≡ true → size ≡ digit_size d → size ≤ 9 → Write (d ∷ []) size
@@ -60,7 +61,7 @@ write_one d size digit is small =
 pub write_more : (digits : List ℕ) (size d next : ℕ) → Write digits size → is_ascii_digit d ≡ true → next ≡ digit_size d → next ≤ 9
     → Write (digits ++ d ∷ []) (min (10 * min size 200001 + next) 200001)
 write_more digits size d next is digit counts small =
-    let w = written digits size (natural digits) refl is in
+    let w = written_number digits size (natural digits) refl is in
     let digits_all = all_digits digits w.0 w.1 in
     let all : list_all is_ascii_digit (digits ++ d ∷ []) ≡ true =
     list_all-append is_ascii_digit digits (d ∷ []) ∙ rw (digits_all.all, digit) refl in
@@ -97,7 +98,7 @@ other_more bytes b is more = rw (append_assoc bytes (b ∷ []) more) (is (b ∷ 
 
 -- ---- digits, and then another byte
 
-no_digit : (d k : ℕ) → is_ascii_digit d ≡ true → is_ascii_digit k ≡ false → (d == k) ≡ false
+pub no_digit : (d k : ℕ) → is_ascii_digit d ≡ true → is_ascii_digit k ≡ false → (d == k) ≡ false
 no_digit d k digit other = by (d == k) refl
   where
     by : (t : Bool) → (d == k) ≡ t → (d == k) ≡ false
@@ -113,7 +114,7 @@ record Begins (digits : List ℕ) : Type 0 where
 begins : (digits : List ℕ) (size : ℕ) → Write digits size → Begins digits
 begins [] size is = cc
 begins (d ∷ digits) size is =
-    let w = written (d ∷ digits) size (natural (d ∷ digits)) refl is in
+    let w = written_number (d ∷ digits) size (natural (d ∷ digits)) refl is in
     let all = all_digits (d ∷ digits) w.0 w.1 in
     record { first = d; behind = digits; is = refl; digit = by (is_ascii_digit d) refl all.all }
   where
@@ -157,13 +158,13 @@ other_minus_digits digits size b is other more =
 pub unsigned_number : (digits : List ℕ) (size : ℕ) → Write digits size → clamped_number digits ≡ Some (pos size)
 unsigned_number digits size is =
     let start = begins digits size is in
-    let w = written digits size (natural digits) refl is in
+    let w = written_number digits size (natural digits) refl is in
     let plain : number digits ≡ option_map pos (natural digits) = ap number start.is ∙ (number_unsigned start.first start.behind start.digit ∙ ap (λ ds. option_map pos (natural ds)) (sym start.is)) in
     ap (option_map clamped) (plain ∙ ap (option_map pos) w.1) ∙ ap (λ n. Some (pos n)) (sym w.2)
 
 pub plus_number : (digits : List ℕ) (size : ℕ) → Write digits size → clamped_number (43 ∷ digits) ≡ Some (pos size)
 plus_number digits size is =
-    let w = written digits size (natural digits) refl is in
+    let w = written_number digits size (natural digits) refl is in
     ap (λ a. option_map clamped (option_map pos a)) w.1 ∙ ap (λ n. Some (pos n)) (sym w.2)
 
 clamped_negative : (n : ℕ) → clamped (neg_ℤ (pos n)) ≡ neg_ℤ (pos (min n 200001))
@@ -172,7 +173,7 @@ clamped_negative (suc n) = ap (λ m. neg_ℤ (pos m)) (omega arith)
 
 pub minus_number : (digits : List ℕ) (size : ℕ) → Write digits size → clamped_number (45 ∷ digits) ≡ Some (neg_ℤ (pos size))
 minus_number digits size is =
-    let w = written digits size (natural digits) refl is in
+    let w = written_number digits size (natural digits) refl is in
     ap (λ a. option_map clamped (option_map (λ n. neg_ℤ (pos n)) a)) w.1 ∙ (ap Some (clamped_negative w.0) ∙ ap (λ n. Some (neg_ℤ (pos n))) (sym w.2))
 
 -- a field in hand that is no number and not `---` is neither where it ends
@@ -186,3 +187,20 @@ other_field field.ThreeDashes bytes is plus minus dashes = absurd (dashes refl)
 other_field (field.Positive size) bytes is plus minus dashes = absurd (plus size refl)
 other_field (field.Negative size) bytes is plus minus dashes = absurd (minus size refl)
 other_field field.Other bytes is plus minus dashes = let end = is [] in rw (append-nil bytes) at end
+
+-- ---- more digits at once
+
+clamped_behind : (digits : List ℕ) (a b : ℕ) → clamped_size a ≡ clamped_size b → clamped_size (number_behind a digits) ≡ clamped_size (number_behind b digits)
+clamped_behind [] a b same = same
+clamped_behind (d ∷ digits) a b same = clamped_behind digits (10 * a + digit_size d) (10 * b + digit_size d) (omega (arith, same))
+
+pub write_digits : (digits more : List ℕ) (size written : ℕ) → Write digits size → list_all is_ascii_digit more ≡ true → written ≡ clamped_size (number_behind (min size 200001) more)
+    → Write (digits ++ more) written
+write_digits digits more size written is all counts =
+    let w = written_number digits size (natural digits) refl is in
+    let digits_all = all_digits digits w.0 w.1 in
+    let whole : list_all is_ascii_digit (digits ++ more) ≡ true = list_all-append is_ascii_digit digits more ∙ rw (digits_all.all, all) refl in
+    let some : nat_le 1 (length (digits ++ more)) ≡ true = let size = length-append digits more in let first = digits_all.some in grind (arith, nat_tests) in
+    let value : digits_number (digits ++ more) ≡ number_behind w.0 more = fold-append (λ n digit. 10 * n + digit_size digit) 0 digits more ∙ ap (λ n. number_behind n more) digits_all.is in
+    let same : clamped_size (number_behind w.0 more) ≡ clamped_size (number_behind (min size 200001) more) = clamped_behind more w.0 (min size 200001) (let e = w.2 in omega (arith, e)) in
+    ap (option_map clamped_size) (natural_all (digits ++ more) some whole ∙ ap Some value) ∙ ap Some (same ∙ sym counts)

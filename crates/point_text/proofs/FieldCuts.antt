@@ -18,7 +18,7 @@ is_no_blank b = not (is_blank b)
 
 -- ---- blanks before a field
 
-fields_of-blank : (b : ℕ) (rest : List ℕ) → is_blank b ≡ true → fields_of (b ∷ rest) ≡ fields_of rest
+pub fields_of-blank : (b : ℕ) (rest : List ℕ) → is_blank b ≡ true → fields_of (b ∷ rest) ≡ fields_of rest
 fields_of-blank b rest blank = ap (filter is_filled) (slice_split-cons_yes is_blank b rest blank)
 
 -- blanks before the first field are skipped

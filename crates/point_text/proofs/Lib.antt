@@ -13,4 +13,7 @@ pub mod Bytewise
 pub mod Linewise
 pub mod SuitedSets
 pub mod Pieces
+pub mod PassedLines
+pub mod LeadingFields
+pub mod Runs
 mod Examples

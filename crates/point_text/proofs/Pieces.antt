@@ -2,15 +2,7 @@
 use Rattle.std.proofs.Common.{◌≡◌, ◌∙◌, refl, sym, ap, ℕ, ◌+◌, List, [], ◌∷◌, ◌++◌, codes, length, length-append, append_assoc, append-nil, arith}
 use Rattle.bounds_model.specs.Asks.{Ask}
 use Rattle.point_text.specs.declared.reader.Reader.{Reader}
-use Rattle.point_text.specs.Reading.{StandsFor, HasFailed}
-
--- of the piece, the bytes before the rest were read
-pub record Reads (old now : Reader) (piece rest : List ℕ) : Type 0 where
-  pub done : List ℕ
-  pub all : piece ≡ done ++ rest
-  pub taken : now.taken ≡ old.taken + length done
-  pub stands : (ask : Ask) (bytes : List ℕ) → StandsFor old ask bytes → StandsFor now ask (bytes ++ done)
-  pub stays : HasFailed old → HasFailed now
+use Rattle.point_text.specs.Reading.{StandsFor, HasFailed, Reads}
 
 pub reads_none : (reader : Reader) (piece : List ℕ) → Reads reader reader piece piece
 reads_none reader piece = record {

@@ -1,8 +1,9 @@
 -- What the bytes so far of a field and of a line come to.
-use Rattle.std.specs.Prelude.{◌≡◌, ◌⊎◌, ℕ, false, List, [], ◌∷◌, ◌++◌, codes, nat_le, length, filter}
+use Rattle.std.specs.Prelude.{◌≡◌, ◌⊎◌, ℕ, false, true, List, [], ◌∷◌, ◌++◌, codes, nat_le, length, filter}
 use Rattle.std.specs.declared.option.Option.TheVariants.{Some, None}
 use Rattle.std.specs.Option.{option_map}
-use Rattle.std.specs.List.{All, slice_split}
+use Rattle.std.specs.List.{All, list_all, slice_split}
+use Rattle.std.specs.Char.{is_ascii_digit}
 use Rattle.std.specs.Str.{bytes_eq}
 use Rattle.std.specs.Str.Lines.{strip_carriage_return}
 use Rattle.bounds_model.specs.PointText.{is_blank, is_comment_sign, natural, number}
@@ -50,3 +51,14 @@ abbrev pub IsLineInHand : LineInHand → List ℕ → Type 0
 IsLineInHand (Open content) bytes = HasNoComment bytes × (strip_carriage_return bytes ≡ bytes) × IsContentInHand content bytes
 IsLineInHand (Returned content) bytes = (before : List ℕ) × (bytes ≡ before ++ codes "\r") × HasNoComment before × IsContentInHand content before
 IsLineInHand (Commented content) bytes = (before : List ℕ) × (comment : List ℕ) × (bytes ≡ before ++ (codes "#" ++ comment)) × HasNoComment before × IsContentInHand content before
+
+-- from the start of the text, up to the rest, bytes were added to what is in hand
+pub record Adds {A : Type 0} (IsInHand : A → List ℕ → Type 0) (old new : A) (text rest : List ℕ) : Type 0 where
+  pub added : List ℕ
+  pub text_is : text ≡ added ++ rest
+  pub stands : (bytes : List ℕ) → IsInHand old bytes → IsInHand new (bytes ++ added)
+
+-- and all of them are digits
+pub record AddsDigits {A : Type 0} (IsInHand : A → List ℕ → Type 0) (old new : A) (text rest : List ℕ) : Type 0 where
+  pub adds : Adds IsInHand old new text rest
+  pub digits : list_all is_ascii_digit adds.added ≡ true

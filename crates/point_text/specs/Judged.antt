@@ -1,5 +1,6 @@
 -- What was judged of the lines so far.
 use Rattle.std.specs.Prelude.{◌≡◌, ℕ, List, [], length, map, IfSome, MatchOption}
+use Rattle.std.specs.declared.option.Option.{Option}
 use Rattle.std.specs.declared.option.Option.TheVariants.{Some, None}
 use Rattle.std.specs.declared.result.Result.{Result}
 use Rattle.bounds_model.specs.Plane.{PlanePoint}
@@ -10,6 +11,7 @@ use Rattle.point_text.specs.declared.judge.Judge.{Judge}
 use Rattle.point_text.specs.declared.judgement.Judgement.{Judgement}
 use Rattle.point_text.specs.declared.kept.KeptSets.{KeptSets}
 use Rattle.point_text.specs.declared.judgement.Judgement.TheVariants.{PlaneSet, PlaneSetOrBare, SpaceSet, SpaceSets}
+use Rattle.point_text.specs.declared.text.TextFault.{TextFault}
 use Rattle.point_text.specs.declared.text.TextFault.TheVariants.{OutOfMemory}
 use Rattle.point_text.specs.Refusals.{refusal_of}
 use Rattle.point_text.specs.Kept.{Keeps}
@@ -48,6 +50,13 @@ lines_judged (PlaneSet judge) = judge.lines
 lines_judged (PlaneSetOrBare judge) = judge.lines
 lines_judged (SpaceSet judge) = judge.lines
 lines_judged (SpaceSets judge) = judge.lines
+
+-- the fault of the lines so far
+abbrev pub fault_of : Judgement → Option TextFault
+fault_of (PlaneSet judge) = judge.fault
+fault_of (PlaneSetOrBare judge) = judge.fault
+fault_of (SpaceSet judge) = judge.fault
+fault_of (SpaceSets judge) = judge.fault
 
 -- memory was refused
 abbrev pub WantsMemory : Judgement → Type 0

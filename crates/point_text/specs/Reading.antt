@@ -1,5 +1,5 @@
 -- What a reader of pieces has read.
-use Rattle.std.specs.Prelude.{◌≡◌, ℕ, false, List, [], ◌∷◌, ◌++◌, length, map}
+use Rattle.std.specs.Prelude.{◌≡◌, ℕ, ◌+◌, false, List, [], ◌∷◌, ◌++◌, length, map}
 use Rattle.std.specs.List.{slice_split}
 use Rattle.bounds_model.specs.Asks.{Ask}
 use Rattle.bounds_model.specs.PointText.{is_line_feed, content, fields_of}
@@ -28,3 +28,11 @@ pub record StandsFor (reader : Reader) (ask : Ask) (bytes : List ℕ) : Type 0 w
   pub judged : IsJudgement reader.judgement ask (map line_fields whole)
   pub in_hand : IsLineInHand reader.line last
   pub begun : reader.begun ≡ false → last ≡ []
+
+-- of the piece, the bytes before the rest were read
+pub record Reads (old now : Reader) (piece rest : List ℕ) : Type 0 where
+  pub done : List ℕ
+  pub all : piece ≡ done ++ rest
+  pub taken : now.taken ≡ old.taken + length done
+  pub stands : (ask : Ask) (bytes : List ℕ) → StandsFor old ask bytes → StandsFor now ask (bytes ++ done)
+  pub stays : HasFailed old → HasFailed now

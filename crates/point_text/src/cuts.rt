@@ -1,7 +1,9 @@
 //! Places in a text, and fields cut off a line.
-ghost use Rattle.std.specs.Prelude.{◌≡◌, ℕ, Bool, ◌<◌, ◌==◌, [], ◌∷◌, not, length, IfSome, MatchOption};
+ghost use Rattle.std.specs.Prelude.{◌≡◌, ◌≢◌, ℕ, Bool, true, false, ◌<◌, ◌==◌, [], ◌∷◌, not, length, slice_index_or, IfSome, MatchOption};
 ghost use Rattle.std.specs.List.{before_first, after_first, position_from};
-ghost use Rattle.bounds_model.specs.PointText.{is_blank, content, fields_of};
+ghost use Rattle.std.specs.Str.Lines.{strip_carriage_return};
+ghost use Rattle.bounds_model.specs.PointText.{is_blank, fields_of};
+ghost use Rattle.point_text.specs.Lines.{uncommented, are_behind_field};
 
 /// What stands before this place and what stands after it, or all and nothing without a place.
 fn parted(text: &[u8], place: Option<usize>) -> (&[u8], &[u8])
@@ -23,6 +25,14 @@ pub(crate) fn place_of(text: &[u8], byte: u8) -> Option<usize>
     text.iter().position(|b| *b == byte)
 }
 
+/// A place of a byte of this value, the last one.
+pub(crate) fn last_place_of(text: &[u8], byte: u8) -> Option<usize>
+    ensures within { IfSome result (λ i. i < length text.now) }
+    ensures here { IfSome result (λ i. slice_index_or text.now i 0 ≡ byte) }
+{
+    text.iter().rposition(|b| *b == byte)
+}
+
 /// What stands before the first byte of this value and what stands after it, or all and nothing
 /// where there is no such byte.
 fn cut(text: &[u8], byte: u8) -> (&[u8], &[u8])
@@ -32,14 +42,21 @@ fn cut(text: &[u8], byte: u8) -> (&[u8], &[u8])
     parted(text, place_of(text, byte))
 }
 
-/// The part of a line that counts.
-pub(crate) fn content_of(line: &[u8]) -> &[u8]
-    ensures { result.now ≡ content line.now }
+/// The line without a carriage return at its end.
+pub(crate) fn without_return(line: &[u8]) -> &[u8]
+    ensures { result.now ≡ strip_carriage_return line.now }
 {
     match line {
-        [start @ .., b'\r'] => cut(start, b'#').0,
-        line => cut(line, b'#').0,
+        [start @ .., b'\r'] => start,
+        line => line,
     }
+}
+
+/// What stands before the first comment sign.
+pub(crate) fn before_comment(line: &[u8]) -> &[u8]
+    ensures { result.now ≡ uncommented line.now }
+{
+    cut(line, b'#').0
 }
 
 /// Whether a byte parts fields.
@@ -49,8 +66,18 @@ fn parts_fields(b: u8) -> bool
     b == b' ' || b == b'\t'
 }
 
+/// Whether no field goes on with these bytes: there are none, or the first one is a blank or a comment sign.
+pub(crate) fn ends_field(rest: &[u8]) -> bool
+    ensures { result ≡ are_behind_field rest.now }
+{
+    match rest {
+        [] => true,
+        [b, ..] => parts_fields(*b) || *b == b'#',
+    }
+}
+
 /// The place of the first byte that is no blank.
-fn field_start(text: &[u8]) -> Option<usize>
+pub(crate) fn field_start(text: &[u8]) -> Option<usize>
     ensures place { result ≡ position_from (λ b. not (is_blank b)) 0 text.now }
     ensures within { IfSome result (λ i. i < length text.now) }
 {
@@ -63,6 +90,17 @@ fn field_end(text: &[u8]) -> Option<usize>
     ensures within { IfSome result (λ i. i < length text.now) }
 {
     text.iter().position(|b| parts_fields(*b))
+}
+
+/// Whether a field stands before a comment.
+pub(crate) fn has_field(line: &[u8]) -> bool
+    ensures no { result ≡ false → fields_of (uncommented line.now) ≡ [] }
+    ensures yes { result ≡ true → fields_of (uncommented line.now) ≢ [] }
+{
+    match field_start(line) {
+        Some(start) => line[start] != b'#',
+        None => false,
+    }
 }
 
 /// The first field and what stands behind it, or None where there is no field.

@@ -4,12 +4,10 @@ ghost use Rattle.std.specs.Char.{is_ascii_digit};
 ghost use Rattle.bounds_model.specs.PointText.{digit_size};
 ghost use Rattle.point_text.specs.declared.field_in_hand.FieldInHand.TheVariants as field;
 ghost use Rattle.point_text.specs.Fields.{IsField};
-ghost use Rattle.point_text.specs.InHand.{IsFieldInHand};
+ghost use Rattle.point_text.specs.InHand.{IsFieldInHand, AddsDigits};
 
 use crate::fields::Field;
-
-/// A magnitude past every bound. A greater one is read as this one.
-const FAR: u32 = 200_001;
+use crate::number::{FAR, cut_digits};
 
 /// The bytes so far of a field.
 #[derive(Clone, Copy)]
@@ -102,6 +100,23 @@ impl FieldInHand {
                 None => FieldInHand::Other,
             },
             FieldInHand::ThreeDashes | FieldInHand::Other => FieldInHand::Other,
+        }
+    }
+
+    /// The field with the digits behind it that a text begins with, where it has digits already, and what stands behind them.
+    pub(crate) fn with_digits(self, text: &[u8]) -> (FieldInHand, &[u8])
+        ensures { AddsDigits IsFieldInHand self result.0 text.now result.1.now }
+    {
+        match self {
+            FieldInHand::Positive(size) => {
+                let (size, rest) = cut_digits(size.min(FAR), text);
+                (FieldInHand::Positive(size), rest)
+            }
+            FieldInHand::Negative(size) => {
+                let (size, rest) = cut_digits(size.min(FAR), text);
+                (FieldInHand::Negative(size), rest)
+            }
+            field => (field, text),
         }
     }
 

@@ -1,5 +1,6 @@
 //! Lines, judged in their order.
 ghost use Rattle.std.specs.Prelude.{◌≡◌, ◌↔◌, IsTrue, Err, ◌≤◌, ◌<◌, ◌+◌, ◌^◌, List, [], ◌∷◌, ◌++◌, IfOk, IfErr, IfSome, Some, None};
+ghost use Rattle.std.specs.Option.{is_some};
 ghost use Rattle.bounds_model.specs.PointText.{Meaning, sets_of, first_refusal};
 ghost use Rattle.point_text.specs.declared.text.TextFault.TheVariants as fault;
 
@@ -59,6 +60,13 @@ impl<P: Copy> Judge<P> {
             Line::Bad => self.fault = Some(TextFault::BadLine(self.lines)),
             Line::OutOfRange => self.fault = Some(TextFault::OutOfRange(self.lines)),
         }
+    }
+
+    /// Whether there was a fault.
+    pub(crate) fn has_fault(&self) -> bool
+        ensures { result ≡ is_some self.now.fault }
+    {
+        self.fault.is_some()
     }
 
     /// Whether memory was refused.

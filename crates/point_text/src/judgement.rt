@@ -1,5 +1,6 @@
 //! The lines of a file, judged for what is asked.
 ghost use Rattle.std.specs.Prelude.{◌≡◌, ◌↔◌, IsTrue, Err, ◌≢◌, ◌≤◌, ◌<◌, ◌+◌, ◌^◌, List, [], ◌∷◌, ◌++◌, ℕ, length, MatchResult};
+ghost use Rattle.std.specs.Option.{is_some};
 ghost use Rattle.bounds_model.specs.Plane.{PlanePoint};
 ghost use Rattle.bounds_model.specs.Space.{SpacePoint};
 ghost use Rattle.bounds_model.specs.Asks as asks;
@@ -10,7 +11,7 @@ ghost use Rattle.point_text.specs.Refusals.{Answers};
 ghost use Rattle.point_text.specs.Kept.{Keeps};
 ghost use Rattle.point_text.specs.Fields.{AreFields};
 ghost use Rattle.point_text.specs.Files.{sets_of_fields};
-ghost use Rattle.point_text.specs.Judged.{IsJudgement, WantsMemory, lines_judged};
+ghost use Rattle.point_text.specs.Judged.{IsJudgement, WantsMemory, fault_of, lines_judged};
 
 use crate::fields::Fields;
 use crate::judge::Judge;
@@ -77,6 +78,18 @@ impl Judgement {
             Judgement::PlaneSetOrBare(judge) => judge.take_line(line),
             Judgement::SpaceSet(judge) => judge.take_line(line),
             Judgement::SpaceSets(judge) => judge.take_line(line),
+        }
+    }
+
+    /// Whether there was a fault, which stays the first whatever lines follow.
+    pub(crate) fn has_fault(&self) -> bool
+        ensures { result ≡ is_some (fault_of self.now) }
+    {
+        match self {
+            Judgement::PlaneSet(judge) => judge.has_fault(),
+            Judgement::PlaneSetOrBare(judge) => judge.has_fault(),
+            Judgement::SpaceSet(judge) => judge.has_fault(),
+            Judgement::SpaceSets(judge) => judge.has_fault(),
         }
     }
 

@@ -1,13 +1,13 @@
 //! What one line says.
-ghost use Rattle.std.specs.Prelude.{◌≡◌, ◌∷◌, [], List, Option, ℕ, ℤ, map, Some, MatchOption};
-ghost use Rattle.bounds_model.specs.PointText.{Meaning, number, fields_of, fields_meaning, line_meaning, plane_meaning, space_meaning};
-ghost use Rattle.point_text.specs.Fields.{AreFields};
+ghost use Rattle.std.specs.Prelude.{◌≡◌, ◌∷◌, [], ◌++◌, refl, if◌then◌else◌, List, Option, ℕ, ℤ, pos, neg_ℤ, map, Some, None, MatchOption};
+ghost use Rattle.bounds_model.specs.PointText.{Meaning, bad_form, number, fields_of, fields_meaning, line_meaning, plane_meaning, space_meaning};
+ghost use Rattle.point_text.specs.Fields.{AreFields, clamped_number};
 ghost use Rattle.point_text.specs.Clamps.{clamped};
-ghost use Rattle.point_text.specs.Lines.{meaning_of, numbers_of, HasNoNumber};
+ghost use Rattle.point_text.specs.Lines.{meaning_of, numbers_of, uncommented, first_field, IsUnsigned, HasNoNumber};
 
-use crate::cuts::{content_of, next_field};
+use crate::cuts::{before_comment, ends_field, field_start, has_field, next_field, without_return};
 use crate::fields::Fields;
-use crate::number::read_number;
+use crate::number::cut_digits;
 use bounded_coords::{Point2, Point3};
 
 /// What a line says, where `P` are the points.
@@ -34,20 +34,54 @@ pub(crate) trait TextPoint: Copy {
     fn say(fields: Fields) -> Line<Self>
         ensures { (line : List (List ℕ)) → AreFields fields line → meaning_of result ≡ fields_meaning numbers_meaning line };
 
-    /// Reads the fields of a line as the coordinates of a point.
-    fn read_fields(fields: &[u8]) -> Line<Self>
-        ensures { meaning_of result ≡ numbers_meaning (numbers_of fields.now) };
+    /// A point has fields, and each of them is a number.
+    ghost all_numbers: { (numbers_meaning [] ≡ bad_form) × (numbers_meaning (None ∷ []) ≡ bad_form) };
+
+    /// Reads the fields of a line, up to a comment, as the coordinates of a point.
+    fn read_fields(line: &[u8]) -> Line<Self>
+        ensures { meaning_of result ≡ numbers_meaning (numbers_of (uncommented line.now)) };
 }
 
-/// The number of the first field, clamped, and what stands behind the field. None where there is no
-/// field or it is no number.
-fn next_number(fields: &[u8]) -> Option<(i64, &[u8])>
-    ensures { MatchOption result (HasNoNumber (numbers_of fields.now))
-        (λ parts. (z : ℤ) × (parts.0 ≡ clamped z) × (numbers_of fields.now ≡ Some z ∷ numbers_of parts.1.now)) }
+/// The bytes behind a sign, or all where there is none, and whether the sign is a minus.
+fn unsigned(text: &[u8]) -> (bool, &[u8])
+    ensures { IsUnsigned text.now result.0 result.1.now }
 {
-    let (field, rest) = next_field(fields)?;
-    let number = read_number(field)?;
-    Some((number, rest))
+    match text {
+        [b'-', rest @ ..] => (true, rest),
+        [b'+', rest @ ..] => (false, rest),
+        rest => (false, rest),
+    }
+}
+
+/// The number of this magnitude, below 0 or not.
+fn signed(negative: bool, size: u32) -> i64
+    ensures { result ≡ (if negative then neg_ℤ (pos size) else pos size) }
+{
+    let size = i64::from(size);
+    if negative { -size } else { size }
+}
+
+/// The number of the field that a text begins with, clamped, and what stands behind the field. None where it is no number.
+fn leading_number(text: &[u8]) -> Option<(i64, &[u8])>
+    ensures { MatchOption result (number (first_field text.now) ≡ None)
+        (λ parts. (clamped_number (first_field text.now) ≡ Some parts.0) × (text.now ≡ first_field text.now ++ parts.1.now)) }
+{
+    let (negative, digits) = unsigned(text);
+    let (size, rest) = cut_digits(0, digits);
+    if rest.len() == digits.len() || !ends_field(rest) {
+        return None;
+    }
+    Some((signed(negative, size), rest))
+}
+
+/// The number of the first field of a line, clamped, and what stands behind the field. None where there is no field before a
+/// comment or it is no number.
+fn next_number(line: &[u8]) -> Option<(i64, &[u8])>
+    ensures { MatchOption result (HasNoNumber (numbers_of (uncommented line.now)))
+        (λ parts. (z : ℤ) × (parts.0 ≡ clamped z) × (numbers_of (uncommented line.now) ≡ Some z ∷ numbers_of (uncommented parts.1.now))) }
+{
+    let start = field_start(line)?;
+    leading_number(&line[start..])
 }
 
 /// What a line of these two numbers says.
@@ -63,6 +97,8 @@ fn plane_line(x: i64, y: i64) -> Line<Point2>
 impl TextPoint for Point2 {
     ghost numbers_meaning = { plane_meaning };
 
+    ghost all_numbers = { (refl, refl) };
+
     fn say(fields: Fields) -> Line<Point2> {
         match fields {
             Fields::Empty => Line::Nothing,
@@ -72,17 +108,17 @@ impl TextPoint for Point2 {
         }
     }
 
-    fn read_fields(fields: &[u8]) -> Line<Point2> {
-        let Some((x, rest)) = next_number(fields) else {
+    fn read_fields(line: &[u8]) -> Line<Point2> {
+        let Some((x, rest)) = next_number(line) else {
             return Line::Bad;
         };
         let Some((y, rest)) = next_number(rest) else {
             return Line::Bad;
         };
-        match next_field(rest) {
-            Some(_) => Line::Bad,
-            None => plane_line(x, y),
+        if has_field(rest) {
+            return Line::Bad;
         }
+        plane_line(x, y)
     }
 }
 
@@ -99,6 +135,8 @@ fn space_line(x: i64, y: i64, z: i64) -> Line<Point3>
 impl TextPoint for Point3 {
     ghost numbers_meaning = { space_meaning };
 
+    ghost all_numbers = { (refl, refl) };
+
     fn say(fields: Fields) -> Line<Point3> {
         match fields {
             Fields::Empty => Line::Nothing,
@@ -108,8 +146,8 @@ impl TextPoint for Point3 {
         }
     }
 
-    fn read_fields(fields: &[u8]) -> Line<Point3> {
-        let Some((x, rest)) = next_number(fields) else {
+    fn read_fields(line: &[u8]) -> Line<Point3> {
+        let Some((x, rest)) = next_number(line) else {
             return Line::Bad;
         };
         let Some((y, rest)) = next_number(rest) else {
@@ -118,9 +156,26 @@ impl TextPoint for Point3 {
         let Some((z, rest)) = next_number(rest) else {
             return Line::Bad;
         };
-        match next_field(rest) {
-            Some(_) => Line::Bad,
-            None => space_line(x, y, z),
+        if has_field(rest) {
+            return Line::Bad;
+        }
+        space_line(x, y, z)
+    }
+}
+
+/// What a line says that is no point, given up to its comment.
+fn pointless_line<P: TextPoint>(content: &[u8]) -> Line<P>
+    requires { P.numbers_meaning (numbers_of content.now) ≡ bad_form }
+    ensures { meaning_of result ≡ fields_meaning P.numbers_meaning (fields_of content.now) }
+{
+    match next_field(content) {
+        None => Line::Nothing,
+        Some((field, rest)) => {
+            if field == b"---".as_slice() && next_field(rest).is_none() {
+                Line::EndOfSet
+            } else {
+                Line::Bad
+            }
         }
     }
 }
@@ -129,12 +184,10 @@ impl TextPoint for Point3 {
 pub(crate) fn read_line<P: TextPoint>(line: &[u8]) -> Line<P>
     ensures { meaning_of result ≡ line_meaning P.numbers_meaning line.now }
 {
-    let content = content_of(line);
-    let Some((field, rest)) = next_field(content) else {
-        return Line::Nothing;
-    };
-    if field == b"---".as_slice() && next_field(rest).is_none() {
-        return Line::EndOfSet;
+    let line = without_return(line);
+    // Nearly all lines are points: whether one is something else is asked only where it is none.
+    match P::read_fields(line) {
+        Line::Bad => pointless_line(before_comment(line)),
+        line => line,
     }
-    P::read_fields(content)
 }

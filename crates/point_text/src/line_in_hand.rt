@@ -3,7 +3,7 @@ ghost use Rattle.std.specs.Prelude.{◌≡◌, List, ℕ, [], ◌∷◌, ◌++�
 ghost use Rattle.std.specs.List.{All};
 ghost use Rattle.bounds_model.specs.PointText.{is_blank, is_comment_sign, content, fields_of};
 ghost use Rattle.point_text.specs.Fields.{AreFields};
-ghost use Rattle.point_text.specs.InHand.{IsContentInHand, IsLineInHand};
+ghost use Rattle.point_text.specs.InHand.{IsContentInHand, IsLineInHand, AddsDigits};
 
 use crate::field_in_hand::FieldInHand;
 use crate::fields::Fields;
@@ -52,6 +52,18 @@ impl ContentInHand {
             }
         }
     }
+
+    /// The content with the digits behind it that a text begins with, where it ends in digits, and what stands behind them.
+    fn with_digits(self, text: &[u8]) -> (ContentInHand, &[u8])
+        ensures { AddsDigits IsContentInHand self result.0 text.now result.1.now }
+    {
+        let (field, rest) = self.field.with_digits(text);
+        let content = ContentInHand {
+            fields: self.fields,
+            field,
+        };
+        (content, rest)
+    }
 }
 
 /// The bytes so far of a line.
@@ -95,16 +107,31 @@ impl LineInHand {
         }
     }
 
+    /// The line with the digits behind it that a text begins with, where it ends in digits, and what stands behind them.
+    fn with_digits(self, text: &[u8]) -> (LineInHand, &[u8])
+        ensures { AddsDigits IsLineInHand self result.0 text.now result.1.now }
+    {
+        match self {
+            LineInHand::Open(content) => {
+                let (content, rest) = content.with_digits(text);
+                (LineInHand::Open(content), rest)
+            }
+            line => (line, text),
+        }
+    }
+
     /// The line with these bytes behind it.
     pub(crate) fn with(self, part: &[u8]) -> LineInHand
         ensures { (bytes : List ℕ) → IsLineInHand self bytes → IsLineInHand result (bytes ++ part.now) }
     {
         let mut line = self;
-        'bytes: for byte in part {
+        let mut rest = part;
+        'bytes: while let [byte, behind @ ..] = rest {
             if let LineInHand::Commented(content) = line {
                 return LineInHand::Commented(content);
             }
-            line = line.with_byte(*byte);
+            // A number may be as long as its text, so its digits are read in one go.
+            (line, rest) = line.with_byte(*byte).with_digits(behind);
         }
         line
     }

@@ -9,7 +9,7 @@ ghost use Rattle.point_text.specs.declared.text.TextFault.TheVariants as fault;
 ghost use Rattle.point_text.specs.Refusals.{Answers};
 ghost use Rattle.point_text.specs.Judged.{lines_judged};
 
-use crate::cuts::place_of;
+use crate::cuts::{last_place_of, place_of};
 use crate::judgement::Judgement;
 use crate::line_in_hand::LineInHand;
 use crate::{OwnedSets, TextFault};
@@ -36,7 +36,7 @@ fn has_byte(before: bool, part: &[u8]) -> bool
 }
 
 impl Reader {
-    ghost use Rattle.point_text.specs.Reading.{StandsFor, HasFailed, bytes_taken};
+    ghost use Rattle.point_text.specs.Reading.{StandsFor, HasFailed, Reads, bytes_taken};
 
     /// The reader of no bytes. It takes no memory.
     pub fn new(alloc: Global, ask: &Ask) -> Reader
@@ -90,6 +90,26 @@ impl Reader {
         self.begun = false;
     }
 
+    /// Reads the lines that end in a piece without a look at them, where they come behind the first fault. What is left of the piece is the
+    /// result.
+    fn pass_lines<'a>(&mut self, piece: &'a [u8]) -> &'a [u8]
+        requires { bytes_taken self.old + length piece.now ≤ 2 ^ 21 }
+        ensures { Reads self.old self.new piece.now result.now }
+    {
+        if !self.judgement.has_fault() {
+            return piece;
+        }
+        match last_place_of(piece, b'\n') {
+            None => piece,
+            Some(place) => {
+                self.taken += place as u32 + 1;
+                self.line = LineInHand::new();
+                self.begun = false;
+                &piece[place + 1..]
+            }
+        }
+    }
+
     /// Reads the next bytes, which may be cut anywhere. A fault of the text does not end the reading. Where
     /// memory was refused, the reader has failed, now and at every later call.
     pub fn feed(&mut self, piece: &[u8]) -> Result<(), OutOfMemory>
@@ -100,7 +120,7 @@ impl Reader {
         ensures failed { OnErr result (HasFailed self.new) }
         ensures stays { HasFailed self.old → HasFailed self.new }
     {
-        let mut rest = piece;
+        let mut rest = self.pass_lines(piece);
         'lines: while let Some(place) = place_of(rest, b'\n') {
             self.end_line(&rest[..place]);
             rest = &rest[place + 1..];

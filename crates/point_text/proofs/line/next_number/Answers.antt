@@ -1,12 +1,18 @@
-use Rattle.std.proofs.Common.{◌∷◌, ap, map, ◌∙◌, SFits, w64, rules}
-use Rattle.std.proofs.lemmas.Int.{to_z-of_z}
-use Rattle.bounds_model.specs.PointText.{number}
-use Rattle.point_text.specs.Lines.{numbers_of}
-use Rattle.point_text.proofs.Clamping.{number_clamped}
+use Rattle.std.proofs.Common.{◌≡◌, ◌-◌, drop, take, length, length-drop, arith}
+use Rattle.std.proofs.lemmas.List.{take_all}
+use Rattle.point_text.proofs.Places.{place_missing}
+use Rattle.point_text.proofs.FieldCuts.{is_no_blank}
+use Rattle.point_text.proofs.LeadingFields.{next_number_read, uncommented-none}
 use Rattle.point_text.proofs.line.next_number.Goals as goal
+
+pub returns-in_err-start : goal.returns-in_err-start
+returns-in_err-start c =
+    let nothing = uncommented-none c.args.line.now (place_missing is_no_blank c.args.line.now c.in_err-start.ensures.place) in
+    rw (c.from_residual.ensures, nothing) tt
 
 pub returns : goal.returns
 returns c =
-    let read = number_clamped (number c.in_ok-field.field.now) c.in_ok-number.number c.in_ok-number.ensures in
-    let fits : SFits w64 c.in_ok-number.number = search rules in
-    (read.0, simp to_z-of_z read.1, ap (map number) c.in_ok-field.ensures ∙ ap (λ a. a ∷ numbers_of c.in_ok-field.rest.now) read.2)
+    let line = c.args.line.now in
+    let start = c.in_ok-start.start in
+    let cut : take (length line - start) (drop start line) ≡ drop start line = take_all (length line - start) (drop start line) (let size = length-drop start line in omega (arith, size)) in
+    next_number_read line _ start c.leading_number.result c.in_ok-start.ensures.place c.in_ok-start.ensures.within cut c.leading_number.ensures

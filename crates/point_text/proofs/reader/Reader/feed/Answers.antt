@@ -1,11 +1,11 @@
 use Rattle.std.proofs.Common.{◌≡◌, ◌∙◌, ◌++◌, ◌∷◌, ◌+◌, ◌-◌, ◌==◌, sym, ap, take, drop, length, length-drop, arith}
 use Rattle.std.proofs.lemmas.List.{take_all}
 use Rattle.point_text.proofs.Places.{before_place, cut_at_place, all_before}
-use Rattle.point_text.proofs.Pieces.{reads_none, reads_line}
+use Rattle.point_text.proofs.Pieces.{reads_line}
 use Rattle.point_text.proofs.reader.Reader.feed.Goals as goal
 
 pub lines-init : goal.lines-init
-lines-init c = reads_none c.args.self.now c.args.piece.now
+lines-init c = c.pass_lines-rest.ensures
 
 pub end_line-requires-clause-within : goal.end_line-requires-clause-within
 end_line-requires-clause-within c = before_place (λ b. b == 10) c.lines.rest.now c.in-Some.place (sym c.in-Some.is ∙ c.place_of.ensures.place)

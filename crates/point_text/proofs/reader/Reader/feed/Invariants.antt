@@ -1,5 +1,5 @@
 use Rattle.std.proofs.Common.{length}
-use Rattle.point_text.proofs.Pieces.{Reads}
+use Rattle.point_text.specs.Reading.{Reads}
 use Rattle.point_text.proofs.reader.Reader.feed.Given as goal
 
 abbrev pub invariant-lines : goal.invariant-lines
