@@ -1,19 +1,17 @@
 //! The numbers that words write.
-ghost use Rattle.std.specs.Prelude.{◌≡◌, ℕ, ◌+◌, ◌*◌, ◌<◌, ◌≤◌, ◌^◌, length, IfSome};
+ghost use Rattle.std.specs.Prelude.{◌≡◌, ℕ, ◌+◌, ◌*◌, ◌<◌, ◌≤◌, ◌^◌, length, take, true, IfSome};
 ghost use Rattle.std.specs.Option.{option_map};
-ghost use Rattle.std.specs.Char.{IsAsciiDigit, digit_value};
+ghost use Rattle.std.specs.Char.{IsAsciiDigit, is_ascii_digit, digit_value};
+ghost use Rattle.std.specs.List.{list_all};
+ghost use Rattle.std.specs.Str.Parse.{digits_value};
 ghost use Rattle.bounds_model.specs.AnswerText.Numerals as model;
 ghost use Rattle.witness_format.specs.Clamps.{clamped_size, clamped};
-ghost use Rattle.witness_format.specs.WrittenNumbers.{digits_number};
 
 /// The greatest magnitude of a number in an answer.
 pub(crate) const LIMIT: u128 = 1 << 126;
 
 /// A magnitude past the limit. A greater one is read as this one.
 const FAR: u128 = LIMIT + 1;
-
-/// The most digits of which each number fits 64 bits, with room for one more digit.
-const SHORT: usize = 18;
 
 /// The number that these bytes write without a sign, in digits that do not begin with 0 unless it is 0.
 /// One past the limit is read as `FAR`. None where they have another form.
@@ -24,45 +22,6 @@ pub(crate) fn natural_number(word: &[u8]) -> Option<u128>
     if word.is_empty() || (word.len() > 1 && word[0] == b'0') {
         return None;
     }
-    if word.len() > SHORT {
-        return long_number(word);
-    }
-    match short_number(word) {
-        Some(size) => Some(u128::from(size)),
-        None => None,
-    }
-}
-
-/// The number that these few bytes write, where all are digits. Most numbers are so short.
-fn short_number(word: &[u8]) -> Option<u64>
-    requires { length word.now ≤ 18 }
-    ensures number { result ≡ digits_number word.now }
-    ensures limited { IfSome result (λ n. n < 10 ^ 18) }
-{
-    let mut size: u64 = 0;
-    for digit in word {
-        if !digit.is_ascii_digit() {
-            return None;
-        }
-        size = followed_by(size, *digit);
-    }
-    Some(size)
-}
-
-/// The number with this digit behind its own.
-fn followed_by(size: u64, digit: u8) -> u64
-    requires size { size < 10 ^ 18 }
-    requires digit { IsAsciiDigit digit }
-    ensures { result ≡ size * 10 + digit_value digit }
-{
-    size * 10 + u64::from(digit - b'0')
-}
-
-/// The number that these bytes write, where all are digits, or `FAR` where it is past the limit.
-fn long_number(word: &[u8]) -> Option<u128>
-    ensures number { result ≡ option_map clamped_size (digits_number word.now) }
-    ensures limited { IfSome result (λ n. n ≤ 2 ^ 126 + 1) }
-{
     let mut size: u128 = 0;
     for digit in word {
         if !digit.is_ascii_digit() {
@@ -72,6 +31,7 @@ fn long_number(word: &[u8]) -> Option<u128>
     }
     Some(size)
 }
+
 /// The number with this digit behind its own, or `FAR` where that is past the limit.
 fn with_digit(size: u128, digit: u8) -> u128
     requires size { size ≤ 2 ^ 126 + 1 }
@@ -106,4 +66,37 @@ pub(crate) fn whole_number(word: &[u8]) -> Option<i128>
         [b'-', digits @ ..] => below_zero(natural_number(digits)?),
         digits => Some(natural_number(digits)? as i128),
     }
+}
+
+// ---- few digits
+
+/// As many digits are a number that fits 64 bits, also with one more digit behind them.
+const FEW: usize = 18;
+
+/// The number that the first digits of a text write, and how many they are. At most 18 are read.
+pub(crate) fn leading_number(text: &[u8]) -> (u64, usize)
+    ensures number { result.0 ≡ digits_value 10 (take result.1 text.now) }
+    ensures digits { list_all is_ascii_digit (take result.1 text.now) ≡ true }
+    ensures within { result.1 ≤ length text.now }
+    ensures limited { result.0 < 10 ^ 18 }
+{
+    let most = text.len().min(FEW);
+    let mut size: u64 = 0;
+    'digits: for count in 0..most {
+        let digit = text[count];
+        if !digit.is_ascii_digit() {
+            return (size, count);
+        }
+        size = followed_by(size, digit);
+    }
+    (size, most)
+}
+
+/// The number with this digit behind its own.
+fn followed_by(size: u64, digit: u8) -> u64
+    requires size { size < 10 ^ 18 }
+    requires digit { IsAsciiDigit digit }
+    ensures { result ≡ size * 10 + digit_value digit }
+{
+    size * 10 + u64::from(digit - b'0')
 }

@@ -1,12 +1,12 @@
-use Rattle.std.proofs.Common.{◌≡◌, true, take, ◌<◌, ◌^◌}
+use Rattle.std.proofs.Common.{◌≡◌, true, take}
 use Rattle.std.specs.Char.{is_ascii_digit}
 use Rattle.std.specs.List.{list_all}
 use Rattle.std.specs.Str.Parse.{digits_value}
-use Rattle.witness_format.proofs.numerals.short_number.Given as goal
+use Rattle.witness_format.specs.Clamps.{clamped_size}
+use Rattle.witness_format.proofs.numerals.natural_number.Given as goal
 
 abbrev pub invariant-loop-digit : goal.invariant-loop-digit
 invariant-loop-digit l = record {
   digits : list_all is_ascii_digit (take l.digit-index l.word) ≡ true;
-  size : l.size ≡ digits_value 10 (take l.digit-index l.word);
-  below : l.size < 10 ^ 18;
+  size : l.size ≡ clamped_size (digits_value 10 (take l.digit-index l.word));
 }

@@ -3,11 +3,11 @@ use Rattle.std.specs.Option.{option_map}
 use Rattle.std.specs.Char.{is_ascii_digit, digit_value}
 use Rattle.std.specs.Str.Parse.{digits_value}
 use Rattle.std.proofs.lemmas.Int.Digits.{digits_value_more}
-use Rattle.std.proofs.lemmas.List.Folds.{list_all_at}
 use Rattle.std.proofs.lemmas.Grind.{common_steps}
 use Rattle.witness_format.specs.Clamps.{clamped_size}
+use Rattle.witness_format.proofs.Digits.{is_numeral-other}
 use Rattle.witness_format.proofs.Clamping.{clamped-digit}
-use Rattle.witness_format.proofs.numerals.long_number.Goals as goal
+use Rattle.witness_format.proofs.numerals.natural_number.Goals as goal
 
 pub returns-then-not-is_ascii_digit-clause-number : goal.returns-then-not-is_ascii_digit-clause-number
 returns-then-not-is_ascii_digit-clause-number c =
@@ -15,7 +15,7 @@ returns-then-not-is_ascii_digit-clause-number c =
     let i = c.loop-digit.digit-index in
     let lt : i < length word = omega arith in
     let other : is_ascii_digit (get_or word i 0) ≡ false = sym c.if-not-is_ascii_digit.ensures.value in
-    sym (ap (λ (t : Bool). option_map clamped_size (cond t (Some (digits_value 10 word)) None)) (list_all_at is_ascii_digit word i 0 lt other))
+    sym (ap (λ (t : Bool). option_map clamped_size (cond t (Some (digits_value 10 word)) None)) (is_numeral-other word i lt other))
 
 pub loop-digit-preserved : goal.loop-digit-preserved
 loop-digit-preserved c =
