@@ -6,6 +6,7 @@ ghost use Rattle.bounds_model.specs.AnswerText.LineFormats.{after_words};
 ghost use Rattle.witness_format.specs.Outcomes.{Finds};
 
 use crate::numerals::leading_number;
+use memchr::memchr;
 
 /// The words of a line that are not yet read.
 #[derive(Clone, Copy)]
@@ -100,7 +101,7 @@ pub(crate) fn place_of(text: &[u8], byte: u8) -> Option<usize>
     ensures place { result ≡ position_from (λ b. b == byte) 0 text.now }
     ensures within { IfSome result (λ i. i < length text.now) }
 {
-    text.iter().position(|b| *b == byte)
+    memchr(byte, text)
 }
 
 /// What stands before the first byte of this value and what stands after it, or all and nothing where
