@@ -1,12 +1,15 @@
--- When a word is a numeral.
-use Rattle.std.proofs.Common.{◌≡◌, ◌∙◌, refl, ap, ℕ, zero, suc, ◌<◌, Bool, true, false, not, ◌&&◌, List, [], ◌∷◌, length, get_or, arith}
+-- When a word is a numeral, and how great a number of few digits is.
+use Rattle.std.proofs.Common.{◌≡◌, ◌∙◌, refl, sym, ap, cond, ℕ, zero, suc, ◌<◌, ◌≤◌, ◌^◌, Bool, true, false, not, ◌&&◌, List, [], ◌∷◌, length, take, length-take, get_or, get_or-take, Some, None, arith}
 use Rattle.std.specs.Prelude.{◌==◌}
 use Rattle.std.specs.Char.{is_ascii_digit}
 use Rattle.std.specs.List.{list_all}
 use Rattle.std.specs.Str.{all_ascii_digits}
-use Rattle.std.proofs.lemmas.Bool.{eq-eqb}
+use Rattle.std.specs.Str.Parse.{digits_value}
+use Rattle.std.proofs.lemmas.Bool.{eq-eqb, ne_eqb, true_from_ne_false, false≢true}
 use Rattle.std.proofs.lemmas.Bool.Decides.{nat_tests}
-use Rattle.bounds_model.specs.AnswerText.Numerals.{is_numeral}
+use Rattle.std.proofs.lemmas.List.Folds.{list_all_at}
+use Rattle.std.proofs.lemmas.Str.Parse.{digits_value_short, numerals_by_value, tells_all_ascii_digits}
+use Rattle.bounds_model.specs.AnswerText.Numerals.{is_numeral, natural_number}
 
 -- the two tests for digits are one
 all_digits : (ds : List ℕ) → all_ascii_digits ds ≡ list_all is_ascii_digit ds
@@ -56,3 +59,28 @@ is_numeral-other [] i lt other = absurd (omega arith)
 is_numeral-other (d ∷ []) zero lt other = other
 is_numeral-other (d ∷ []) (suc i) lt other = absurd (omega arith)
 is_numeral-other (d ∷ e ∷ rest) i lt other = and_false (not (d == 48)) (all_ascii_digits (d ∷ e ∷ rest)) (not_all_digits (d ∷ e ∷ rest) i lt other)
+
+-- ---- the first digits of a text
+
+-- they write a number
+pub number_of_digits : (text : List ℕ) (count : ℕ) → 0 < count → count ≤ length text → (1 < count → get_or text 0 0 ≡ 48 → ⊥) → list_all is_ascii_digit (take count text) ≡ true
+    → natural_number (take count text) ≡ Some (digits_value 10 (take count text))
+number_of_digits text count some within first digits =
+    let long : length (take count text) ≡ count = omega (arith, length-take count text) in
+    let begins : 1 < length (take count text) → get_or (take count text) 0 0 ≡ 48 → ⊥ = λ several zero. first (omega (arith, long)) (sym (get_or-take count text 0 0 some) ∙ zero) in
+    ap (λ t. cond t (Some (digits_value 10 (take count text))) None) (is_numeral-digits (take count text) (omega (arith, long)) begins digits)
+
+-- so few are a number below this one
+pub few_digits : (text : List ℕ) (count : ℕ) → count ≤ 18 → list_all is_ascii_digit (take count text) ≡ true → digits_value 10 (take count text) < 10 ^ 18
+few_digits text count few digits =
+    digits_value_short (numerals_by_value (λ ds. all_ascii_digits ds ≡ true) tells_all_ascii_digits) (take count text) 18 (all_digits (take count text) ∙ digits) (omega (arith, length-take count text))
+
+-- none of them is a blank
+pub digits_no_blank : (text : List ℕ) (count k : ℕ) → count ≤ length text → list_all is_ascii_digit (take count text) ≡ true → k < count → (get_or text k 0 == 32) ≡ false
+digits_no_blank text count k within digits lt =
+    let same : get_or (take count text) k 0 ≡ get_or text k 0 = get_or-take count text k 0 lt in
+    let long : length (take count text) ≡ count = omega (arith, length-take count text) in
+    let is : is_ascii_digit (get_or (take count text) k 0) ≡ true =
+    true_from_ne_false _ (λ other. false≢true (sym (list_all_at is_ascii_digit (take count text) k 0 (omega (arith, long)) other) ∙ digits)) in
+    let range = (tells_all_ascii_digits.parts (get_or text k 0) [] (ap (λ t. t && true) (sym (ap is_ascii_digit same) ∙ is))).0 in
+    ne_eqb (get_or text k 0) 32 (omega (arith, range))

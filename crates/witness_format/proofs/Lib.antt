@@ -14,3 +14,4 @@ pub mod ChordLines
 pub mod RowTexts
 pub mod Polygons
 pub mod Names
+pub mod FewDigits

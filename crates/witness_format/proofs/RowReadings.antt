@@ -1,6 +1,6 @@
 -- Rows of potentials: their widths, how they are read number by number, and how they are printed.
 use Rattle.std.proofs.Common.{◌≡◌, ◌∙◌, refl, sym, ap, subst, ℕ, zero, suc, ◌+◌, ◌-◌, ◌*◌, ◌<◌, ◌≤◌, ℤ, pos, nat_abs, Bool, true, false, ◌&&◌, List, [], ◌∷◌, ◌++◌, length, map, replicate, append_assoc, Option, Some, None, Result, Ok, Err, arith}
-use Rattle.std.specs.Prelude.{nat_le, int_le, ◌==◌}
+use Rattle.std.specs.Prelude.{nat_le, int_le}
 use Rattle.std.specs.List.{list_all}
 use Rattle.std.specs.Option.{option_map}
 use Rattle.std.proofs.Math.Nat.{mul-le-mul}
@@ -21,7 +21,7 @@ use Rattle.witness_format.specs.declared.fault.ReadFault.{ReadFault}
 use Rattle.witness_format.specs.declared.fault.ReadFault.TheVariants.{BadAnswer, BigNumber, OutOfMemory}
 use Rattle.witness_format.specs.declared.judging.Flaw.{Flaw}
 use Rattle.witness_format.specs.declared.judging.Flaw.TheVariants.{PastLimit, OutOfPlace}
-use Rattle.witness_format.specs.Judging.{Judged, judged_by, both, seen, judged_field, field_at, fields_at}
+use Rattle.witness_format.specs.Judging.{Judged, judged_by, seen, judged_field, field_at, fields_at}
 use Rattle.witness_format.specs.Lines.{decided, next_words}
 use Rattle.witness_format.specs.Outcomes.{Finds, RefusesOr, ReadsOr, Reads}
 use Rattle.witness_format.specs.Rows.{rows_from, row_behind, rows_behind, put_behind, worse_of, naturals_behind}

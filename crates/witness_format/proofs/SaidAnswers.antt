@@ -1,12 +1,12 @@
 -- The answers and what their formats say are the same, in both directions.
-use Rattle.std.proofs.Common.{◌≡◌, ◌∙◌, refl, sym, ap, ℕ, ◌+◌, pos, suc, List, [], ◌∷◌, ◌++◌, length, map, arith}
+use Rattle.std.proofs.Common.{◌≡◌, ◌∙◌, refl, sym, ap, ℕ, ◌+◌, pos, List, [], ◌∷◌, ◌++◌, length, map, arith}
 use Rattle.std.specs.Prelude.{zip}
 use Rattle.std.proofs.lemmas.List.{length-map, length-append}
 use Rattle.bounds_model.specs.Answers.{HasPlaces, circle, sphere, rectangle, parallelogram, strip, annulus, empty, kgon, distance, centres}
 use Rattle.bounds_model.specs.AnswerText.Fields.{plane_ratio, point_number, bounded}
 use Rattle.bounds_model.specs.AnswerText.LineFormats.{Values}
 use Rattle.bounds_model.specs.AnswerText.Kinds.{circle_kind, sphere_kind, rectangle_kind, parallelogram_kind, strip_kind, annulus_kind, empty_kind, kgon_kind, distance_kind, centres_kind}
-use Rattle.bounds_model.specs.AnswerText.Kinds.{weighted, weighted_pair, quarter_cone, half_cone, chorded_cone, cone_chord, chord, leaf}
+use Rattle.bounds_model.specs.AnswerText.Kinds.{weighted, weighted_pair, quarter_cone, half_cone, chorded_cone, cone_chord, leaf}
 use Rattle.bounds_model.specs.AnswerText.Spelling.{spelling, Spells}
 use Rattle.bounds_model.specs.AnswerText.Written.{kind_bytes}
 use Rattle.text_laws.proofs.AnswerTexts.AnswerLaws.{KindLaw}

@@ -1,7 +1,7 @@
 -- The answers as what their formats say: a kind, the size, and the body of the kind.
 use Rattle.std.specs.Prelude.{pos, ℕ, map, zip, List, [], ◌∷◌, ◌++◌}
 use Rattle.bounds_model.specs.Fractions.{Fraction}
-use Rattle.bounds_model.specs.AnswerText.Fields.{number, fraction, plane_ratio, space_ratio, bounded, blocker, point_number, natural}
+use Rattle.bounds_model.specs.AnswerText.Fields.{number, plane_ratio, bounded, point_number, natural}
 use Rattle.bounds_model.specs.AnswerText.LineFormats.{untitled, Values}
 use Rattle.bounds_model.specs.AnswerText.Formats.{Body}
 use Rattle.bounds_model.specs.AnswerText.Kinds.{Kind, circle_kind, sphere_kind, quarter_fields, rectangle_kind, fan, half_fields, strip_kind, side_fields, chord_fields, chorded_fields, last_fields, parallelogram_kind, annulus_kind, empty_kind, kgon_kind, distance_kind, centres_kind}

@@ -1,5 +1,5 @@
 -- How the words of a line are printed one after the other.
-use Rattle.std.specs.Prelude.{ℕ, ◌+◌, List, [], ◌∷◌, ◌++◌, length, map, decimal}
+use Rattle.std.specs.Prelude.{ℕ, ◌+◌, List, [], ◌∷◌, ◌++◌, length, decimal}
 use Rattle.std.specs.List.{flat_map}
 use Rattle.bounds_model.specs.AnswerText.Fields.{Field}
 use Rattle.bounds_model.specs.AnswerText.LineFormats.{Values, untitled}

@@ -24,6 +24,9 @@ pub(crate) fn bounded(words: Words<'_>, low: u32, high: u32) -> Option<(Judged<u
     ensures field { Finds (λ x. (x.0, words_left x.1)) result (field_at (model.bounded low high) (words_left words.entry)) }
     ensures limited { IfSome result (λ x. IfOk x.0 (λ n. n ≤ high)) }
 {
+    if let Some((n, others)) = words.few_digits() {
+        return Some((judged_bounded(u128::from(n), low, high), others));
+    }
     let (word, others) = words.next()?;
     let n = natural_number(word)?;
     Some((judged_bounded(n, low, high), others))
@@ -82,6 +85,9 @@ fn blocking_point(point: Judged<u32>) -> Judged<Blocker>
 pub(crate) fn natural(words: Words<'_>) -> Option<(Judged<u128>, Words<'_>)>
     ensures { Finds (λ x. (seen pos x.0, words_left x.1)) result (field_at model.natural (words_left words.entry)) }
 {
+    if let Some((n, others)) = words.few_digits() {
+        return Some((judged_natural(u128::from(n)), others));
+    }
     let (word, others) = words.next()?;
     let n = natural_number(word)?;
     Some((judged_natural(n), others))
@@ -101,6 +107,9 @@ fn judged_natural(n: u128) -> Judged<u128>
 pub(crate) fn number(words: Words<'_>) -> Option<(Judged<i128>, Words<'_>)>
     ensures { Finds (λ x. (x.0, words_left x.1)) result (field_at model.number (words_left words.entry)) }
 {
+    if let Some((n, others)) = words.few_signed_digits() {
+        return Some((judged_number(i128::from(n)), others));
+    }
     let (word, others) = words.next()?;
     let n = whole_number(word)?;
     Some((judged_number(n), others))

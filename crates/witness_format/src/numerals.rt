@@ -1,7 +1,9 @@
 //! The numbers that words write.
-ghost use Rattle.std.specs.Prelude.{◌≡◌, ℕ, ◌+◌, ◌*◌, ◌≤◌, ◌^◌, IfSome};
+ghost use Rattle.std.specs.Prelude.{◌≡◌, ℕ, ◌+◌, ◌*◌, ◌<◌, ◌≤◌, ◌^◌, length, take, true, IfSome};
 ghost use Rattle.std.specs.Option.{option_map};
-ghost use Rattle.std.specs.Char.{IsAsciiDigit, digit_value};
+ghost use Rattle.std.specs.Char.{IsAsciiDigit, is_ascii_digit, digit_value};
+ghost use Rattle.std.specs.List.{list_all};
+ghost use Rattle.std.specs.Str.Parse.{digits_value};
 ghost use Rattle.bounds_model.specs.AnswerText.Numerals as model;
 ghost use Rattle.witness_format.specs.Clamps.{clamped_size, clamped};
 
@@ -64,4 +66,37 @@ pub(crate) fn whole_number(word: &[u8]) -> Option<i128>
         [b'-', digits @ ..] => below_zero(natural_number(digits)?),
         digits => Some(natural_number(digits)? as i128),
     }
+}
+
+// ---- few digits
+
+/// As many digits are a number that fits 64 bits, also with one more digit behind them.
+const FEW: usize = 18;
+
+/// The number that the first digits of a text write, and how many they are. At most 18 are read.
+pub(crate) fn leading_number(text: &[u8]) -> (u64, usize)
+    ensures number { result.0 ≡ digits_value 10 (take result.1 text.now) }
+    ensures digits { list_all is_ascii_digit (take result.1 text.now) ≡ true }
+    ensures within { result.1 ≤ length text.now }
+    ensures limited { result.0 < 10 ^ 18 }
+{
+    let most = text.len().min(FEW);
+    let mut size: u64 = 0;
+    'digits: for count in 0..most {
+        let digit = text[count];
+        if !digit.is_ascii_digit() {
+            return (size, count);
+        }
+        size = followed_by(size, digit);
+    }
+    (size, most)
+}
+
+/// The number with this digit behind its own.
+fn followed_by(size: u64, digit: u8) -> u64
+    requires size { size < 10 ^ 18 }
+    requires digit { IsAsciiDigit digit }
+    ensures { result ≡ size * 10 + digit_value digit }
+{
+    size * 10 + u64::from(digit - b'0')
 }

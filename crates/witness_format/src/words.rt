@@ -1,8 +1,12 @@
 //! The words of a line.
-ghost use Rattle.std.specs.Prelude.{◌≡◌, ◌≢◌, ◌<◌, ◌==◌, [], ◌∷◌, length, IfSome, MatchOption};
+ghost use Rattle.std.specs.Prelude.{◌≡◌, ◌≢◌, ◌<◌, ◌==◌, ◌^◌, [], ◌∷◌, length, pos, Some, IfSome, MatchOption};
 ghost use Rattle.std.specs.List.{position_from, before_first, after_first, slice_split};
+ghost use Rattle.bounds_model.specs.AnswerText.Fields.{natural, number, value_of};
 ghost use Rattle.bounds_model.specs.AnswerText.LineFormats.{after_words};
 ghost use Rattle.witness_format.specs.Outcomes.{Finds};
+
+use crate::numerals::leading_number;
+use memchr::memchr;
 
 /// The words of a line that are not yet read.
 #[derive(Clone, Copy)]
@@ -33,6 +37,46 @@ impl<'a> Words<'a> {
         }
     }
 
+    /// The next word, where it is a number without a sign of few digits, and the words behind it. It is read in one
+    /// pass, and most words are such numbers.
+    pub(crate) fn few_digits(self) -> Option<(u64, Words<'a>)>
+        ensures number { IfSome result (λ x. value_of natural (words_left self.entry) ≡ Some (pos x.0, words_left x.1)) }
+        ensures limited { IfSome result (λ x. x.0 < 10 ^ 18) }
+    {
+        let text = self.text?;
+        let (size, count) = leading_number(text);
+        if count == 0 || (count > 1 && text[0] == b'0') {
+            return None;
+        }
+        if count == text.len() {
+            return Some((size, Words { text: None }));
+        }
+        if text[count] == b' ' {
+            return Some((size, Words::new(&text[count + 1..])));
+        }
+        None
+    }
+
+    /// The next word, where it is a whole number of few digits, and the words behind it.
+    pub(crate) fn few_signed_digits(self) -> Option<(i64, Words<'a>)>
+        ensures { IfSome result (λ x. value_of number (words_left self.entry) ≡ Some (x.0, words_left x.1)) }
+    {
+        match self.text? {
+            [b'-', digits @ ..] => {
+                let (size, others) = Words::new(digits).few_digits()?;
+                if size == 0 {
+                    None
+                } else {
+                    Some((-(size as i64), others))
+                }
+            }
+            _ => {
+                let (size, others) = self.few_digits()?;
+                Some((size as i64, others))
+            }
+        }
+    }
+
     /// The words behind this one, which is to be the next.
     pub(crate) fn after(self, expected: &[u8]) -> Option<Words<'a>>
         ensures { Finds words_left result (after_words (expected.now ∷ []) (words_left self.entry)) }
@@ -57,7 +101,7 @@ pub(crate) fn place_of(text: &[u8], byte: u8) -> Option<usize>
     ensures place { result ≡ position_from (λ b. b == byte) 0 text.now }
     ensures within { IfSome result (λ i. i < length text.now) }
 {
-    text.iter().position(|b| *b == byte)
+    memchr(byte, text)
 }
 
 /// What stands before the first byte of this value and what stands after it, or all and nothing where

@@ -10,5 +10,5 @@ use Rattle.witness_format.proofs.fields.number.Goals as goal
 pub returns : goal.returns
 returns c =
     let fits : FitsSigned w128 c.in_ok-n.n = search rules in
-    let judged : c.judged_number.result ≡ judged_field number c.in_ok-n.n = simp to_z-of_z at c.judged_number.ensures in
+    let judged : c.judged_number-2.result ≡ judged_field number c.in_ok-n.n = simp to_z-of_z at c.judged_number-2.ensures in
     number_at c.in_ok-word.word.now (words_left c.args.words) (words_left c.in_ok-word.others) c.in_ok-n.n c.in_ok-word.ensures c.in_ok-n.ensures ∙ sym (ap (λ j. Some (j, words_left c.in_ok-word.others)) judged)

@@ -1,4 +1,4 @@
-use Rattle.std.proofs.Common.{◌≡◌, refl, ℕ, Bool, true, false}
+use Rattle.std.proofs.Common.{refl}
 use Rattle.witness_format.proofs.Names.{other}
 use Rattle.witness_format.proofs.kinds.enclosing_kind.Goals as goal
 

@@ -1,8 +1,6 @@
 use Rattle.bounds_model.specs.AnswerText.Kinds.{kinds}
-use Rattle.bounds_model.specs.AnswerText.Reading.{reading, all_lines}
-use Rattle.answers.specs.Answers.{answer_of}
+use Rattle.bounds_model.specs.AnswerText.Reading.{all_lines}
 use Rattle.witness_format.specs.Kinds.{TextMayWant}
-use Rattle.witness_format.specs.Outcomes.{ReadsOr}
 use Rattle.witness_format.proofs.KindTexts.{reads_text}
 use Rattle.witness_format.proofs.ReadTexts.{found_is_spelled, spelled_is_found}
 use Rattle.witness_format.proofs.reading.read.Goals as goal

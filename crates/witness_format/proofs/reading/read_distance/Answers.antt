@@ -1,4 +1,4 @@
-use Rattle.std.proofs.Common.{refl, [], ◌∷◌, codes, map}
+use Rattle.std.proofs.Common.{refl, [], ◌∷◌, codes}
 use Rattle.bounds_model.specs.AnswerText.Fields.{number, space_ratio}
 use Rattle.bounds_model.specs.AnswerText.LineFormats.{titled}
 use Rattle.bounds_model.specs.AnswerText.Formats.{line}
