@@ -1,11 +1,10 @@
 -- Where a potential stands in the list.
-use Rattle.std.proofs.Common.{◌≡◌, refl, sym, subst, ap, ◌∙◌, ℕ, zero, suc, ◌+◌, ◌-◌, ◌*◌, ◌/◌, ◌<◌, ◌≤◌, arith, rules, true, pos, ◌≤ℤ◌, List, length, map, get_or}
-use Rattle.std.specs.Prelude.{nat_lt, if◌then◌else◌, slice_get, Some, All}
+use Rattle.std.proofs.Common.{◌≡◌, sym, subst, ap, ◌∙◌, ℕ, zero, suc, ◌+◌, ◌-◌, ◌*◌, ◌/◌, ◌<◌, ◌≤◌, arith, pos, ◌≤ℤ◌, List, length, map, get_or}
+use Rattle.std.specs.Prelude.{All}
 use Rattle.std.proofs.lemmas.Int.{ints}
 use Rattle.std.proofs.lemmas.List.{get_or-map, length-map}
-use Rattle.std.proofs.lemmas.Option.{get_or_from_slice_get, slice_get_within}
-use native.Mathlib.Nat.{mul-le-mul_right, mul-le-mul_left}
-use Rattle.bounds_model.specs.KgonAnswer.{KgonAnswer, potential, pairs_before}
+use native.Mathlib.Nat.{mul-le-mul, mul-le-mul_right, mul-le-mul_left}
+use Rattle.bounds_model.specs.KgonAnswer.{pairs_before}
 
 -- the pairs of the next first corner begin where those of this one end
 pairs-next : (count first : ℕ) → first < count → pairs_before count (first + 1) ≡ pairs_before count first + (count - 1 - first)
@@ -48,10 +47,10 @@ pairs-within (suc left) count first is =
     more x n y z e h = omega arith
 
 -- a layer that is one of them ends within all
-layers-within : {layer layers : ℕ} (width : ℕ) → (layer ≡ 0 → ⊥) → layer ≤ layers → (layer - 1) * width + width ≤ layers * width
+layers-within : {layer layers : ℕ} (width : ℕ) → 1 ≤ layer → layer ≤ layers → (layer - 1) * width + width ≤ layers * width
 layers-within {layer} {layers} width some h = subst (λ k. k ≤ layers * width) (step (layer - 1) layer width (back some)) (mul-le-mul_right width h)
   where
-    back : (layer ≡ 0 → ⊥) → layer ≡ layer - 1 + 1
+    back : 1 ≤ layer → layer ≡ layer - 1 + 1
     back some = omega arith
 
     up : (m w : ℕ) → (m + 1) * w ≡ m * w + w
@@ -61,13 +60,13 @@ layers-within {layer} {layers} width some h = subst (λ k. k ≤ layers * width)
     step m n w e = ap (λ k. k * w) e ∙ up m w
 
 -- the place of a potential is one of the list
-pub place-within : {layers layer first last count held total : ℕ} → held ≡ count → total ≡ layers * pairs_before count count → (layer ≡ 0 → ⊥) → layer ≤ layers → first < last → last < count
-    → layers * (first * (2 * held - first - 1) / 2) + (layer - 1) * (held - 1 - first) + (last - first - 1) < total
-place-within {layers} {layer} {first} {last} {count} {held} {total} is all some low rising below =
-    subst (λ n. layers * (first * (2 * n - first - 1) / 2) + (layer - 1) * (n - 1 - first) + (last - first - 1) < total) (sym is)
-    (under (layers * pairs_before count first) ((layer - 1) * (count - 1 - first)) (last - first - 1) (count - 1 - first) (layers * (count - 1 - first)) (layers * pairs_before count (first + 1)) (layers * pairs_before count count) total
+pub place-within : {layers layer first last count held start total : ℕ} → held ≡ count → start ≡ layers * pairs_before count first → total ≡ layers * pairs_before count count → 1 ≤ layer → layer ≤ layers → first < last → last < count
+    → start + (layer - 1) * (held - 1 - first) + (last - first - 1) < total
+place-within {layers} {layer} {first} {last} {count} {held} {start} {total} is begins all some low rising below =
+    subst (λ n. start + (layer - 1) * (n - 1 - first) + (last - first - 1) < total) (sym is)
+    (under start ((layer - 1) * (count - 1 - first)) (last - first - 1) (count - 1 - first) (layers * (count - 1 - first)) (layers * pairs_before count (first + 1)) (layers * pairs_before count count) total
     (in_row rising below) (layers-within (count - 1 - first) some low)
-    (ap (λ n. layers * n) (pairs-next count first (before rising below)) ∙ spread layers (pairs_before count first) (count - 1 - first))
+    (ap (λ n. layers * n) (pairs-next count first (before rising below)) ∙ spread layers (pairs_before count first) (count - 1 - first) ∙ ap (λ n. n + layers * (count - 1 - first)) (sym begins))
     (mul-le-mul_left layers (pairs-within (count - (first + 1)) count (first + 1) (rest rising below)))
     all)
   where
@@ -86,24 +85,25 @@ place-within {layers} {layer} {first} {last} {count} {held} {total} is all some 
     under : (x r p w lw y z t : ℕ) → p < w → r + w ≤ lw → y ≡ x + lw → y ≤ z → t ≡ z → x + r + p < t
     under x r p w lw y z t h k e m f = omega arith
 
--- the potential that is read is the answer's
-pub potential-read : (a : KgonAnswer) (us : List ℕ) (first layer last count u : ℕ) → a.potentials ≡ map pos us → count ≡ length a.corners → (layer ≡ 0 → ⊥)
-    → slice_get us (a.layers * (first * (2 * count - first - 1) / 2) + (layer - 1) * (count - 1 - first) + (last - first - 1)) ≡ Some u → pos u ≡ potential a first layer last
-potential-read a us first layer last count u are is some read =
-    let place = λ (n : ℕ). a.layers * (first * (2 * n - first - 1) / 2) + (layer - 1) * (n - 1 - first) + (last - first - 1) in
-    sym (ap (λ yes. if yes then get_or a.potentials (place (length a.corners)) (pos 0) else pos 0) (positive layer some)
-    ∙ ap (λ n. get_or a.potentials (place n) (pos 0)) (sym is)
-    ∙ ap (λ vs. get_or vs (place count) (pos 0)) are
-    ∙ get_or-map pos us (place count) 0 (pos 0) (slice_get_within us (place count) u read)
-    ∙ ap pos (get_or_from_slice_get us (place count) u 0 read))
-  where
-    positive : (k : ℕ) → (k ≡ 0 → ⊥) → nat_lt 0 k ≡ true
-    positive zero some = absurd (some refl)
-    positive (suc k) some = first_of (search rules, grind arith)
-
 -- a number of the list is at most what all are
-pub read-small : (us : List ℕ) (i u n : ℕ) → slice_get us i ≡ Some u → All (λ v. v ≤ℤ pos n) (map pos us) → u ≤ n
-read-small us i u n read all = natural u n (subst (λ v. v ≤ℤ pos n) (get_or-map pos us i 0 (pos 0) (slice_get_within us i u read) ∙ ap pos (get_or_from_slice_get us i u 0 read)) (all i (pos 0) (subst (λ m. i < m) (sym (length-map us pos)) (slice_get_within us i u read))))
+pub read-small : (us vs : List ℕ) (i n : ℕ) → us ≡ vs → i < length us → All (λ v. v ≤ℤ pos n) (map pos vs) → get_or us i 0 ≤ n
+read-small us vs i n is within all = natural (get_or us i 0) n (subst (λ v. v ≤ℤ pos n) (get_or-map pos us i 0 (pos 0) within) (subst (λ xs. All (λ v. v ≤ℤ pos n) (map pos xs)) (sym is) all i (pos 0) (subst (λ m. i < m) (sym (length-map us pos)) within)))
   where
     natural : (u n : ℕ) → pos u ≤ℤ pos n → u ≤ n
     natural u n h = omega (arith, ints)
+
+-- few potentials stand before those of a first corner
+pub start-small : (layers count first : ℕ) → layers ≤ 10 → count ≤ 128 → first < count → layers * pairs_before count first ≤ 200000
+start-small layers count first few limit below = widen (mul-le-mul few (half (mul-le-mul (under below limit) (twice limit))))
+  where
+    under : first < count → count ≤ 128 → first ≤ 128
+    under h k = omega arith
+
+    twice : count ≤ 128 → 2 * count - first - 1 ≤ 256
+    twice k = omega arith
+
+    half : {x : ℕ} → x ≤ 128 * 256 → x / 2 ≤ 16384
+    half h = omega arith
+
+    widen : {x : ℕ} → x ≤ 10 * 16384 → x ≤ 200000
+    widen h = omega arith

@@ -6,7 +6,7 @@ ghost use Rattle.bounds_model.specs.KgonAnswer.{potential, corner_points, pairs_
 ghost use Rattle.bounded_coords.specs.Clouds.{points_of};
 ghost use Rattle.answers.specs.Answers.{polygon_of};
 ghost use Rattle.polygon_check.specs.HullTests.{AreCornerNumbers};
-ghost use Rattle.polygon_check.specs.PolygonLimits.{IsTable, RaisesOver, RaisesTo, RaisesFrom, RaisesAll};
+ghost use Rattle.polygon_check.specs.PolygonLimits.{IsTable, IsStart, RaisesOver, RaisesTo, RaisesFrom, RaisesAll};
 
 use crate::hulls::{corner, twice_area};
 use answers::KgonAnswer;
@@ -33,18 +33,30 @@ fn raise_from(cloud: Cloud2<'_>, a: &KgonAnswer, first: u32) -> bool
     requires below { first < length a.now.corners }
     ensures { IsTrue result ↔ RaisesFrom (corner_points (points_of cloud.entry) (polygon_of a.now)) (polygon_of a.now) first }
 {
+    let start = rows_start(a, first);
     'lasts: for last in first + 1..a.corners.len() {
-        if !raise_to(cloud, a, first, last) {
+        if !raise_to(cloud, a, start, first, last) {
             return false;
         }
     }
     true
 }
 
+/// Where the potentials of this first corner begin.
+fn rows_start(a: &KgonAnswer, first: u32) -> usize
+    requires table { IsTable (polygon_of a.now) }
+    requires below { first < length a.now.corners }
+    ensures { IsStart (polygon_of a.now) first result }
+{
+    let count = a.corners.len();
+    (a.layers * (first * (2 * count - first - 1) / 2)) as usize
+}
+
 /// Whether the triangles with this first and this last corner do.
-fn raise_to(cloud: Cloud2<'_>, a: &KgonAnswer, first: u32, last: u32) -> bool
+fn raise_to(cloud: Cloud2<'_>, a: &KgonAnswer, start: usize, first: u32, last: u32) -> bool
     requires numbers { AreCornerNumbers (length (points_of cloud)) a.now.corners }
     requires table { IsTable (polygon_of a.now) }
+    requires start { IsStart (polygon_of a.now) first start }
     requires rising { first < last }
     requires below { last < length a.now.corners }
     ensures { IsTrue result ↔ RaisesTo (corner_points (points_of cloud.entry) (polygon_of a.now)) (polygon_of a.now) first last }
@@ -54,7 +66,7 @@ fn raise_to(cloud: Cloud2<'_>, a: &KgonAnswer, first: u32, last: u32) -> bool
     let to = corner(cloud, numbers, last as usize);
     'middles: for middle in first + 1..last {
         let over = corner(cloud, numbers, middle as usize);
-        if !raises(a, first, middle, last, twice_area(from, over, to)) {
+        if !raises(a, start, first, middle, last, twice_area(from, over, to)) {
             return false;
         }
     }
@@ -62,16 +74,23 @@ fn raise_to(cloud: Cloud2<'_>, a: &KgonAnswer, first: u32, last: u32) -> bool
 }
 
 /// Whether the potentials of the first and the last corner are above those of the first and the middle one by at least this, in each layer.
-fn raises(a: &KgonAnswer, first: u32, middle: u32, last: u32, area: i64) -> bool
+fn raises(a: &KgonAnswer, start: usize, first: u32, middle: u32, last: u32, area: i64) -> bool
     requires table { IsTable (polygon_of a.now) }
+    requires start { IsStart (polygon_of a.now) first start }
     requires rising { first < middle }
     requires on { middle < last }
     requires below { last < length a.now.corners }
     requires small { Size (2 ^ 39) area }
     ensures { IsTrue result ↔ RaisesOver (polygon_of a.now) first middle last area }
 {
-    'layers: for layer in 0..a.layers {
-        if !is_raised(a, first, middle, last, layer, area) {
+    if a.layers == 0 {
+        return true;
+    }
+    if area > potential_at(a, start, first, 1, last) {
+        return false;
+    }
+    'layers: for layer in 1..a.layers {
+        if !is_raised(a, start, first, middle, last, layer, area) {
             return false;
         }
     }
@@ -80,31 +99,42 @@ fn raises(a: &KgonAnswer, first: u32, middle: u32, last: u32, area: i64) -> bool
 
 /// Whether the potential above this layer of the first and the last corner is above that in this layer of the first and the middle one by
 /// at least this.
-fn is_raised(a: &KgonAnswer, first: u32, middle: u32, last: u32, layer: u32, area: i64) -> bool
+fn is_raised(
+    a: &KgonAnswer,
+    start: usize,
+    first: u32,
+    middle: u32,
+    last: u32,
+    layer: u32,
+    area: i64,
+) -> bool
     requires table { IsTable (polygon_of a.now) }
+    requires start { IsStart (polygon_of a.now) first start }
     requires rising { first < middle }
     requires on { middle < last }
     requires below { last < length a.now.corners }
+    requires some { 1 ≤ layer }
     requires layer { layer < a.now.layers }
     requires small { Size (2 ^ 39) area }
     ensures { IsTrue result ↔ ((potential (polygon_of a.now) first layer middle +ℤ area) ≤ℤ potential (polygon_of a.now) first (layer + 1) last) }
 {
-    potential_at(a, first, layer, middle) + area <= potential_at(a, first, layer + 1, last)
+    potential_at(a, start, first, layer, middle) + area
+        <= potential_at(a, start, first, layer + 1, last)
 }
 
-/// The potential of these two corners in this layer, the lowest of which is 1.
-fn potential_at(a: &KgonAnswer, first: u32, layer: u32, last: u32) -> i64
+/// The potential of these two corners in this layer, one from 1 on.
+fn potential_at(a: &KgonAnswer, start: usize, first: u32, layer: u32, last: u32) -> i64
     requires table { IsTable (polygon_of a.now) }
+    requires start { IsStart (polygon_of a.now) first start }
     requires rising { first < last }
     requires below { last < length a.now.corners }
+    requires some { 1 ≤ layer }
     requires layer { layer ≤ a.now.layers }
     ensures value { result ≡ potential (polygon_of a.now) first layer last }
     ensures small { Size (2 ^ 43) result }
 {
-    if layer == 0 {
-        return 0;
-    }
-    let count = a.corners.len();
-    let row = a.layers * (first * (2 * count - first - 1) / 2) + (layer - 1) * (count - 1 - first);
-    a.potentials.at(row + (last - first - 1)) as i64
+    let potentials = a.potentials.as_slice();
+    let width = (a.corners.len() - 1 - first) as usize;
+    let row = start + (layer as usize - 1) * width;
+    potentials[row + (last - first - 1) as usize] as i64
 }
