@@ -1,21 +1,20 @@
 -- The field that a line begins with, and its number.
-use Rattle.std.proofs.Common.{◌≡◌, ◌≢◌, ◌⊎◌, ◌∙◌, refl, sym, ap, ℕ, ℤ, pos, neg_ℤ, suc, zero, ◌+◌, ◌<◌, ◌==◌, inl, inr, Bool, true, false, ◌&&◌, ◌||◌, cond, not, nat_le, List, [], ◌∷◌, ◌++◌, length, length-append, map, take, drop, append-nil, get_or, Bor, MatchOption, Option, Some, None, arith}
+use Rattle.std.proofs.Common.{◌≡◌, ◌≢◌, ◌⊎◌, ◌∙◌, refl, sym, ap, ℕ, ℤ, pos, neg_ℤ, suc, zero, ◌<◌, ◌==◌, inl, inr, Bool, true, false, ◌&&◌, ◌||◌, cond, not, nat_le, List, [], ◌∷◌, ◌++◌, length, length-append, map, take, drop, append-nil, get_or, Bor, MatchOption, Option, Some, None, arith}
 use Rattle.std.proofs.Math.ListN.{drop_of_length-le}
 use Rattle.std.proofs.Math.Seq.{drop-cons}
 use Rattle.std.proofs.lemmas.Bool.{eqb-true, not-true}
 use Rattle.std.proofs.lemmas.List.Sums.{passes_at_first}
-use Rattle.std.proofs.lemmas.Bool.Decides.{nat_tests}
 use Rattle.std.proofs.lemmas.List.{take-append-drop, append_cancel_left}
 use Rattle.std.proofs.lemmas.List.Elements.{All-head, All-tail, All-cons}
 use Rattle.std.specs.Char.{is_ascii_digit}
 use Rattle.std.specs.List.{All, list_all, position_from, position_or_len, before_first, after_first}
 use Rattle.std.specs.Option.{option_map}
-use Rattle.bounds_model.specs.PointText.{is_blank, is_comment_sign, fields_of, natural, number, bad_form, plane_meaning, space_meaning}
+use Rattle.bounds_model.specs.PointText.{is_blank, is_comment_sign, fields_of, number, bad_form, plane_meaning, space_meaning}
 use Rattle.point_text.specs.Clamps.{clamped_size, clamped}
 use Rattle.point_text.specs.Digits.{number_behind, BeginsWithNoDigit}
 use Rattle.point_text.specs.Fields.{clamped_number}
 use Rattle.point_text.specs.InHand.{Write}
-use Rattle.point_text.specs.Lines.{numbers_of, uncommented, is_field_end, first_field, are_behind_field, BeginsWithNoSign, IsUnsigned, HasNoNumber}
+use Rattle.point_text.specs.Lines.{numbers_of, uncommented, is_field_end, first_field, are_behind_field, IsUnsigned, HasNoNumber}
 use Rattle.point_text.proofs.Bytewise.{natural_all, natural_none, no_digit, unsigned_number, plus_number, minus_number}
 use Rattle.point_text.proofs.Clamping.{plane_clamped}
 use Rattle.point_text.proofs.FieldCuts.{is_no_blank, fields_of-blank, fields_of-first, start_is_filled}

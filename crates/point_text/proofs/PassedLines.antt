@@ -1,5 +1,5 @@
 -- Lines that come behind the first fault.
-use Rattle.std.proofs.Common.{◌≡◌, ◌∙◌, refl, sym, ap, ℕ, ◌+◌, ◌==◌, Bool, true, false, List, [], ◌∷◌, ◌++◌, codes, length, length-append, map, append_assoc, append-nil, arith}
+use Rattle.std.proofs.Common.{◌≡◌, ◌∙◌, refl, sym, ap, ℕ, ◌+◌, Bool, true, false, List, [], ◌∷◌, ◌++◌, length, length-append, map, append_assoc, append-nil, arith}
 use Rattle.std.specs.List.{slice_split}
 use Rattle.std.specs.Option.{is_some}
 use Rattle.std.proofs.lemmas.List.{map-append}
@@ -10,7 +10,7 @@ use Rattle.point_text.specs.declared.judgement.Judgement.TheVariants.{PlaneSet, 
 use Rattle.point_text.specs.declared.reader.Reader.{Reader}
 use Rattle.point_text.specs.InHand.{IsLineInHand}
 use Rattle.point_text.specs.Judged.{IsJudgement, fault_of, plane_meanings, space_meanings}
-use Rattle.point_text.specs.Reading.{StandsFor, HasFailed, Reads, line_fields}
+use Rattle.point_text.specs.Reading.{Reads, line_fields}
 use Rattle.point_text.proofs.Refusing.{fault_stays}
 use Rattle.point_text.proofs.Splits.{split_joined, split_parted}
 

@@ -1,12 +1,12 @@
 -- Digits that are added at once to a field, a content or a line in hand.
-use Rattle.std.proofs.Common.{◌≡◌, ◌∙◌, refl, sym, ap, ℕ, ◌&&◌, min, Bool, true, false, List, [], ◌∷◌, ◌++◌, codes, append_assoc, append-nil, inl, inr, arith}
+use Rattle.std.proofs.Common.{◌≡◌, ◌∙◌, refl, sym, ap, ℕ, ◌&&◌, min, Bool, true, false, List, [], ◌∷◌, ◌++◌, append_assoc, append-nil, inl, inr, arith}
 use Rattle.std.specs.Char.{is_ascii_digit}
 use Rattle.std.specs.List.{All, list_all}
 use Rattle.std.specs.Str.Lines.{strip_carriage_return}
 use Rattle.std.proofs.lemmas.List.Elements.{All-append, All-cons}
 use Rattle.bounds_model.specs.PointText.{is_blank, is_comment_sign}
 use Rattle.point_text.specs.Digits.{AreCut}
-use Rattle.point_text.specs.InHand.{IsFieldInHand, IsContentInHand, IsLineInHand, HasNoComment, Adds, AddsDigits}
+use Rattle.point_text.specs.InHand.{IsFieldInHand, IsContentInHand, IsLineInHand, Adds, AddsDigits}
 use Rattle.point_text.specs.declared.field_in_hand.FieldInHand.{FieldInHand}
 use Rattle.point_text.specs.declared.field_in_hand.FieldInHand.TheVariants.{Positive, Negative}
 use Rattle.point_text.specs.declared.line_in_hand.ContentInHand.{ContentInHand}

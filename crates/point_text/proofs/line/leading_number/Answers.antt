@@ -1,7 +1,6 @@
 use Rattle.std.proofs.Common.{◌≡◌, ◌∙◌, sym, ap, inl, inr, true, nat_le, length, length-append, Some, SFits, w64, rules, arith}
 use Rattle.std.proofs.lemmas.Bool.Decides.{nat_tests}
 use Rattle.std.proofs.lemmas.Int.{to_z-of_z}
-use Rattle.point_text.specs.Lines.{first_field}
 use Rattle.point_text.proofs.LeadingFields.{leading_some, leading_none}
 use Rattle.point_text.proofs.line.leading_number.Goals as goal
 use Rattle.point_text.proofs.line.leading_number.Goals.{then-rest-digits-via-then-rest-digits, then-rest-digits-via-else-rest-digits+then-not-ends_field}

@@ -1,4 +1,4 @@
-use Rattle.std.proofs.Common.{◌≡◌, ◌∙◌, sym}
+use Rattle.std.proofs.Common.{◌∙◌, sym}
 use Rattle.point_text.proofs.Refusing.{fault_stays}
 use Rattle.point_text.proofs.judge.Judge.take_line.Goals as goal
 
