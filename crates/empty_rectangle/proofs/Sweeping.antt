@@ -12,7 +12,7 @@ use Rattle.empty_rectangle.specs.declared.rectangles.Edge.{Edge}
 use Rattle.empty_rectangle.specs.declared.rectangles.Rectangle.{Rectangle}
 use Rattle.empty_rectangle.specs.declared.rectangles.Window.{Window}
 use Rattle.empty_rectangle.specs.declared.sweep.Seed.{Seed}
-use Rattle.empty_rectangle.specs.Rectangles.{IsInExtent, Enters, IsBetween, IsFree, side, upright, level, RestsUpright, RestsLevel, IsRestricted, rectangle_in, Larger, Narrows, IsSeed, IsThrough, Covers}
+use Rattle.empty_rectangle.specs.Rectangles.{IsInExtent, Enters, NoneEnters, IsBetween, IsFree, side, upright, level, RestsUpright, RestsLevel, IsRestricted, rectangle_in, Larger, Narrows, IsSeed, IsThrough, Covers}
 
 -- a number is below another, or not
 pub by_order : {P : Type 0} (a b : ℕ) → (a < b → P) → (b ≤ a → P) → P
@@ -58,23 +58,21 @@ Scanned-start obstacles extent from seed start is = record {
   grown = le_refl start.area;
 }
 
--- ---- an obstacle that is not in the window
+-- ---- obstacles that are not in the window
 
-pub Scanned-skip : (obstacles : List Obstacle) (extent : Extent) (seed : Seed) (start : Rectangle) (k : ℕ) (window : Window) (best : Rectangle) (obstacle : Obstacle) → Scanned obstacles extent seed start k window best → k < length obstacles → obstacle ≡ get_or obstacles k obstacle
-    → ¬ Enters window.left.at seed.bottom.at window.right.at obstacle → Scanned obstacles extent seed start (k + 1) window best
-Scanned-skip obstacles extent seed start k window best obstacle s below is outside =
-    let P = λ (q : Obstacle). ¬ Enters window.left.at seed.bottom.at window.right.at q in
-    record {
-      from_left = s.from_left;
-      to_right = s.to_right;
-      in_extent = s.in_extent;
-      left = s.left;
-      right = s.right;
-      passed = AllWithin-more P obstacles 0 k s.passed (at_read obstacles P k obstacle below is outside);
-      covered = s.covered;
-      restricted = s.restricted;
-      grown = s.grown;
-    }
+pub Scanned-on : (obstacles : List Obstacle) (extent : Extent) (seed : Seed) (start : Rectangle) (i k : ℕ) (window : Window) (best : Rectangle) → Scanned obstacles extent seed start i window best
+    → NoneEnters obstacles window.left.at seed.bottom.at window.right.at i k → Scanned obstacles extent seed start k window best
+Scanned-on obstacles extent seed start i k window best s none = record {
+  from_left = s.from_left;
+  to_right = s.to_right;
+  in_extent = s.in_extent;
+  left = s.left;
+  right = s.right;
+  passed = λ j d low below enters. by_order j i (λ before. s.passed j d low before enters) (λ later. none j d later below enters);
+  covered = s.covered;
+  restricted = s.restricted;
+  grown = s.grown;
+}
 
 -- ---- a rectangle in the window
 

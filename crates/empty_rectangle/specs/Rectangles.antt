@@ -1,7 +1,7 @@
 -- Obstacles in a frame, rectangles between them, and the rectangles that grow from a seed. All numbers are distances from the frame's
 -- left side and from its bottom.
 use Rattle.std.specs.Prelude.{◌≡◌, ◌⊎◌, ℕ, ◌+◌, ◌-◌, ◌*◌, ◌≤◌, ◌<◌, List, length, All, Contains}
-use Rattle.std.specs.List.{AllWithin}
+use Rattle.std.specs.List.{AllWithin, HoldsAt}
 use Rattle.answers.specs.declared.empty_rectangles.Blocker.TheVariants.{Side, Point}
 use Rattle.empty_rectangle.specs.declared.obstacles.Obstacle.{Obstacle}
 use Rattle.empty_rectangle.specs.declared.obstacles.Extent.{Extent}
@@ -29,6 +29,17 @@ pub record Enters (left bottom right : ℕ) (s : Obstacle) : Type 0 where
   pub after_left : left < s.x
   pub before_right : s.x < right
   pub above : bottom < s.y
+
+-- no obstacle from one place in the order up to another is strictly between the sides and above the bottom
+abbrev pub NoneEnters : List Obstacle → ℕ → ℕ → ℕ → ℕ → ℕ → Type 0
+NoneEnters obstacles left bottom right from to = AllWithin (λ s. ¬ Enters left bottom right s) obstacles from to
+
+-- the obstacle at k is the first one from a place on that is strictly between the sides and above the bottom
+pub record IsNextEntering (obstacles : List Obstacle) (left bottom right from k : ℕ) : Type 0 where
+  pub after : from ≤ k
+  pub below : k < length obstacles
+  pub earlier : NoneEnters obstacles left bottom right from k
+  pub enters : HoldsAt (Enters left bottom right) obstacles k
 
 -- the obstacle is strictly inside a rectangle
 pub record IsBetween (left bottom right top : ℕ) (s : Obstacle) : Type 0 where

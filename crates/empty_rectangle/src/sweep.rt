@@ -1,7 +1,7 @@
 //! The rectangles that grow upwards from one seed.
-ghost use Rattle.std.specs.Prelude.{◌≡◌, ◌⊎◌, ◌≤◌, All};
+ghost use Rattle.std.specs.Prelude.{◌≡◌, ◌⊎◌, ◌≤◌, ◌<◌, length, All, MatchOption};
 ghost use Rattle.std.specs.List.Sorted.{IsNonDecreasingBy};
-ghost use Rattle.empty_rectangle.specs.Rectangles.{IsInExtent, IsExtent, IsSeed, Covers, IsRestricted};
+ghost use Rattle.empty_rectangle.specs.Rectangles.{IsInExtent, IsExtent, NoneEnters, IsNextEntering, IsSeed, Covers, IsRestricted};
 ghost use Rattle.empty_rectangle.specs.Seeds.{corner, above, beside};
 
 use crate::obstacles::{Extent, Obstacle};
@@ -86,20 +86,36 @@ pub(crate) fn sweep_up(
     if whole.area <= best.area {
         return best;
     }
-    'rise: for k in from..obstacles.len() {
+    let mut passed = from;
+    'rise: while let Some(k) = next_entering(obstacles, passed, window, seed.bottom.at) {
         let obstacle = obstacles[k];
-        if window.is_entered(seed.bottom.at, obstacle) {
-            let ended = window.rectangle(seed.bottom, obstacle.level());
-            best = best.or(ended, seed.least);
-            if 2 * obstacle.x == seed.column {
-                return best;
-            }
-            window = window.beside(obstacle, seed.column);
-            let rest = window.rectangle(seed.bottom, ceiling);
-            if rest.area <= best.area {
-                return best;
-            }
+        let ended = window.rectangle(seed.bottom, obstacle.level());
+        best = best.or(ended, seed.least);
+        if 2 * obstacle.x == seed.column {
+            return best;
         }
+        window = window.beside(obstacle, seed.column);
+        let rest = window.rectangle(seed.bottom, ceiling);
+        if rest.area <= best.area {
+            return best;
+        }
+        passed = k + 1;
     }
     best.or(window.rectangle(seed.bottom, ceiling), seed.least)
+}
+
+/// The place in the order of the first obstacle from `from` on that is in the window, above `bottom`. Nearly all steps of a search
+/// are made here, so that this loop holds nothing but what it compares.
+fn next_entering(obstacles: &[Obstacle], from: usize, window: Window, bottom: u32) -> Option<usize>
+    requires { window.left.at < window.right.at }
+    ensures { MatchOption result
+        (NoneEnters obstacles.now window.left.at bottom window.right.at from (length obstacles.now))
+        (IsNextEntering obstacles.now window.left.at bottom window.right.at from) }
+{
+    'seek: for k in from..obstacles.len() {
+        if window.is_entered(bottom, obstacles[k]) {
+            return Some(k);
+        }
+    }
+    None
 }
