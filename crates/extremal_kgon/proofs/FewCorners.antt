@@ -1,11 +1,11 @@
 -- Points that have a polygon which passes have at most 128 corners.
-use Rattle.std.proofs.Common.{◌≡◌, ◌∙◌, ap, ℕ, ◌<◌, ◌≤◌, arith, List, length, map}
+use Rattle.std.proofs.Common.{◌≡◌, ap, ℕ, ◌<◌, ◌≤◌, arith, List, length}
 use Rattle.std.proofs.lemmas.List.{length-map}
 use Rattle.bounds_model.specs.Plane.{PlanePoint, point_at}
 use Rattle.bounds_model.specs.KgonAnswer.{KgonAnswer, corner_points, PassesKgon}
 use Rattle.model_laws.proofs.CornerLaw.{passing_kgon}
 use Rattle.model_laws.proofs.CornersUnique.{one_list_of_corners}
-use Rattle.extremal_kgon.specs.Faults.{HasTooMany, AreTooMany}
+use Rattle.extremal_kgon.specs.Faults.{AreTooMany}
 
 not_both : (few listed hull count : ℕ) → listed ≡ few → listed ≡ hull → hull ≡ count → few ≤ 128 → 128 < count → ⊥
 not_both few listed hull count e f g most more = omega arith

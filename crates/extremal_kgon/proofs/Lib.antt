@@ -9,3 +9,4 @@ pub mod Reading
 pub mod Reaching
 pub mod NextRows
 pub mod FewCorners
+pub mod AreaLists

@@ -1,5 +1,6 @@
 -- The potentials of a layer, from those of the layer before.
-use Rattle.std.specs.Prelude.{◌≡◌, ◌⊎◌, ℕ, ◌<◌, ℤ, pos, ◌+ℤ◌, ◌≤ℤ◌, List, length, slice_index_or}
+use Rattle.std.specs.Prelude.{◌≡◌, ◌⊎◌, ℕ, zero, suc, ◌+◌, ◌^◌, ◌<◌, ℤ, pos, ◌+ℤ◌, ◌≤ℤ◌, List, length, slice_index_or, All}
+use Rattle.integers.specs.Size.{Size}
 use Rattle.bounds_model.specs.Numbers.{EachBelow}
 use Rattle.bounds_model.specs.Plane.{PlanePoint, point_at, cross}
 
@@ -10,6 +11,24 @@ area_at ways i j = cross (point_at ways j) (point_at ways i)
 -- the number at this place of a row
 abbrev pub at : List ℤ → ℕ → ℤ
 at row i = slice_index_or row i (pos 0)
+
+-- how many pairs of places below a number there are
+abbrev pub pairs_below : ℕ → ℕ
+pairs_below zero = 0
+pairs_below (suc n) = pairs_below n + n
+
+-- so many areas stand behind the old numbers
+pub record AddsAreas (area : ℕ → ℤ) (count : ℕ) (old new : List ℤ) : Type 0 where
+  pub as_many : length new ≡ length old + count
+  pub same : (k : ℕ) → k < length old → at new k ≡ at old k
+  pub each : EachBelow count (λ j. at new (length old + j) ≡ area j)
+  pub small : All (Size (2 ^ 39)) old → All (Size (2 ^ 39)) new
+
+-- for each of so many vectors the areas of the triangles over an earlier one and it
+pub record AreAreas (ways : List PlanePoint) (count : ℕ) (areas : List ℤ) : Type 0 where
+  pub as_many : length areas ≡ pairs_below count
+  pub each : EachBelow count (λ i. EachBelow i (λ j. at areas (pairs_below i + j) ≡ area_at ways i j))
+  pub small : All (Size (2 ^ 39)) areas
 
 -- the number is what an earlier one and its area come to
 pub record IsSumAt (area : ℕ → ℤ) (before : List ℤ) (i : ℕ) (u : ℤ) (j : ℕ) : Type 0 where

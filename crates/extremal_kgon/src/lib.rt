@@ -4,6 +4,7 @@
 //! - `polygon`: the answer for so many corners
 //! - `table`: the potentials for each first corner, and the greatest of them
 //! - `rows`: the potentials of a layer from those of the layer before
+//! - `triangles`: the areas of the triangles with a first corner
 //! - `ways`: the vectors from a corner to the later ones
 //! - `choice`: corners whose area is a potential
 #![tactic(auto)]
@@ -14,6 +15,7 @@ mod rows;
 mod table;
 #[cfg(test)]
 mod tests;
+mod triangles;
 mod ways;
 
 pub use polygon::{KgonFault, kgon};

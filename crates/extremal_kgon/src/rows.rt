@@ -1,8 +1,8 @@
 //! The potentials of a layer: by how much the triangles from a first corner can cover with so many corners more.
-ghost use Rattle.std.specs.Prelude.{◌≡◌, ◌<◌, ◌≤◌, ◌^◌, length, map, All, replicate, pos};
+ghost use Rattle.std.specs.Prelude.{◌≡◌, ◌+◌, ◌≤◌, ◌^◌, length, map, All, replicate, pos};
 ghost use Rattle.integers.specs.Size.{Size};
-ghost use Rattle.extremal_kgon.specs.Ways.{vector_of, IsShort};
-ghost use Rattle.extremal_kgon.specs.Rows.{area_at, IsReach, IsNextRow, IsZeroRow};
+ghost use Rattle.extremal_kgon.specs.Ways.{vector_of};
+ghost use Rattle.extremal_kgon.specs.Rows.{at, AreAreas, IsReach, IsNextRow, IsZeroRow};
 
 use crate::ways::{MOST_CORNERS, Way};
 use arrayvec::ArrayVec;
@@ -22,34 +22,35 @@ pub(crate) fn zero_row(count: usize) -> Row
     row
 }
 
-/// The greatest of 0 and of what each earlier corner's potential and the triangle that it makes with this one come to.
-fn reach(ways: &[Way], before: &[i64], i: usize) -> i64
-    requires place { i < length ways.now }
-    requires as_many { length before.now ≡ length ways.now }
-    requires short { All IsShort ways.now }
+/// The greatest of 0 and of what each earlier corner's potential and the triangle that it makes with the one at this place come to. The
+/// areas of those triangles begin at `start`.
+fn reach(areas: &[i64], start: usize, before: &[i64], i: usize) -> i64
+    requires end { start + i ≤ length areas.now }
+    requires place { i ≤ length before.now }
+    requires areas { All (Size (2 ^ 39)) areas.now }
     requires before { All (Size (2 ^ 43)) before.now }
-    ensures { IsReach (area_at (map vector_of ways.now) i) before.now i result }
+    ensures { IsReach (λ j. at areas.now (start + j)) before.now i result }
 {
-    let to = ways[i];
     let mut most = 0;
     'earlier: for j in 0..i {
-        let from = ways[j];
-        most = most.max(before[j] + (from.x * to.y - from.y * to.x));
+        most = most.max(before[j] + areas[start + j]);
     }
     most
 }
 
 /// The potentials with one corner more.
-pub(crate) fn next_row(ways: &[Way], before: &[i64]) -> Row
+pub(crate) fn next_row(ways: &[Way], areas: &[i64], before: &[i64]) -> Row
     requires few { length ways.now ≤ 128 }
     requires as_many { length before.now ≡ length ways.now }
-    requires short { All IsShort ways.now }
+    requires areas { AreAreas (map vector_of ways.now) (length ways.now) areas.now }
     requires before { All (Size (2 ^ 43)) before.now }
     ensures { IsNextRow (map vector_of ways.now) before.now result.items }
 {
     let mut row = ArrayVec::new();
+    let mut start = 0;
     'later: for i in 0..ways.len() {
-        row.push(reach(ways, before, i));
+        row.push(reach(areas, start, before, i));
+        start += i;
     }
     row
 }

@@ -4,8 +4,10 @@ ghost use Rattle.integers.specs.Size.{Size};
 ghost use Rattle.extremal_kgon.specs.Tables.{IsTable, TakesBest};
 
 use crate::rows::{next_row, zero_row};
+use crate::triangles::{Areas, set_areas};
 use crate::ways::ways;
 use answers::Potentials;
+use arrayvec::ArrayVec;
 use bounded_coords::{OutOfMemory, Point2};
 use std::alloc::Global;
 
@@ -56,9 +58,10 @@ fn push_row(potentials: &mut Potentials, row: &[i64]) -> Result<(), OutOfMemory>
     Ok(())
 }
 
-/// Adds the potentials of a first corner, layer by layer.
+/// Adds the potentials of a first corner, layer by layer. The list of areas is room for those of its triangles.
 fn add_layers(
     potentials: &mut Potentials,
+    areas: &mut Areas,
     best: Best,
     corners: &[Point2],
     first: usize,
@@ -71,10 +74,11 @@ fn add_layers(
     ensures { IfOk result (λ greatest. IsTable corners.now layers (first + 1) (map pos potentials.new) greatest) }
 {
     let ways = ways(corners, first);
+    set_areas(areas, ways.as_slice());
     let mut best = best;
     let mut before = zero_row(ways.len());
     'layers: for layer in 0..layers {
-        let row = next_row(ways.as_slice(), before.as_slice());
+        let row = next_row(ways.as_slice(), areas.as_slice(), before.as_slice());
         best = best.with_row(row.as_slice(), first, layer + 1);
         push_row(potentials, row.as_slice())?;
         before = row;
@@ -93,6 +97,7 @@ pub(crate) fn table(
     ensures { IfOk result (λ t. IsTable corners.now layers (length corners.now) (map pos t.0) t.1) }
 {
     let mut potentials = Potentials::new(alloc);
+    let mut areas = ArrayVec::new();
     let mut best = Best {
         area: 0,
         first: 0,
@@ -100,7 +105,7 @@ pub(crate) fn table(
         last: 0,
     };
     'firsts: for first in 0..corners.len() {
-        best = add_layers(&mut potentials, best, corners, first, layers)?;
+        best = add_layers(&mut potentials, &mut areas, best, corners, first, layers)?;
     }
     Ok((potentials, best))
 }
