@@ -11,6 +11,9 @@ use crate::sweep::{Seed, sweep_up};
 /// The largest rectangle with no obstacle strictly inside it, where it is larger than `start`, and else `start`. The bottom of the
 /// largest one rests on an obstacle, or is on the frame's, and then its left side rests on an obstacle or is on the frame's: these
 /// are the seeds. As soon as a rectangle has more than the area `enough`, that one is the result.
+///
+/// It is never inlined, so that a check takes its steps in the same compiled code as the search for the answer.
+#[inline(never)]
 pub(crate) fn search(
     obstacles: &[Obstacle],
     extent: Extent,
