@@ -3,10 +3,10 @@ use Rattle.std.proofs.Common.{◌≡◌, sym, ◌∙◌, subst, ap, ◌⊎◌, i
 use Rattle.std.proofs.lemmas.Int.{ints}
 use Rattle.integers.proofs.Identities.{den-ring, read, polys, lits}
 use Rattle.integers.proofs.Order.{nonneg_mul, nonneg_add, nonneg_difference, nonneg_of_mul, nonneg_from_positive, le_trans_ℤ, le_of_same, le_antisymm_ℤ, le_by}
-use Rattle.std.specs.Prelude.{List}
+use Rattle.std.specs.Prelude.{List, All}
 use Rattle.std.proofs.lemmas.List.Elements.{All-contains}
 use Rattle.bounds_model.specs.Plane.{PlanePoint, dot, cross, vector}
-use Rattle.fan_test.specs.Chains.{Turns, IsBelowAll, IsBelowArc, IsBelowInner, IsWithin, IsArc, AreEdges, IsPlaceFor, AreListed, Encloses}
+use Rattle.fan_test.specs.Chains.{Turns, IsBelowAll, AreJoined, IsWithinEach, IsBelowInner, IsWithin, IsArc, AreEdges, IsPlaceFor, AreListed, Encloses}
 
 -- ---- three directions
 
@@ -162,55 +162,22 @@ inner D H from to p i turns arc place h j low high = elim (three_ways i j) [
     awaits (inl e) less = absurd (omega (arith, low))
     awaits (inr l) less = l
 
--- below the first direction, the last and the inner ones is below the arc
-pub below_arc : (D H : ℕ → PlanePoint) (from to : ℕ) (p : PlanePoint) → IsArc D H from to
-    → dot (D from) p ≤ℤ dot (D from) (H from)
-    → ((j : ℕ) → j + 1 ≡ to → dot (D to) p ≤ℤ dot (D to) (H j))
-    → ((j : ℕ) → from ≤ j → j + 1 < to → dot (D (j + 1)) p ≤ℤ dot (D (j + 1)) (H (j + 1)))
-    → IsBelowArc D H from to p
-below_arc D H from to p arc first last middle j low high = record { begin = begins j low high; end = ends (last_or_not (j + 1) to (omega arith)) }
-  where
-    last_or_not : (i j : ℕ) → i ≤ j → (i < j) ⊎ (i ≡ j)
-    last_or_not i j h = grind arith
-
-    ends : (j + 1 < to) ⊎ (j + 1 ≡ to) → dot (D (j + 1)) p ≤ℤ dot (D (j + 1)) (H j)
-    ends (inl less) = le_trans_ℤ (middle j low less) (le_of_same (sym (arc.edges j low less).level))
-    ends (inr same) = subst (λ k. dot (D k) p ≤ℤ dot (D k) (H j)) (sym same) (last j same)
-
-    begins : (j : ℕ) → from ≤ j → j < to → dot (D j) p ≤ℤ dot (D j) (H j)
-    begins zero low high = subst (λ k. dot (D k) p ≤ℤ dot (D k) (H k)) (none from low) first
-      where
-        none : (i : ℕ) → i ≤ 0 → i ≡ 0
-        none i h = omega arith
-    begins (suc j) low high = elim (below_or_same from j low) [
-      | inl less ↦ subst (λ k. dot (D k) p ≤ℤ dot (D k) (H k)) (add-one j) (middle j less (omega arith))
-      | inr same ↦ subst (λ k. dot (D k) p ≤ℤ dot (D k) (H k)) same first
-    ]
-
 -- ---- the parts of an arc
 
--- what is below an arc is below its first direction
-pub first_part : (D H : ℕ → PlanePoint) (from to : ℕ) (p : PlanePoint) → from < to → IsBelowArc D H from to p → IsWithin D H from from p
-first_part D H from to p some below = (below from (omega arith) some).begin
-
--- and below its last
-pub last_part : (D H : ℕ → PlanePoint) (from to : ℕ) (p : PlanePoint) → from < to → IsBelowArc D H from to p → IsWithin D H to (to - 1) p
-last_part D H from to p some below = subst (λ n. IsWithin D H n (to - 1) p) (after to some) (below (to - 1) (omega arith) (omega arith)).end
+-- below the first direction and the inner ones is below each
+pub of_parts : (D H : ℕ → PlanePoint) (from to : ℕ) (p : PlanePoint) → IsWithin D H from from p → IsBelowInner D H from to p → IsWithinEach D H from to p
+of_parts D H from to p first middle zero low high = subst (λ k. IsWithin D H k k p) (none from low) first
   where
-    after : (to : ℕ) → from < to → (to - 1) + 1 ≡ to
-    after to some = omega arith
+    none : (i : ℕ) → i ≤ 0 → i ≡ 0
+    none i h = omega arith
+of_parts D H from to p first middle (suc j) low high = elim (below_or_same from j low) [
+  | inl less ↦ subst (λ k. IsWithin D H k k p) (add-one j) (middle j less (omega arith))
+  | inr same ↦ subst (λ k. IsWithin D H k k p) same first
+]
 
--- and below those between
-pub inner_part : (D H : ℕ → PlanePoint) (from to : ℕ) (p : PlanePoint) → IsBelowArc D H from to p → IsBelowInner D H from to p
-inner_part D H from to p below j low high = (below (j + 1) (omega arith) high).begin
-
--- what is below all of them is below the arc
-pub of_parts : (D H : ℕ → PlanePoint) (from to : ℕ) (p : PlanePoint) → IsArc D H from to → IsWithin D H from from p → IsWithin D H to (to - 1) p → IsBelowInner D H from to p → IsBelowArc D H from to p
-of_parts D H from to p arc first last between =
-    below_arc D H from to p arc first (λ j e. subst (λ k. dot (D to) p ≤ℤ dot (D to) (H k)) (number to j e) last) between
-  where
-    number : (to j : ℕ) → j + 1 ≡ to → to - 1 ≡ j
-    number to j e = omega arith
+-- what is below each is below the inner ones
+pub inner_part : (D H : ℕ → PlanePoint) (from to : ℕ) (p : PlanePoint) → IsWithinEach D H from to p → IsBelowInner D H from to p
+inner_part D H from to p each j low high = each (j + 1) (omega arith) high
 
 -- an arc of two cones has one direction between
 pub one_inner : (D H : ℕ → PlanePoint) (from to : ℕ) (p : PlanePoint) → to ≡ from + 2 → IsWithin D H (from + 1) (from + 1) p → IsBelowInner D H from to p
@@ -219,14 +186,27 @@ one_inner D H from to p two h j low high = subst (λ k. IsWithin D H (k + 1) (k 
     only : (j : ℕ) → from ≤ j → j + 1 < to → from ≡ j
     only j low high = omega (arith, two)
 
--- ---- the edges of a chain that encloses its points
+-- ---- a chain that encloses its points
 
-pub edges_enclosing : (cloud : List PlanePoint) (D H : ℕ → PlanePoint) (cones from : ℕ) → Turns D cones → AreListed cloud H cones → Encloses cloud D H cones → AreEdges D H from cones
-edges_enclosing cloud D H cones from turns listed all i low high aside left =
+-- its cones are joined
+pub enclosing_joined : (cloud : List PlanePoint) (D H : ℕ → PlanePoint) (cones : ℕ) → AreListed cloud H cones → Encloses cloud D H cones → AreJoined D H cones
+enclosing_joined cloud D H cones listed all i high =
     let at = All-contains (IsBelowAll D H cones) cloud (H i) all (listed i (omega arith)) in
     let next = All-contains (IsBelowAll D H cones) cloud (H (i + 1)) all (listed (i + 1) high) in
-    let level = le_antisymm_ℤ (at (i + 1) high).begin (next i (omega arith)).end in
+    le_antisymm_ℤ (at (i + 1) high).begin (next i (omega arith)).end
+
+-- and what is below all of them is below its last direction
+pub last_part : (D H : ℕ → PlanePoint) (n cones : ℕ) (p : PlanePoint) → n ≡ cones → 0 < n → IsBelowAll D H cones p → IsWithin D H n (n - 1) p
+last_part D H n cones p is some below = subst (λ k. IsWithin D H k (n - 1) p) after (below (n - 1) (omega arith)).end
+  where
+    after : (n - 1) + 1 ≡ n
+    after = omega (arith, some)
+
+-- there is an edge wherever it may be asked for
+pub edges_enclosing : (cloud : List PlanePoint) (D H : ℕ → PlanePoint) (cones from : ℕ) → Turns D cones → AreListed cloud H cones → AreJoined D H cones → All (IsWithinEach D H 0 cones) cloud → AreEdges D H from cones
+edges_enclosing cloud D H cones from turns listed joined all i low high aside left =
+    let next = All-contains (IsWithinEach D H 0 cones) cloud (H (i + 1)) all (listed (i + 1) high) in
     record {
-      level = level;
-      falling = before (D from) (D i) (D (i + 1)) (H (i + 1)) (H i) (turns i (omega arith)) left aside (sym level) (next i (omega arith)).begin;
+      level = joined i high;
+      falling = before (D from) (D i) (D (i + 1)) (H (i + 1)) (H i) (turns i (omega arith)) left aside (sym (joined i high)) (next i (omega arith) (omega arith));
     }

@@ -1,16 +1,13 @@
 -- How arcs grow, one direction after another, and chains, one arc after another.
 use Rattle.std.proofs.Common.{◌≡◌, sym, subst, ◌⊎◌, inl, inr, ◌↔◌, ℕ, ◌+◌, ◌-◌, ◌<◌, ◌≤◌, pos, ◌*ℤ◌, ◌-ℤ◌, ◌≤ℤ◌, ◌<ℤ◌, ℤ, [], ◌∷◌, arith, IsTrue, Bool}
-use Rattle.std.specs.Prelude.{List, All}
 use Rattle.integers.proofs.Identities.{den-ring, read, polys, lits}
 use Rattle.integers.proofs.Order.{nonneg_from_positive, le_of_same}
-use Rattle.bounds_model.specs.Plane.{PlanePoint, cross}
-use Rattle.fan_test.specs.Chains.{Turns, IsBelowAll, IsBelowArc, IsLevel, IsArc, AreEdges, Encloses}
+use Rattle.bounds_model.specs.Plane.{PlanePoint, cross, dot}
+use Rattle.fan_test.specs.Chains.{Turns, AreJoined, IsWithin, IsLevel, IsArc, AreEdges}
 
--- a statement on vectors, for others that are the same
-pub same_level : {yes : Bool} {u v n m p q r s : PlanePoint} → u ≡ v → n ≡ m → p ≡ q → r ≡ s → (IsTrue yes ↔ IsLevel u n p r) → IsTrue yes ↔ IsLevel v m q s
-same_level {yes} {u} {v} {n} {m} {p} {q} {r} {s} e f g h t =
-    let same : IsLevel u n p r ≡ IsLevel v m q s = λ i. IsLevel (e i) (f i) (g i) (h i) in
-    subst (λ P. IsTrue yes ↔ P) same t
+-- a test of a point, for another that is the same
+pub same_within : {yes : Bool} {q r : PlanePoint} (D H : ℕ → PlanePoint) (i k : ℕ) → q ≡ r → (IsTrue yes ↔ IsWithin D H i k q) → IsTrue yes ↔ IsWithin D H i k r
+same_within {yes} D H i k e t = subst (λ p. IsTrue yes ↔ IsWithin D H i k p) e t
 
 -- no vector is to the left of itself
 aside : (u : PlanePoint) → cross u u ≡ pos 0
@@ -40,6 +37,13 @@ edge_by D H from to cones k is some below arc left edges =
 pub edge_at : (D H : ℕ → PlanePoint) (from to cones : ℕ) → from < to → to < cones → IsArc D H from to → pos 0 <ℤ cross (D from) (D to) → AreEdges D H from cones → IsLevel (D from) (D to) (H (to - 1)) (H to)
 edge_at D H from to cones some below arc left edges = edge_by D H from to cones (to - 1) (omega arith) some below arc left edges
 
+-- joined cones are level where they meet
+joint_by : (D H : ℕ → PlanePoint) (to cones k : ℕ) → to ≡ k + 1 → to < cones → AreJoined D H cones → dot (D to) (H k) ≡ dot (D to) (H to)
+joint_by D H to cones k is below joined = subst (λ j. dot (D j) (H k) ≡ dot (D j) (H j)) (sym is) (joined k (omega arith))
+
+pub joint_at : (D H : ℕ → PlanePoint) (from to cones : ℕ) → from < to → to < cones → AreJoined D H cones → dot (D to) (H (to - 1)) ≡ dot (D to) (H to)
+joint_at D H from to cones some below joined = joint_by D H to cones (to - 1) (omega arith) below joined
+
 -- with the next direction to the left of the first, and an edge, an arc is longer
 arc_by : (D H : ℕ → PlanePoint) (from to k : ℕ) → to ≡ k + 1 → IsArc D H from to → pos 0 <ℤ cross (D from) (D to) → IsLevel (D from) (D to) (H k) (H to) → IsArc D H from (to + 1)
 arc_by D H from to k is arc left edge = record { left = lefts; edges = levels }
@@ -68,17 +72,3 @@ turns_more D i before here k less = elim (before_or_at k i less) [
   | inl lower ↦ before k lower
   | inr same ↦ subst (λ j. pos 0 <ℤ cross (D j) (D (j + 1))) (sym same) here
 ]
-
--- points below the cones so far, and below the next arc
-pub below_more : (cloud : List PlanePoint) (D H : ℕ → PlanePoint) (from to : ℕ) → All (IsBelowAll D H from) cloud → All (IsBelowArc D H from to) cloud → All (IsBelowAll D H to) cloud
-below_more cloud D H from to before here k d listed i less = elim (split i) [
-  | inl lower ↦ before k d listed i lower
-  | inr higher ↦ here k d listed i higher less
-]
-  where
-    split : (i : ℕ) → (i < from) ⊎ (from ≤ i)
-    split i = grind arith
-
--- points below all cones are below those of an arc
-pub below_part : (cloud : List PlanePoint) (D H : ℕ → PlanePoint) (from to cones : ℕ) → to ≤ cones → Encloses cloud D H cones → All (IsBelowArc D H from to) cloud
-below_part cloud D H from to cones limit all k d listed i low high = all k d listed i (omega arith)

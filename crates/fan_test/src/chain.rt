@@ -4,7 +4,7 @@ ghost use Rattle.bounds_model.specs.Plane.{PlanePoint, dot as product};
 ghost use Rattle.bounds_model.specs.Fans.{IsShort};
 ghost use Rattle.bounded_coords.specs.Clouds.{points_of};
 ghost use Rattle.fan_test.specs.Directions.{direction_of};
-ghost use Rattle.fan_test.specs.Chains.{Turns, Leads, AreListed, Encloses, IsBelowArc, IsBelowInner, IsWithin, IsLevel, IsArc, AreEdges, IsPlaceFor};
+ghost use Rattle.fan_test.specs.Chains.{Turns, Leads, AreListed, Encloses, AreJoined, IsWithinEach, IsBelowInner, IsWithin, IsArc, AreEdges, IsPlaceFor};
 
 use crate::direction::Direction;
 use bounded_coords::{Cloud2, Point2};
@@ -69,14 +69,59 @@ fn turns<C: Chain>(chain: &C) -> bool
 
 /// Whether no point is further out than a cone's point, in each of the two directions that the cone is between.
 ///
-/// Directions within half a turn of the first of them are an arc. Along that first direction the points of an arc stand in
-/// order, joined by edges that the other directions are normals of. So a point is below all of them if it is below the
-/// edge that it stands above, which is found by halving: n points and m cones take about n log m steps. A chain that
-/// winds around has an arc more for each half turn.
+/// The direction at which a cone ends begins the next one. If the points of both are equally far out in it, then one of them speaks
+/// for the other, and if they are not, then one is further out than the other. So each direction is compared with the points once.
 pub fn encloses<C: Chain>(chain: &C, cloud: Cloud2<'_>) -> bool
     requires turns { Turns (C.directions chain.now) (C.cones chain.now) }
     requires listed { AreListed (points_of cloud) (C.points chain.now) (C.cones chain.now) }
     ensures { IsTrue result ↔ Encloses (points_of cloud.entry) (C.directions chain.now) (C.points chain.now) (C.cones chain.now) }
+{
+    let cones = chain.len();
+    if cones == 0 {
+        return true;
+    }
+    if !are_joined(chain) {
+        return false;
+    }
+    if !are_within(chain, cones, cones - 1, cloud) {
+        return false;
+    }
+    are_within_each(chain, cloud)
+}
+
+/// Whether the points of neighbouring cones are equally far out in the direction between them.
+fn are_joined<C: Chain>(chain: &C) -> bool
+    requires { 0 < C.cones chain.now }
+    ensures { IsTrue result ↔ AreJoined (C.directions chain.now) (C.points chain.now) (C.cones chain.now) }
+{
+    let last = chain.len() - 1;
+    for i in 0..last {
+        if !is_joint(chain.direction(i + 1), chain.point(i), chain.point(i + 1)) {
+            return false;
+        }
+    }
+    true
+}
+
+/// Whether two points are equally far out in a direction.
+fn is_joint(direction: Direction, before: Point2, after: Point2) -> bool
+    requires { IsShort (direction_of direction) }
+    ensures { IsTrue result ↔ (product (direction_of direction) before ≡ product (direction_of direction) after) }
+{
+    direction.dot(before) == direction.dot(after)
+}
+
+/// Whether no point is further out than a cone's point in the direction that the cone begins at.
+///
+/// Directions within half a turn of the first of them are an arc. Along that first direction the points of an arc stand in
+/// order, joined by edges that the other directions are normals of. So a point is below all of them if it is below the
+/// edge that it stands above, which is found by halving: n points and m cones take about n log m steps. A chain that
+/// winds around has an arc more for each half turn.
+fn are_within_each<C: Chain>(chain: &C, cloud: Cloud2<'_>) -> bool
+    requires turns { Turns (C.directions chain.now) (C.cones chain.now) }
+    requires listed { AreListed (points_of cloud) (C.points chain.now) (C.cones chain.now) }
+    requires joined { AreJoined (C.directions chain.now) (C.points chain.now) (C.cones chain.now) }
+    ensures { IsTrue result ↔ All (IsWithinEach (C.directions chain.now) (C.points chain.now) 0 (C.cones chain.now)) (points_of cloud.entry) }
 {
     let mut from = 0;
     'arcs: while from < chain.len() {
@@ -95,46 +140,34 @@ pub fn encloses<C: Chain>(chain: &C, cloud: Cloud2<'_>) -> bool
 
 /// The end of the longest arc that begins at a cone, or None where two of its points are not joined by an edge.
 fn arc_end<C: Chain>(chain: &C, from: u32) -> Option<u32>
-    requires { from < C.cones chain.now }
+    requires cone { from < C.cones chain.now }
+    requires joined { AreJoined (C.directions chain.now) (C.points chain.now) (C.cones chain.now) }
     ensures arc { IfSome result (λ to. (from < to) × (to ≤ C.cones chain.now) × IsArc (C.directions chain.now) (C.points chain.now) from to) }
     ensures none { IsNone result → ¬ AreEdges (C.directions chain.now) (C.points chain.now) from (C.cones chain.now) }
 {
     let first = chain.direction(from);
     let end = chain.len();
     'edges: for to in from + 1..end {
-        let normal = chain.direction(to);
-        if first.cross(normal) <= 0 {
+        if first.cross(chain.direction(to)) <= 0 {
             return Some(to);
         }
-        if !is_edge(first, normal, chain.point(to - 1), chain.point(to)) {
+        if !is_within(chain, from, to - 1, chain.point(to)) {
             return None;
         }
     }
     Some(end)
 }
 
-/// Whether two points are equally far out in the edge's direction, and the second is not further out in the first direction.
-fn is_edge(first: Direction, normal: Direction, before: Point2, after: Point2) -> bool
-    requires first { IsShort (direction_of first) }
-    requires normal { IsShort (direction_of normal) }
-    ensures { IsTrue result ↔ IsLevel (direction_of first) (direction_of normal) before after }
-{
-    normal.dot(before) == normal.dot(after) && first.dot(after) <= first.dot(before)
-}
-
-/// Whether all points are below an arc: along its first direction, its last one, and those between. An arc of two cones has one
+/// Whether all points are below an arc: along its first direction and those between it and the last one. An arc of two cones has one
 /// between, and so each direction of a chain that winds around is compared with the points in one pass.
 fn are_below<C: Chain>(chain: &C, from: u32, to: u32, cloud: Cloud2<'_>) -> bool
     requires turns { Turns (C.directions chain.now) (C.cones chain.now) }
     requires some { from < to }
     requires limit { to ≤ C.cones chain.now }
     requires arc { IsArc (C.directions chain.now) (C.points chain.now) from to }
-    ensures { IsTrue result ↔ All (IsBelowArc (C.directions chain.now) (C.points chain.now) from to) (points_of cloud.entry) }
+    ensures { IsTrue result ↔ All (IsWithinEach (C.directions chain.now) (C.points chain.now) from to) (points_of cloud.entry) }
 {
     if !are_within(chain, from, from, cloud) {
-        return false;
-    }
-    if !are_within(chain, to, to - 1, cloud) {
         return false;
     }
     let cones = to - from;

@@ -1,0 +1,6 @@
+use Rattle.std.proofs.Common.{◌+◌}
+use Rattle.fan_test.specs.Chains.{AreJoined}
+use Rattle.fan_test.proofs.chain.are_joined.Given as goal
+
+abbrev pub invariant-loop-i : goal.invariant-loop-i
+invariant-loop-i g l = AreJoined (g.C.Chain.directions l.chain) (g.C.Chain.points l.chain) (l.i + 1)
