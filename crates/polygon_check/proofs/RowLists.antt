@@ -5,11 +5,10 @@ use Rattle.std.proofs.lemmas.List.{get_or_append_left, get_or_push, length_push}
 use Rattle.std.proofs.lemmas.List.Elements.{All-nil, All-push, All-same}
 use native.Mathlib.Nat.{mul-le-mul_right}
 use Rattle.integers.specs.Size.{Size}
-use Rattle.bounds_model.specs.Numbers.{EachBelow}
 use Rattle.bounds_model.specs.Plane.{PlanePoint, point_at, turn}
 use Rattle.bounds_model.specs.KgonAnswer.{KgonAnswer, potential, pairs_before}
 use Rattle.polygon_check.specs.PolygonLimits.{RaisesTo}
-use Rattle.polygon_check.specs.PotentialRows.{at, Adds, AreRows, AreAreas, AreBelow}
+use Rattle.polygon_check.specs.PotentialRows.{at, Adds, AreRows, AreAreas, AreRaised}
 use Rattle.polygon_check.proofs.HullReads.{below_or_at}
 
 -- one number more
@@ -95,7 +94,7 @@ le_as {x} {y} {z} {p} {q} {r} e f g h = subst (λ t. (p +ℤ q) ≤ℤ t) g (sub
 
 -- what the lists show of the triangles with this first and this last corner
 pub raised_to : (corners : List PlanePoint) (a : KgonAnswer) (first last : ℕ) (rows areas : List ℤ) → AreRows a first rows → AreAreas corners first last areas → first < last → last < length a.corners
-    → EachBelow a.layers (λ layer. AreBelow areas rows (layer * (length a.corners - 1 - first)) (at rows ((layer + 1) * (length a.corners - 1 - first) + length areas))) ↔ RaisesTo corners a first last
+    → AreRaised areas rows a.layers (length a.corners - 1 - first) ↔ RaisesTo corners a first last
 raised_to corners a first last rows areas r t rising below = (
   λ h middle low after layer in_layers.
       subst (λ m. (potential a first layer m +ℤ turn (point_at corners first) (point_at corners m) (point_at corners last)) ≤ℤ potential a first (layer + 1) last) (again after)
@@ -139,11 +138,11 @@ raised_to corners a first last rows areas r t rising below = (
 
 -- the same, of lists and a count that are the same
 pub raised_as : {yes : Bool} (corners : List PlanePoint) (a : KgonAnswer) (first last : ℕ) (rows areas listed : List ℤ) (count : ℕ) → count ≡ length a.corners → listed ≡ areas → AreRows a first rows → AreAreas corners first last areas → first < last → last < length a.corners
-    → (IsTrue yes ↔ EachBelow a.layers (λ layer. AreBelow listed rows (layer * (count - 1 - first)) (at rows ((layer + 1) * (count - 1 - first) + length listed)))) → IsTrue yes ↔ RaisesTo corners a first last
+    → (IsTrue yes ↔ AreRaised listed rows a.layers (count - 1 - first)) → IsTrue yes ↔ RaisesTo corners a first last
 raised_as {yes} corners a first last rows areas listed count is same r t rising below h =
     let law = raised_to corners a first last rows areas r t rising below in
-    let here = subst (λ n. IsTrue yes ↔ EachBelow a.layers (λ layer. AreBelow areas rows (layer * (n - 1 - first)) (at rows ((layer + 1) * (n - 1 - first) + length areas)))) is
-    (subst (λ xs. IsTrue yes ↔ EachBelow a.layers (λ layer. AreBelow xs rows (layer * (count - 1 - first)) (at rows ((layer + 1) * (count - 1 - first) + length xs)))) same h) in
+    let here = subst (λ n. IsTrue yes ↔ AreRaised areas rows a.layers (n - 1 - first)) is
+    (subst (λ xs. IsTrue yes ↔ AreRaised xs rows a.layers (count - 1 - first)) same h) in
     (λ y. law.0 (here.0 y), λ all. here.1 (law.1 all))
 
 -- a place in the layer above one of the layers

@@ -31,3 +31,7 @@ pub record AreAreas (corners : List PlanePoint) (first last : ℕ) (areas : List
 -- no number from a place on comes with its area to more than this
 abbrev pub AreBelow : List ℤ → List ℤ → ℕ → ℤ → Type 0
 AreBelow areas rows start most = EachBelow (length areas) (λ j. (at rows (start + j) +ℤ at areas j) ≤ℤ most)
+
+-- in none of so many layers a number comes with its area to more than the number behind them in the next layer
+abbrev pub AreRaised : List ℤ → List ℤ → ℕ → ℕ → Type 0
+AreRaised areas rows layers width = EachBelow layers (λ layer. AreBelow areas rows (layer * width) (at rows ((layer + 1) * width + length areas)))

@@ -1,16 +1,16 @@
 //! Potentials: bounds on twice the area of the polygons over two corners, and whether each further triangle raises them.
 ghost use Rattle.std.specs.Prelude.{◌≡◌, ◌↔◌, ◌+◌, ◌*◌, ◌^◌, ◌<◌, ◌≤◌, length, map, All, IsTrue};
 ghost use Rattle.integers.specs.Size.{Size};
-ghost use Rattle.bounds_model.specs.Numbers.{EachBelow};
 ghost use Rattle.bounds_model.specs.Plane.{point_at};
 ghost use Rattle.bounds_model.specs.KgonAnswer.{corner_points};
 ghost use Rattle.bounded_coords.specs.Clouds.{points_of};
 ghost use Rattle.answers.specs.Answers.{polygon_of};
 ghost use Rattle.polygon_check.specs.HullTests.{AreCornerNumbers};
 ghost use Rattle.polygon_check.specs.PolygonLimits.{IsTable, RaisesTo, RaisesFrom, RaisesAll};
-ghost use Rattle.polygon_check.specs.PotentialRows.{at, AreRows, AreAreas, AreBelow};
+ghost use Rattle.polygon_check.specs.PotentialRows.{AreRows, AreAreas, AreBelow, AreRaised};
 
 use crate::hulls::{corner, twice_area};
+use crate::polygons::MOST_CORNERS;
 use crate::rows::rows;
 use answers::KgonAnswer;
 use arrayvec::ArrayVec;
@@ -61,7 +61,12 @@ fn raise_to(cloud: Cloud2<'_>, a: &KgonAnswer, rows: &[i64], first: u32, last: u
 }
 
 /// Twice the areas of the triangles with this first and this last corner, one for each corner between them.
-fn areas(cloud: Cloud2<'_>, numbers: &[u32], first: usize, last: usize) -> ArrayVec<i64, 128>
+fn areas(
+    cloud: Cloud2<'_>,
+    numbers: &[u32],
+    first: usize,
+    last: usize,
+) -> ArrayVec<i64, MOST_CORNERS>
     requires numbers { AreCornerNumbers (length (points_of cloud)) numbers.now }
     requires rising { first < last }
     requires below { last < length numbers.now }
@@ -84,7 +89,7 @@ fn are_raised(areas: &[i64], rows: &[i64], layers: usize, width: usize) -> bool
     requires as_many { length rows.now ≡ (layers + 1) * width }
     requires areas { All (Size (2 ^ 39)) areas.now }
     requires rows { All (Size (2 ^ 43)) rows.now }
-    ensures { IsTrue result ↔ EachBelow layers (λ layer. AreBelow areas.now rows.now (layer * width) (at rows.now ((layer + 1) * width + length areas.now))) }
+    ensures { IsTrue result ↔ AreRaised areas.now rows.now layers width }
 {
     'layers: for layer in 0..layers {
         let most = rows[(layer + 1) * width + areas.len()];
