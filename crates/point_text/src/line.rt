@@ -185,7 +185,10 @@ pub(crate) fn read_line<P: TextPoint>(line: &[u8]) -> Line<P>
     ensures { meaning_of result ≡ line_meaning P.numbers_meaning line.now }
 {
     let line = without_return(line);
-    // Nearly all lines are points: whether one is something else is asked only where it is none.
+    if line == b"---".as_slice() {
+        return Line::EndOfSet;
+    }
+    // Nearly all other lines are points: whether one is something else is asked only where it is none.
     match P::read_fields(line) {
         Line::Bad => pointless_line(before_comment(line)),
         line => line,

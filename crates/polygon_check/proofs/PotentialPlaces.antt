@@ -3,7 +3,7 @@ use Rattle.std.proofs.Common.{◌≡◌, sym, subst, ap, ◌∙◌, ℕ, zero, s
 use Rattle.std.specs.Prelude.{All}
 use Rattle.std.proofs.lemmas.Int.{ints}
 use Rattle.std.proofs.lemmas.List.{get_or-map, length-map}
-use native.Mathlib.Nat.{mul-le-mul, mul-le-mul_right, mul-le-mul_left}
+use native.Mathlib.Nat.{mul-le-mul_left}
 use Rattle.bounds_model.specs.KgonAnswer.{pairs_before}
 
 -- the pairs of the next first corner begin where those of this one end
@@ -46,64 +46,26 @@ pairs-within (suc left) count first is =
     more : (x n y z : ℕ) → y ≡ x + n → y ≤ z → x ≤ z
     more x n y z e h = omega arith
 
--- a layer that is one of them ends within all
-layers-within : {layer layers : ℕ} (width : ℕ) → 1 ≤ layer → layer ≤ layers → (layer - 1) * width + width ≤ layers * width
-layers-within {layer} {layers} width some h = subst (λ k. k ≤ layers * width) (step (layer - 1) layer width (back some)) (mul-le-mul_right width h)
+-- the potentials of a first corner are within the list
+pub rows-within : (layers first count start total : ℕ) → start ≡ layers * pairs_before count first → total ≡ layers * pairs_before count count → first < count → start + layers * (count - 1 - first) ≤ total
+rows-within layers first count start total begins all below =
+    under start (layers * (count - 1 - first)) (layers * pairs_before count (first + 1)) (layers * pairs_before count count) total
+    (ap (λ n. layers * n) (pairs-next count first below) ∙ spread layers (pairs_before count first) (count - 1 - first) ∙ ap (λ n. n + layers * (count - 1 - first)) (sym begins))
+    (mul-le-mul_left layers (pairs-within (count - (first + 1)) count (first + 1) (rest below)))
+    all
   where
-    back : 1 ≤ layer → layer ≡ layer - 1 + 1
-    back some = omega arith
-
-    up : (m w : ℕ) → (m + 1) * w ≡ m * w + w
-    up m w = omega arith
-
-    step : (m n w : ℕ) → n ≡ m + 1 → n * w ≡ m * w + w
-    step m n w e = ap (λ k. k * w) e ∙ up m w
-
--- the place of a potential is one of the list
-pub place-within : {layers layer first last count held start total : ℕ} → held ≡ count → start ≡ layers * pairs_before count first → total ≡ layers * pairs_before count count → 1 ≤ layer → layer ≤ layers → first < last → last < count
-    → start + (layer - 1) * (held - 1 - first) + (last - first - 1) < total
-place-within {layers} {layer} {first} {last} {count} {held} {start} {total} is begins all some low rising below =
-    subst (λ n. start + (layer - 1) * (n - 1 - first) + (last - first - 1) < total) (sym is)
-    (under start ((layer - 1) * (count - 1 - first)) (last - first - 1) (count - 1 - first) (layers * (count - 1 - first)) (layers * pairs_before count (first + 1)) (layers * pairs_before count count) total
-    (in_row rising below) (layers-within (count - 1 - first) some low)
-    (ap (λ n. layers * n) (pairs-next count first (before rising below)) ∙ spread layers (pairs_before count first) (count - 1 - first) ∙ ap (λ n. n + layers * (count - 1 - first)) (sym begins))
-    (mul-le-mul_left layers (pairs-within (count - (first + 1)) count (first + 1) (rest rising below)))
-    all)
-  where
-    in_row : first < last → last < count → last - first - 1 < count - 1 - first
-    in_row h k = omega arith
-
-    before : first < last → last < count → first < count
-    before h k = omega arith
-
-    rest : first < last → last < count → first + 1 + (count - (first + 1)) ≡ count
-    rest h k = omega arith
+    rest : first < count → first + 1 + (count - (first + 1)) ≡ count
+    rest h = omega arith
 
     spread : (l x n : ℕ) → l * (x + n) ≡ l * x + l * n
     spread l x n = omega arith
 
-    under : (x r p w lw y z t : ℕ) → p < w → r + w ≤ lw → y ≡ x + lw → y ≤ z → t ≡ z → x + r + p < t
-    under x r p w lw y z t h k e m f = omega arith
+    under : (x w y z t : ℕ) → y ≡ x + w → y ≤ z → t ≡ z → x + w ≤ t
+    under x w y z t e m f = omega arith
 
 -- a number of the list is at most what all are
-pub read-small : (us vs : List ℕ) (i n : ℕ) → us ≡ vs → i < length us → All (λ v. v ≤ℤ pos n) (map pos vs) → get_or us i 0 ≤ n
-read-small us vs i n is within all = natural (get_or us i 0) n (subst (λ v. v ≤ℤ pos n) (get_or-map pos us i 0 (pos 0) within) (subst (λ xs. All (λ v. v ≤ℤ pos n) (map pos xs)) (sym is) all i (pos 0) (subst (λ m. i < m) (sym (length-map us pos)) within)))
+pub read-small : (us : List ℕ) (i n : ℕ) → i < length us → All (λ v. v ≤ℤ pos n) (map pos us) → get_or us i 0 ≤ n
+read-small us i n within all = natural (get_or us i 0) n (subst (λ v. v ≤ℤ pos n) (get_or-map pos us i 0 (pos 0) within) (all i (pos 0) (subst (λ m. i < m) (sym (length-map us pos)) within)))
   where
     natural : (u n : ℕ) → pos u ≤ℤ pos n → u ≤ n
     natural u n h = omega (arith, ints)
-
--- few potentials stand before those of a first corner
-pub start-small : (layers count first : ℕ) → layers ≤ 10 → count ≤ 128 → first < count → layers * pairs_before count first ≤ 200000
-start-small layers count first few limit below = widen (mul-le-mul few (half (mul-le-mul (under below limit) (twice limit))))
-  where
-    under : first < count → count ≤ 128 → first ≤ 128
-    under h k = omega arith
-
-    twice : count ≤ 128 → 2 * count - first - 1 ≤ 256
-    twice k = omega arith
-
-    half : {x : ℕ} → x ≤ 128 * 256 → x / 2 ≤ 16384
-    half h = omega arith
-
-    widen : {x : ℕ} → x ≤ 10 * 16384 → x ≤ 200000
-    widen h = omega arith

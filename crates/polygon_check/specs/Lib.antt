@@ -1,2 +1,3 @@
 pub mod HullTests
 pub mod PolygonLimits
+pub mod PotentialRows

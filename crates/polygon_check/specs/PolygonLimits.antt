@@ -30,11 +30,6 @@ pub record IsTable (a : KgonAnswer) : Type 0 where
   pub as_many : length a.potentials ≡ a.layers * pairs_before (length a.corners) (length a.corners)
   pub small : All (λ u. u ≤ℤ pos (2 ^ 43)) a.potentials
 
--- the place of a first corner's first potential, one of few
-pub record IsStart (a : KgonAnswer) (first start : ℕ) : Type 0 where
-  pub place : start ≡ a.layers * pairs_before (length a.corners) first
-  pub small : start ≤ 200000
-
 -- in each layer a triangle of this area raises the potential
 abbrev pub RaisesOver : KgonAnswer → ℕ → ℕ → ℕ → ℤ → Type 0
 RaisesOver a first middle last area = EachBelow a.layers (λ layer. (potential a first layer middle +ℤ area) ≤ℤ potential a first (layer + 1) last)

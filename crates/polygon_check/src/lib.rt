@@ -3,12 +3,14 @@
 //!
 //! - `polygons`: the checker
 //! - `potentials`: that each further triangle raises the potentials
+//! - `rows`: the potentials of one first corner
 //! - `hulls`: lists of corners that go once around all points
 #![tactic(auto)]
 
 mod hulls;
 mod polygons;
 mod potentials;
+mod rows;
 #[cfg(test)]
 mod tests;
 

@@ -21,7 +21,7 @@ use exact_fractions::Frac;
 use optimality::answer::passing_answers_are_best;
 
 /// The most corners of a hull.
-const MOST_CORNERS: usize = 128;
+pub(crate) const MOST_CORNERS: usize = 128;
 
 /// Whether the listed corners go once around all points, the chosen ones are at most k and have the printed area, and the potentials show
 /// that no polygon of at most k corners has more (CGAL manual, Inscribed Areas, `maximum_area_inscribed_k_gon_2`): each triangle over two

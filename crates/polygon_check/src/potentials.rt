@@ -1,15 +1,19 @@
 //! Potentials: bounds on twice the area of the polygons over two corners, and whether each further triangle raises them.
-ghost use Rattle.std.specs.Prelude.{◌≡◌, ◌↔◌, ◌+◌, ◌^◌, ◌<◌, ◌≤◌, pos, ◌+ℤ◌, ◌≤ℤ◌, length, map, All, IsTrue};
+ghost use Rattle.std.specs.Prelude.{◌≡◌, ◌↔◌, ◌+◌, ◌*◌, ◌^◌, ◌<◌, ◌≤◌, length, map, All, IsTrue};
 ghost use Rattle.integers.specs.Size.{Size};
-ghost use Rattle.bounds_model.specs.Plane.{point_at, turn};
-ghost use Rattle.bounds_model.specs.KgonAnswer.{potential, corner_points, pairs_before};
+ghost use Rattle.bounds_model.specs.Plane.{point_at};
+ghost use Rattle.bounds_model.specs.KgonAnswer.{corner_points};
 ghost use Rattle.bounded_coords.specs.Clouds.{points_of};
 ghost use Rattle.answers.specs.Answers.{polygon_of};
 ghost use Rattle.polygon_check.specs.HullTests.{AreCornerNumbers};
-ghost use Rattle.polygon_check.specs.PolygonLimits.{IsTable, IsStart, RaisesOver, RaisesTo, RaisesFrom, RaisesAll};
+ghost use Rattle.polygon_check.specs.PolygonLimits.{IsTable, RaisesTo, RaisesFrom, RaisesAll};
+ghost use Rattle.polygon_check.specs.PotentialRows.{AreRows, AreAreas, AreBelow, AreRaised};
 
 use crate::hulls::{corner, twice_area};
+use crate::polygons::MOST_CORNERS;
+use crate::rows::rows;
 use answers::KgonAnswer;
+use arrayvec::ArrayVec;
 use bounded_coords::Cloud2;
 
 /// Whether each triangle raises the potentials by at least twice its area.
@@ -33,108 +37,80 @@ fn raise_from(cloud: Cloud2<'_>, a: &KgonAnswer, first: u32) -> bool
     requires below { first < length a.now.corners }
     ensures { IsTrue result ↔ RaisesFrom (corner_points (points_of cloud.entry) (polygon_of a.now)) (polygon_of a.now) first }
 {
-    let start = rows_start(a, first);
+    let rows = rows(a, first);
     'lasts: for last in first + 1..a.corners.len() {
-        if !raise_to(cloud, a, start, first, last) {
+        if !raise_to(cloud, a, rows.as_slice(), first, last) {
             return false;
         }
     }
     true
 }
 
-/// Where the potentials of this first corner begin.
-fn rows_start(a: &KgonAnswer, first: u32) -> usize
-    requires table { IsTable (polygon_of a.now) }
-    requires below { first < length a.now.corners }
-    ensures { IsStart (polygon_of a.now) first result }
-{
-    let count = a.corners.len();
-    (a.layers * (first * (2 * count - first - 1) / 2)) as usize
-}
-
 /// Whether the triangles with this first and this last corner do.
-fn raise_to(cloud: Cloud2<'_>, a: &KgonAnswer, start: usize, first: u32, last: u32) -> bool
+fn raise_to(cloud: Cloud2<'_>, a: &KgonAnswer, rows: &[i64], first: u32, last: u32) -> bool
     requires numbers { AreCornerNumbers (length (points_of cloud)) a.now.corners }
     requires table { IsTable (polygon_of a.now) }
-    requires start { IsStart (polygon_of a.now) first start }
+    requires rows { AreRows (polygon_of a.now) first rows.now }
     requires rising { first < last }
     requires below { last < length a.now.corners }
     ensures { IsTrue result ↔ RaisesTo (corner_points (points_of cloud.entry) (polygon_of a.now)) (polygon_of a.now) first last }
 {
-    let numbers = a.corners.as_slice();
-    let from = corner(cloud, numbers, first as usize);
-    let to = corner(cloud, numbers, last as usize);
-    'middles: for middle in first + 1..last {
-        let over = corner(cloud, numbers, middle as usize);
-        if !raises(a, start, first, middle, last, twice_area(from, over, to)) {
-            return false;
-        }
-    }
-    true
-}
-
-/// Whether the potentials of the first and the last corner are above those of the first and the middle one by at least this, in each layer.
-fn raises(a: &KgonAnswer, start: usize, first: u32, middle: u32, last: u32, area: i64) -> bool
-    requires table { IsTable (polygon_of a.now) }
-    requires start { IsStart (polygon_of a.now) first start }
-    requires rising { first < middle }
-    requires on { middle < last }
-    requires below { last < length a.now.corners }
-    requires small { Size (2 ^ 39) area }
-    ensures { IsTrue result ↔ RaisesOver (polygon_of a.now) first middle last area }
-{
-    if a.layers == 0 {
-        return true;
-    }
-    if area > potential_at(a, start, first, 1, last) {
-        return false;
-    }
-    'layers: for layer in 1..a.layers {
-        if !is_raised(a, start, first, middle, last, layer, area) {
-            return false;
-        }
-    }
-    true
-}
-
-/// Whether the potential above this layer of the first and the last corner is above that in this layer of the first and the middle one by
-/// at least this.
-fn is_raised(
-    a: &KgonAnswer,
-    start: usize,
-    first: u32,
-    middle: u32,
-    last: u32,
-    layer: u32,
-    area: i64,
-) -> bool
-    requires table { IsTable (polygon_of a.now) }
-    requires start { IsStart (polygon_of a.now) first start }
-    requires rising { first < middle }
-    requires on { middle < last }
-    requires below { last < length a.now.corners }
-    requires some { 1 ≤ layer }
-    requires layer { layer < a.now.layers }
-    requires small { Size (2 ^ 39) area }
-    ensures { IsTrue result ↔ ((potential (polygon_of a.now) first layer middle +ℤ area) ≤ℤ potential (polygon_of a.now) first (layer + 1) last) }
-{
-    potential_at(a, start, first, layer, middle) + area
-        <= potential_at(a, start, first, layer + 1, last)
-}
-
-/// The potential of these two corners in this layer, one from 1 on.
-fn potential_at(a: &KgonAnswer, start: usize, first: u32, layer: u32, last: u32) -> i64
-    requires table { IsTable (polygon_of a.now) }
-    requires start { IsStart (polygon_of a.now) first start }
-    requires rising { first < last }
-    requires below { last < length a.now.corners }
-    requires some { 1 ≤ layer }
-    requires layer { layer ≤ a.now.layers }
-    ensures value { result ≡ potential (polygon_of a.now) first layer last }
-    ensures small { Size (2 ^ 43) result }
-{
-    let potentials = a.potentials.as_slice();
+    let areas = areas(cloud, a.corners.as_slice(), first as usize, last as usize);
     let width = (a.corners.len() - 1 - first) as usize;
-    let row = start + (layer as usize - 1) * width;
-    potentials[row + (last - first - 1) as usize] as i64
+    are_raised(areas.as_slice(), rows, a.layers as usize, width)
+}
+
+/// Twice the areas of the triangles with this first and this last corner, one for each corner between them.
+fn areas(
+    cloud: Cloud2<'_>,
+    numbers: &[u32],
+    first: usize,
+    last: usize,
+) -> ArrayVec<i64, MOST_CORNERS>
+    requires numbers { AreCornerNumbers (length (points_of cloud)) numbers.now }
+    requires rising { first < last }
+    requires below { last < length numbers.now }
+    ensures { AreAreas (map (point_at (points_of cloud.entry)) numbers.now) first last result.items }
+{
+    let from = corner(cloud, numbers, first);
+    let to = corner(cloud, numbers, last);
+    let mut areas = ArrayVec::new();
+    'middles: for middle in first + 1..last {
+        areas.push(twice_area(from, corner(cloud, numbers, middle), to));
+    }
+    areas
+}
+
+/// Whether the potentials of the last corner are above those of each corner before it by at least the area, from each layer to the next.
+fn are_raised(areas: &[i64], rows: &[i64], layers: usize, width: usize) -> bool
+    requires layers { layers ≤ 10 }
+    requires width { width ≤ 127 }
+    requires place { length areas.now < width }
+    requires as_many { length rows.now ≡ (layers + 1) * width }
+    requires areas { All (Size (2 ^ 39)) areas.now }
+    requires rows { All (Size (2 ^ 43)) rows.now }
+    ensures { IsTrue result ↔ AreRaised areas.now rows.now layers width }
+{
+    'layers: for layer in 0..layers {
+        let most = rows[(layer + 1) * width + areas.len()];
+        if !are_below(areas, rows, layer * width, most) {
+            return false;
+        }
+    }
+    true
+}
+
+/// Whether no potential from `start` on comes with its area to more than this.
+fn are_below(areas: &[i64], rows: &[i64], start: usize, most: i64) -> bool
+    requires within { start + length areas.now ≤ length rows.now }
+    requires areas { All (Size (2 ^ 39)) areas.now }
+    requires rows { All (Size (2 ^ 43)) rows.now }
+    requires small { Size (2 ^ 43) most }
+    ensures { IsTrue result ↔ AreBelow areas.now rows.now start most }
+{
+    let mut greatest = most;
+    'areas: for j in 0..areas.len() {
+        greatest = greatest.max(rows[start + j] + areas[j]);
+    }
+    greatest <= most
 }
