@@ -7,7 +7,7 @@ use Rattle.std.proofs.lemmas.Nat.Gcd.{dvd_refl}
 use Rattle.std.proofs.lemmas.Bool.Decides.{Decides-eqb, Decides-like}
 use Rattle.integers.proofs.Divisors.{gcd_all, gcd_all-dvd, dvd-gcd_all}
 use Rattle.bounds_model.specs.Fractions.{HaveNoCommonFactor}
-use Rattle.model_laws.proofs.Decisions.{Decision}
+use Rattle.model_laws.proofs.Decisions.{Decision, whole}
 
 -- entries whose greatest common divisor is 1 have no common factor
 pub lowest_from_gcd : (es : List ℤ) → gcd_all es ≡ 1 → HaveNoCommonFactor es
@@ -23,4 +23,4 @@ factor_law es = Decides-like (gcd_all es == 1) (lowest_from_gcd es) (gcd_from_lo
 
 -- the test
 abbrev pub no_common_factor : (es : List ℤ) → Decision (HaveNoCommonFactor es)
-no_common_factor es = record { test = gcd_all es == 1; law = factor_law es }
+no_common_factor es = whole (gcd_all es == 1) (factor_law es)

@@ -1,17 +1,22 @@
 -- Tests that decide the conditions, and compute on literals.
-use Rattle.std.proofs.Common.{◌≡◌, refl, sym, subst, ℕ, zero, suc, ◌<◌, ◌≤◌, ℤ, ◌≤ℤ◌, ◌<ℤ◌, Bool, true, false, not, ◌&&◌, ◌||◌, List, [], ◌∷◌, length, arith}
+use Rattle.std.proofs.Common.{◌≡◌, refl, sym, subst, ℕ, zero, suc, ◌+◌, ◌<◌, ◌≤◌, max, ℤ, ◌≤ℤ◌, ◌<ℤ◌, Bool, true, false, not, ◌&&◌, ◌||◌, List, [], ◌∷◌, length, arith}
 use mathlib.Core.Logic.{inl, inr}
-use Rattle.std.specs.Prelude.{◌⊎◌, Decides, All, Any, Contains, AllPairs, slice_index_or, int_le, int_lt, nat_le, nat_lt, ◌==◌, IsSomeAnd, Some, None}
+use Rattle.std.specs.Prelude.{◌⊎◌, Decides, All, Any, Contains, AllPairs, slice_index_or, int_le, int_lt, nat_le, nat_lt, ◌==◌, if◌then◌else◌, IsSomeAnd, Some, None}
 use Rattle.std.specs.declared.option.Option.{Option}
 use Rattle.std.specs.Ordering.{int_eq}
 use Rattle.std.proofs.lemmas.Bool.Decides.{Decides-eqb, Decides-int_eq, Decides-not, Decides-and, Decides-or, Decides-like, Decides-ltb, Decides-by_and, not_from_Decides, nat_tests}
 use Rattle.std.proofs.lemmas.Int.{ints}
 use Rattle.bounds_model.specs.Numbers.{AllNumbered, EachBelow}
 
--- a test that is true exactly where P holds
+-- a test that is true exactly where P holds, and how many of the parts of P do not hold
 pub record Decision (P : Type 0) : Type 0 where
   pub test : Bool
+  pub failures : ℕ
   pub law : Decides test P
+
+-- the test of a condition that has no parts
+abbrev pub whole : {P : Type 0} → (test : Bool) → Decides test P → Decision P
+whole test law = record { test = test; failures = if test then 0 else 1; law = law }
 
 -- what passes its test holds
 pub by_test : {P : Type 0} (d : Decision P) → d.test ≡ true → P
@@ -21,23 +26,31 @@ by_test d e = d.law.0 e
 pub by_failed_test : {P : Type 0} (d : Decision P) → d.test ≡ false → ¬ P
 by_failed_test d e = not_from_Decides d.test d.law e
 
+-- what fails in one part alone does not: its other parts hold
+pub by_one_failure : {P : Type 0} (d : Decision P) → d.test ≡ false → d.failures ≡ 1 → ¬ P
+by_one_failure d e one = by_failed_test d e
+
 -- ---- facts from facts
 
 -- facts that follow from each other have one test
 abbrev pub like : {P Q : Type 0} → Decision P → (P → Q) → (Q → P) → Decision Q
-like d f g = record { test = d.test; law = Decides-like d.test f g d.law }
+like d f g = record { test = d.test; failures = d.failures; law = Decides-like d.test f g d.law }
 
 -- a test for two facts
 abbrev pub both : {P Q : Type 0} → Decision P → Decision Q → Decision (P × Q)
-both p q = record { test = p.test && q.test; law = Decides-and p.test q.test p.law q.law }
+both p q = record { test = p.test && q.test; failures = p.failures + q.failures; law = Decides-and p.test q.test p.law q.law }
+
+-- for one condition that is asked twice
+abbrev pub both_times : {P Q : Type 0} → Decision P → Decision Q → Decision (P × Q)
+both_times p q = record { test = p.test && q.test; failures = max p.failures q.failures; law = Decides-and p.test q.test p.law q.law }
 
 -- for one of two
 abbrev pub either : {P Q : Type 0} → Decision P → Decision Q → Decision (P ⊎ Q)
-either p q = record { test = p.test || q.test; law = Decides-or p.test q.test p.law q.law }
+either p q = whole (p.test || q.test) (Decides-or p.test q.test p.law q.law)
 
 -- for the opposite
 abbrev pub negated : {P : Type 0} → Decision P → Decision (¬ P)
-negated p = record { test = not p.test; law = Decides-not p.test p.law }
+negated p = whole (not p.test) (Decides-not p.test p.law)
 
 -- an implication fails only where its premise holds and its end does not
 pub implies_law : {P Q : Type 0} (x y : Bool) → Decides x P → Decides y Q → Decides (not x || y) (P → Q)
@@ -47,17 +60,17 @@ implies_law false y p q = ((λ _. λ h. let e : false ≡ true = p.1 h in absurd
 
 -- for an implication
 abbrev pub implies : {P Q : Type 0} → Decision P → Decision Q → Decision (P → Q)
-implies p q = record { test = not p.test || q.test; law = implies_law p.test q.test p.law q.law }
+implies p q = whole (not p.test || q.test) (implies_law p.test q.test p.law q.law)
 
 -- ---- numbers
 
 -- whether two numbers are equal
 abbrev pub equal_ℕ : (a b : ℕ) → Decision (a ≡ b)
-equal_ℕ a b = record { test = a == b; law = Decides-eqb a b }
+equal_ℕ a b = whole (a == b) (Decides-eqb a b)
 
 -- whether one is below the other
 abbrev pub less_ℕ : (a b : ℕ) → Decision (a < b)
-less_ℕ a b = record { test = nat_lt a b; law = Decides-ltb a b }
+less_ℕ a b = whole (nat_lt a b) (Decides-ltb a b)
 
 -- the test for at most
 pub most_law : (a b : ℕ) → Decides (nat_le a b) (a ≤ b)
@@ -65,11 +78,11 @@ most_law a b = (λ e. grind (arith, nat_tests), λ h. grind (arith, nat_tests))
 
 -- whether one is at most the other
 abbrev pub most_ℕ : (a b : ℕ) → Decision (a ≤ b)
-most_ℕ a b = record { test = nat_le a b; law = most_law a b }
+most_ℕ a b = whole (nat_le a b) (most_law a b)
 
 -- the same for whole numbers
 abbrev pub equal_ℤ : (a b : ℤ) → Decision (a ≡ b)
-equal_ℤ a b = record { test = int_eq a b; law = Decides-int_eq a b }
+equal_ℤ a b = whole (int_eq a b) (Decides-int_eq a b)
 
 -- the test for below
 pub less_ℤ_law : (a b : ℤ) → Decides (int_lt a b) (a <ℤ b)
@@ -77,7 +90,7 @@ less_ℤ_law a b = (λ e. grind (arith, ints), λ h. grind (arith, ints))
 
 -- whether one is below the other
 abbrev pub less_ℤ : (a b : ℤ) → Decision (a <ℤ b)
-less_ℤ a b = record { test = int_lt a b; law = less_ℤ_law a b }
+less_ℤ a b = whole (int_lt a b) (less_ℤ_law a b)
 
 -- the test for at most
 pub most_ℤ_law : (a b : ℤ) → Decides (int_le a b) (a ≤ℤ b)
@@ -85,7 +98,7 @@ most_ℤ_law a b = (λ e. grind (arith, ints), λ h. grind (arith, ints))
 
 -- whether one is at most the other
 abbrev pub most_ℤ : (a b : ℤ) → Decision (a ≤ℤ b)
-most_ℤ a b = record { test = int_le a b; law = most_ℤ_law a b }
+most_ℤ a b = whole (int_le a b) (most_ℤ_law a b)
 
 -- ---- lists
 
@@ -94,10 +107,16 @@ abbrev all_test : {X : Type 0} {P : X → Type 0} → ((x : X) → Decision (P x
 all_test each [] = true
 all_test each (x ∷ xs) = (each x).test && all_test each xs
 
+-- the most parts that do not hold of one element
+abbrev most_failures : {X : Type 0} {P : X → Type 0} → ((x : X) → Decision (P x)) → List X → ℕ
+most_failures each [] = 0
+most_failures each (x ∷ xs) = max (each x).failures (most_failures each xs)
+
 -- a test for each element
 abbrev pub all : {X : Type 0} {P : X → Type 0} → ((x : X) → Decision (P x)) → (xs : List X) → Decision (All P xs)
 all {P = P} each xs = record {
   test = all_test each xs;
+  failures = most_failures each xs;
   law = Decides-by_and (λ x. (each x).test) P (all_test each) (λ x. (each x).law) refl (λ _ _. refl) xs;
 }
 
@@ -116,7 +135,7 @@ numbered-nil P k d h = absurd (omega arith)
 
 -- a fact that holds
 abbrev pub sure : {P : Type 0} → P → Decision P
-sure p = record { test = true; law = ((λ _. p), (λ _. refl)) }
+sure p = whole true ((λ _. p), (λ _. refl))
 
 -- the two answers of a test differ
 pub false-not_true : false ≡ true → ⊥
@@ -124,12 +143,12 @@ false-not_true e = cc
 
 -- a fact that does not hold
 abbrev pub impossible : {P : Type 0} → (¬ P) → Decision P
-impossible {P} n = record { test = false; law = ((λ e. absurd (false-not_true e)), (λ p. absurd (n p))) }
+impossible {P} n = whole false ((λ e. absurd (false-not_true e)), (λ p. absurd (n p)))
 
 -- a test for each place and element
 abbrev pub all_numbered : {X : Type 0} {P : ℕ → X → Type 0} → ((k : ℕ) (x : X) → Decision (P k x)) → (xs : List X) → Decision (AllNumbered P xs)
 all_numbered {P = P} each [] = sure (numbered-nil P)
-all_numbered {P = P} each (x ∷ xs) = like (both (each 0 x) (all_numbered (λ k. each (suc k)) xs)) (λ h. numbered-cons P x xs h.0 h.1) (numbered-uncons P x xs)
+all_numbered {P = P} each (x ∷ xs) = like (both_times (each 0 x) (all_numbered (λ k. each (suc k)) xs)) (λ h. numbered-cons P x xs h.0 h.1) (numbered-uncons P x xs)
 
 -- one more number below the bound
 pub below-cons : (P : ℕ → Type 0) (n : ℕ) → P n → EachBelow n P → EachBelow (suc n) P
@@ -147,7 +166,7 @@ each_below each zero = sure (λ k h. absurd (no_less k h))
   where
     no_less : (k : ℕ) → k < 0 → ⊥
     no_less k h = omega arith
-each_below {P} each (suc n) = like (both (each n) (each_below each n)) (λ h. below-cons P n h.0 h.1) (λ h. (h n (here n), λ k l. h k (there k n l)))
+each_below {P} each (suc n) = like (both_times (each n) (each_below each n)) (λ h. below-cons P n h.0 h.1) (λ h. (h n (here n), λ k l. h k (there k n l)))
   where
     here : (n : ℕ) → n < suc n
     here n = omega arith
@@ -173,7 +192,7 @@ pairs-nil R i j d l m = absurd (omega arith)
 -- a test for each two elements
 abbrev pub all_pairs : {X : Type 0} {R : X → X → Type 0} → ((x y : X) → Decision (R x y)) → (xs : List X) → Decision (AllPairs R xs)
 all_pairs {R = R} each [] = sure (pairs-nil R)
-all_pairs {R = R} each (x ∷ xs) = like (both (all (each x) xs) (all_pairs each xs)) (λ h. pairs-cons R x xs h.0 h.1) (pairs-uncons R x xs)
+all_pairs {R = R} each (x ∷ xs) = like (both_times (all (each x) xs) (all_pairs each xs)) (λ h. pairs-cons R x xs h.0 h.1) (pairs-uncons R x xs)
 
 -- no element
 pub any-nil : {X : Type 0} (P : X → Type 0) → ¬ Any P []

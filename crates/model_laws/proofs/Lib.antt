@@ -8,6 +8,7 @@ pub mod DecideKgon
 pub mod DecideCentres
 pub mod DecideDirection
 pub mod DecideDistance
+pub mod DecideFits
 pub mod DecideAnswers
 pub mod DecidePlain
 pub mod Literals
@@ -35,3 +36,9 @@ pub mod ExampleKgons
 pub mod ExampleDistances
 pub mod ExampleCentres
 pub mod ExampleParts
+pub mod ExampleNumbers
+pub mod ExamplePoints
+pub mod ExampleRoundFits
+pub mod ExampleStripFits
+pub mod ExampleEmptyFits
+pub mod ExampleChoices

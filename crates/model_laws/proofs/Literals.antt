@@ -38,6 +38,22 @@ space_over x y z w = record { x = pos x; y = pos y; z = pos z; w = pos w }
 abbrev pub fraction : ℕ → ℕ → Fraction
 fraction n d = record { n = pos n; d = pos d }
 
+-- the like for numbers of any sign
+abbrev pub signed_at : ℤ → ℤ → PlanePoint
+signed_at x y = record { x = x; y = y }
+
+abbrev pub signed_in_space : ℤ → ℤ → ℤ → SpacePoint
+signed_in_space x y z = record { x = x; y = y; z = z }
+
+abbrev pub signed_over : ℤ → ℤ → ℤ → PlaneRatio
+signed_over x y w = record { x = x; y = y; w = w }
+
+abbrev pub signed_space_over : ℤ → ℤ → ℤ → ℤ → SpaceRatio
+signed_space_over x y z w = record { x = x; y = y; z = z; w = w }
+
+abbrev pub signed_fraction : ℤ → ℤ → Fraction
+signed_fraction n d = record { n = n; d = d }
+
 -- the bounds low and high
 abbrev pub span : ℤ → ℤ → Span
 span low high = record { low = low; high = high }
@@ -45,6 +61,9 @@ span low high = record { low = low; high = high }
 -- a box by its four sides
 abbrev pub box : ℕ → ℕ → ℕ → ℕ → Box
 box left bottom right top = record { left = pos left; bottom = pos bottom; right = pos right; top = pos top }
+
+abbrev pub signed_box : ℤ → ℤ → ℤ → ℤ → Box
+signed_box left bottom right top = record { left = left; bottom = bottom; right = right; top = top }
 
 -- a support with its weight
 abbrev pub support : ℕ → ℕ → Weighted
