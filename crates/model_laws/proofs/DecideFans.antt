@@ -12,7 +12,7 @@ use Rattle.bounds_model.specs.RectangleAnswer.{RectangleAnswer, RectanglePlaces,
 use Rattle.bounds_model.specs.RectangleAnswer
 use Rattle.bounds_model.specs.ParallelogramAnswer.{Chord, chord_limit, ParallelogramAnswer, ParallelogramPlaces, ChordPlaces, IsShortChord, NamesEnds, IsAcross, IsNotSmallerAt, PassesParallelogram, parallelogram_of}
 use Rattle.bounds_model.specs.ParallelogramAnswer
-use Rattle.model_laws.proofs.Decisions.{Decision, like, both, both_times, three, four, negated, all, all_numbered, each_below, some_and, most_ℕ, less_ℕ, equal_ℕ, equal_ℤ, most_ℤ, less_ℤ}
+use Rattle.model_laws.proofs.Decisions.{Decision, like, both, together, three, four, negated, all, all_numbered, each_below, some_and, most_ℕ, less_ℕ, equal_ℕ, equal_ℤ, most_ℤ, less_ℤ}
 use Rattle.model_laws.proofs.DecideParts.{same_point, within, counted, natural, same_value, in_span, pair_placed, span_placed, fraction_placed}
 
 abbrev pub extreme : (points : List PlanePoint) (d : PlanePoint) (high low : ℕ) → Decision (AreExtreme points d high low)
@@ -27,7 +27,7 @@ turn_left first last ds =
 
 abbrev pub at_both_ends : {Cone : Type 0} {P : PlanePoint → Cone → Type 0} (ds : List PlanePoint) → ((d : PlanePoint) (cone : Cone) → Decision (P d cone)) → (cones : List Cone) → Decision (AtBothEnds ds P cones)
 at_both_ends {P = P} ds each cones =
-    all_numbered {P = λ i cone. P (point_at ds i) cone × P (point_at ds (i + 1)) cone} (λ i cone. both_times (each (point_at ds i) cone) (each (point_at ds (i + 1)) cone)) cones
+    all_numbered {P = λ i cone. P (point_at ds i) cone × P (point_at ds (i + 1)) cone} (λ i cone. together (each (point_at ds i) cone) (each (point_at ds (i + 1)) cone)) cones
 
 abbrev pub holds_half : (points : List PlanePoint) (fan : HalfFan) → Decision (HoldsHalf points fan)
 holds_half points fan =
@@ -142,7 +142,7 @@ parallelogram_passes points a =
     (both (all short_chord a.chords)
     (both (holds_half points a.fan)
     (both (all_numbered {P = λ i chord. IsAcross points (point_at (half_directions a.fan) i) chord} (λ i chord. same_point _ _) a.chords)
-    (both (all_numbered {P = λ i cone. IsNotSmallerAt points a i cone × IsNotSmallerAt points a (i + 1) cone} (λ i cone. both_times (not_smaller_at points a i cone) (not_smaller_at points a (i + 1) cone)) a.fan.cones)
+    (both (all_numbered {P = λ i cone. IsNotSmallerAt points a i cone × IsNotSmallerAt points a (i + 1) cone} (λ i cone. together (not_smaller_at points a i cone) (not_smaller_at points a (i + 1) cone)) a.fan.cones)
     (both (negated (equal_ℤ (cross a.first a.second) (pos 0)))
     (both (all (λ p. in_span a.first_bounds (dot a.first p)) points)
     (both (all (λ p. in_span a.second_bounds (dot a.second p)) points)

@@ -40,9 +40,9 @@ like d f g = record { test = d.test; failures = d.failures; law = Decides-like d
 abbrev pub both : {P Q : Type 0} → Decision P → Decision Q → Decision (P × Q)
 both p q = record { test = p.test && q.test; failures = p.failures + q.failures; law = Decides-and p.test q.test p.law q.law }
 
--- for one condition that is asked twice
-abbrev pub both_times : {P Q : Type 0} → Decision P → Decision Q → Decision (P × Q)
-both_times p q = record { test = p.test && q.test; failures = max p.failures q.failures; law = Decides-and p.test q.test p.law q.law }
+-- for two facts that count as one part
+abbrev pub together : {P Q : Type 0} → Decision P → Decision Q → Decision (P × Q)
+together p q = record { test = p.test && q.test; failures = max p.failures q.failures; law = Decides-and p.test q.test p.law q.law }
 
 -- for one of two
 abbrev pub either : {P Q : Type 0} → Decision P → Decision Q → Decision (P ⊎ Q)
@@ -148,7 +148,7 @@ impossible {P} n = whole false ((λ e. absurd (false-not_true e)), (λ p. absurd
 -- a test for each place and element
 abbrev pub all_numbered : {X : Type 0} {P : ℕ → X → Type 0} → ((k : ℕ) (x : X) → Decision (P k x)) → (xs : List X) → Decision (AllNumbered P xs)
 all_numbered {P = P} each [] = sure (numbered-nil P)
-all_numbered {P = P} each (x ∷ xs) = like (both_times (each 0 x) (all_numbered (λ k. each (suc k)) xs)) (λ h. numbered-cons P x xs h.0 h.1) (numbered-uncons P x xs)
+all_numbered {P = P} each (x ∷ xs) = like (together (each 0 x) (all_numbered (λ k. each (suc k)) xs)) (λ h. numbered-cons P x xs h.0 h.1) (numbered-uncons P x xs)
 
 -- one more number below the bound
 pub below-cons : (P : ℕ → Type 0) (n : ℕ) → P n → EachBelow n P → EachBelow (suc n) P
@@ -166,7 +166,7 @@ each_below each zero = sure (λ k h. absurd (no_less k h))
   where
     no_less : (k : ℕ) → k < 0 → ⊥
     no_less k h = omega arith
-each_below {P} each (suc n) = like (both_times (each n) (each_below each n)) (λ h. below-cons P n h.0 h.1) (λ h. (h n (here n), λ k l. h k (there k n l)))
+each_below {P} each (suc n) = like (together (each n) (each_below each n)) (λ h. below-cons P n h.0 h.1) (λ h. (h n (here n), λ k l. h k (there k n l)))
   where
     here : (n : ℕ) → n < suc n
     here n = omega arith
@@ -192,7 +192,7 @@ pairs-nil R i j d l m = absurd (omega arith)
 -- a test for each two elements
 abbrev pub all_pairs : {X : Type 0} {R : X → X → Type 0} → ((x y : X) → Decision (R x y)) → (xs : List X) → Decision (AllPairs R xs)
 all_pairs {R = R} each [] = sure (pairs-nil R)
-all_pairs {R = R} each (x ∷ xs) = like (both_times (all (each x) xs) (all_pairs each xs)) (λ h. pairs-cons R x xs h.0 h.1) (pairs-uncons R x xs)
+all_pairs {R = R} each (x ∷ xs) = like (together (all (each x) xs) (all_pairs each xs)) (λ h. pairs-cons R x xs h.0 h.1) (pairs-uncons R x xs)
 
 -- no element
 pub any-nil : {X : Type 0} (P : X → Type 0) → ¬ Any P []

@@ -1,5 +1,5 @@
 -- A parallelogram that passes, and spoilt ones that do not.
-use Rattle.std.proofs.Common.{refl, ℕ, ℤ, pos, List, [], ◌∷◌}
+use Rattle.std.proofs.Common.{refl, pos, List, [], ◌∷◌}
 use Rattle.bounds_model.specs.ParallelogramAnswer.{Chord, ParallelogramAnswer}
 use Rattle.bounds_model.specs.Asks.Ask.{ask_parallelogram}
 use Rattle.bounds_model.specs.Asks.Sets.{plane}
@@ -8,10 +8,7 @@ use Rattle.bounds_model.specs.Answers.Answer.{parallelogram}
 use Rattle.model_laws.proofs.Decisions.{by_test, by_failed_test}
 use Rattle.model_laws.proofs.DecideAnswers.{passes}
 use Rattle.model_laws.proofs.ExampleBalls.{triangle}
-use Rattle.model_laws.proofs.Literals.{minus, at, left_at, fraction, span, half_cone}
-
-abbrev chord : ℕ → ℕ → ℕ → ℕ → ℕ → ℤ → Chord
-chord a b c beta gamma k = record { a = a; b = b; c = c; beta = pos beta; gamma = pos gamma; k = k }
+use Rattle.model_laws.proofs.Literals.{minus, at, left_at, fraction, span, half_cone, chord}
 
 -- the upright parallelogram around the triangle with these chords
 abbrev with_chords : List Chord → ParallelogramAnswer

@@ -9,6 +9,7 @@ use Rattle.bounds_model.specs.Fans.{HalfCone, QuarterCone}
 use Rattle.bounds_model.specs.BallAnswer.{Weighted}
 use Rattle.bounds_model.specs.AnnulusAnswer.{WeightedPair}
 use Rattle.bounds_model.specs.CentresAnswer.{Leaf}
+use Rattle.bounds_model.specs.ParallelogramAnswer.{Chord}
 
 -- the number -n
 abbrev pub minus : ℕ → ℤ
@@ -69,6 +70,9 @@ signed_box left bottom right top = record { left = left; bottom = bottom; right 
 abbrev pub support : ℕ → ℕ → Weighted
 support point weight = record { point = point; weight = pos weight }
 
+abbrev pub signed_support : ℕ → ℤ → Weighted
+signed_support point weight = record { point = point; weight = weight }
+
 -- a pair with its weight
 abbrev pub pair : ℕ → ℕ → ℕ → WeightedPair
 pair first second weight = record { first = first; second = second; weight = pos weight }
@@ -84,3 +88,10 @@ quarter_cone x y high low over under = record { direction = at x y; high = high;
 -- a leaf with two points
 abbrev pub leaf : ℕ → ℕ → Leaf
 leaf first second = record { first = first; second = second }
+
+-- a chord from a to b and c, with the weights beta and gamma
+abbrev pub signed_chord : ℕ → ℕ → ℕ → ℤ → ℤ → ℤ → Chord
+signed_chord a b c beta gamma k = record { a = a; b = b; c = c; beta = beta; gamma = gamma; k = k }
+
+abbrev pub chord : ℕ → ℕ → ℕ → ℕ → ℕ → ℤ → Chord
+chord a b c beta gamma k = signed_chord a b c (pos beta) (pos gamma) k

@@ -1,0 +1,115 @@
+-- Fans that are plain, and some that fail in one condition alone.
+use Rattle.std.proofs.Common.{refl, pos, List, [], ◌∷◌}
+use Rattle.bounds_model.specs.Plane.{PlanePoint}
+use Rattle.bounds_model.specs.Fans.{half_directions, quarter_directions}
+use Rattle.bounds_model.specs.PlainFans.{IsUpright, IsUprightOrAlong, IsPlainHalf, IsPlainQuarter}
+use Rattle.model_laws.proofs.Decisions.{by_test, by_failed_test, by_one_failure}
+use Rattle.model_laws.proofs.DecidePlain.{upright, upright_or_along, plain_half, plain_quarter}
+use Rattle.model_laws.proofs.Literals.{minus, at, left_at, signed_at}
+use Rattle.model_laws.proofs.ExampleBalls.{triangle}
+use Rattle.model_laws.proofs.ExampleStrips.{along_longest}
+use Rattle.model_laws.proofs.ExampleRectangles.{diamond, slanted}
+
+-- ---- directions at right angles to an edge, or along it
+
+upwards : IsUpright (at 4 0) (at 0 1)
+upwards = by_test (upright (at 4 0) (at 0 1)) refl
+
+slanting : ¬ IsUpright (at 4 0) (at 1 1)
+slanting = by_one_failure (upright (at 4 0) (at 1 1)) refl refl
+
+no_length : ¬ IsUpright (at 0 0) (at 0 1)
+no_length = by_one_failure (upright (at 0 0) (at 0 1)) refl refl
+
+upwards_too : IsUprightOrAlong (at 4 0) (at 0 1)
+upwards_too = by_test (upright_or_along (at 4 0) (at 0 1)) refl
+
+along : IsUprightOrAlong (at 4 0) (at 1 0)
+along = by_test (upright_or_along (at 4 0) (at 1 0)) refl
+
+slanting_still : ¬ IsUprightOrAlong (at 4 0) (at 1 1)
+slanting_still = by_one_failure (upright_or_along (at 4 0) (at 1 1)) refl refl
+
+no_length_still : ¬ IsUprightOrAlong (at 0 0) (at 0 1)
+no_length_still = by_one_failure (upright_or_along (at 0 0) (at 0 1)) refl refl
+
+-- ---- over half a turn, for a triangle
+
+half_is_plain : IsPlainHalf triangle (half_directions along_longest.fan)
+half_is_plain = by_test (plain_half triangle (half_directions along_longest.fan)) refl
+
+unreduced : ¬ IsPlainHalf triangle (at 1 0 ∷ at 6 8 ∷ at 0 1 ∷ left_at 1 0 ∷ [])
+unreduced = by_one_failure (plain_half triangle (at 1 0 ∷ at 6 8 ∷ at 0 1 ∷ left_at 1 0 ∷ [])) refl refl
+
+turned_down : ¬ IsPlainHalf triangle (at 1 0 ∷ signed_at (minus 3) (minus 4) ∷ at 0 1 ∷ left_at 1 0 ∷ [])
+turned_down = by_one_failure (plain_half triangle (at 1 0 ∷ signed_at (minus 3) (minus 4) ∷ at 0 1 ∷ left_at 1 0 ∷ [])) refl refl
+
+-- the normal of the longest side left out, and a direction too many
+without_longest : ¬ IsPlainHalf triangle (at 1 0 ∷ at 0 1 ∷ left_at 1 0 ∷ [])
+without_longest = by_one_failure (plain_half triangle (at 1 0 ∷ at 0 1 ∷ left_at 1 0 ∷ [])) refl refl
+
+one_too_many : ¬ IsPlainHalf triangle (at 1 0 ∷ at 3 4 ∷ at 0 1 ∷ left_at 1 1 ∷ left_at 1 0 ∷ [])
+one_too_many = by_one_failure (plain_half triangle (at 1 0 ∷ at 3 4 ∷ at 0 1 ∷ left_at 1 1 ∷ left_at 1 0 ∷ [])) refl refl
+
+-- ---- for two corners and for one
+
+two_corners : IsPlainHalf (at 0 0 ∷ at 4 3 ∷ []) (at 1 0 ∷ at 0 1 ∷ left_at 3 4 ∷ left_at 1 0 ∷ [])
+two_corners = by_test (plain_half (at 0 0 ∷ at 4 3 ∷ []) (at 1 0 ∷ at 0 1 ∷ left_at 3 4 ∷ left_at 1 0 ∷ [])) refl
+
+without_normal : ¬ IsPlainHalf (at 0 0 ∷ at 4 3 ∷ []) (at 1 0 ∷ at 0 1 ∷ left_at 1 0 ∷ [])
+without_normal = by_one_failure (plain_half (at 0 0 ∷ at 4 3 ∷ []) (at 1 0 ∷ at 0 1 ∷ left_at 1 0 ∷ [])) refl refl
+
+upright_line : IsPlainHalf (at 0 0 ∷ at 0 3 ∷ []) (at 1 0 ∷ at 0 1 ∷ left_at 1 0 ∷ [])
+upright_line = by_test (plain_half (at 0 0 ∷ at 0 3 ∷ []) (at 1 0 ∷ at 0 1 ∷ left_at 1 0 ∷ [])) refl
+
+-- the upward direction is there, though no edge calls for it
+without_up : ¬ IsPlainHalf (at 0 0 ∷ at 0 3 ∷ []) (at 1 0 ∷ left_at 1 0 ∷ [])
+without_up = by_one_failure (plain_half (at 0 0 ∷ at 0 3 ∷ []) (at 1 0 ∷ left_at 1 0 ∷ [])) refl refl
+
+one_corner : IsPlainHalf (at 5 5 ∷ []) (at 1 0 ∷ at 0 1 ∷ left_at 1 0 ∷ [])
+one_corner = by_test (plain_half (at 5 5 ∷ []) (at 1 0 ∷ at 0 1 ∷ left_at 1 0 ∷ [])) refl
+
+-- an edge without length calls for no direction
+more_for_one : ¬ IsPlainHalf (at 5 5 ∷ []) (at 1 0 ∷ at 3 4 ∷ at 0 1 ∷ left_at 1 0 ∷ [])
+more_for_one = by_one_failure (plain_half (at 5 5 ∷ []) (at 1 0 ∷ at 3 4 ∷ at 0 1 ∷ left_at 1 0 ∷ [])) refl refl
+
+none_for_one : ¬ IsPlainHalf (at 5 5 ∷ []) (at 1 0 ∷ left_at 1 0 ∷ [])
+none_for_one = by_one_failure (plain_half (at 5 5 ∷ []) (at 1 0 ∷ left_at 1 0 ∷ [])) refl refl
+
+-- ---- over a quarter turn
+
+quarter_is_plain : IsPlainQuarter diamond (quarter_directions slanted.fan)
+quarter_is_plain = by_test (plain_quarter diamond (quarter_directions slanted.fan)) refl
+
+unreduced_quarter : ¬ IsPlainQuarter diamond (at 1 0 ∷ at 2 2 ∷ at 0 1 ∷ [])
+unreduced_quarter = by_one_failure (plain_quarter diamond (at 1 0 ∷ at 2 2 ∷ at 0 1 ∷ [])) refl refl
+
+turned_left : ¬ IsPlainQuarter diamond (at 1 0 ∷ left_at 1 1 ∷ at 0 1 ∷ [])
+turned_left = by_one_failure (plain_quarter diamond (at 1 0 ∷ left_at 1 1 ∷ at 0 1 ∷ [])) refl refl
+
+turned_right : ¬ IsPlainQuarter diamond (at 1 0 ∷ signed_at (pos 1) (minus 1) ∷ at 0 1 ∷ [])
+turned_right = by_one_failure (plain_quarter diamond (at 1 0 ∷ signed_at (pos 1) (minus 1) ∷ at 0 1 ∷ [])) refl refl
+
+without_slant : ¬ IsPlainQuarter diamond (at 1 0 ∷ at 0 1 ∷ [])
+without_slant = by_one_failure (plain_quarter diamond (at 1 0 ∷ at 0 1 ∷ [])) refl refl
+
+one_more : ¬ IsPlainQuarter diamond (at 1 0 ∷ at 2 1 ∷ at 1 1 ∷ at 0 1 ∷ [])
+one_more = by_one_failure (plain_quarter diamond (at 1 0 ∷ at 2 1 ∷ at 1 1 ∷ at 0 1 ∷ [])) refl refl
+
+along_line : IsPlainQuarter (at 0 0 ∷ at 4 3 ∷ []) (at 1 0 ∷ at 4 3 ∷ at 0 1 ∷ [])
+along_line = by_test (plain_quarter (at 0 0 ∷ at 4 3 ∷ []) (at 1 0 ∷ at 4 3 ∷ at 0 1 ∷ [])) refl
+
+beside_line : IsPlainQuarter (at 0 4 ∷ at 3 0 ∷ []) (at 1 0 ∷ at 4 3 ∷ at 0 1 ∷ [])
+beside_line = by_test (plain_quarter (at 0 4 ∷ at 3 0 ∷ []) (at 1 0 ∷ at 4 3 ∷ at 0 1 ∷ [])) refl
+
+without_line : ¬ IsPlainQuarter (at 0 0 ∷ at 4 3 ∷ []) (at 1 0 ∷ at 0 1 ∷ [])
+without_line = by_one_failure (plain_quarter (at 0 0 ∷ at 4 3 ∷ []) (at 1 0 ∷ at 0 1 ∷ [])) refl refl
+
+quarter_of_upright : IsPlainQuarter (at 0 0 ∷ at 0 3 ∷ []) (at 1 0 ∷ at 0 1 ∷ [])
+quarter_of_upright = by_test (plain_quarter (at 0 0 ∷ at 0 3 ∷ []) (at 1 0 ∷ at 0 1 ∷ [])) refl
+
+quarter_of_one : IsPlainQuarter (at 5 5 ∷ []) (at 1 0 ∷ at 0 1 ∷ [])
+quarter_of_one = by_test (plain_quarter (at 5 5 ∷ []) (at 1 0 ∷ at 0 1 ∷ [])) refl
+
+more_of_one : ¬ IsPlainQuarter (at 5 5 ∷ []) (at 1 0 ∷ at 4 3 ∷ at 0 1 ∷ [])
+more_of_one = by_one_failure (plain_quarter (at 5 5 ∷ []) (at 1 0 ∷ at 4 3 ∷ at 0 1 ∷ [])) refl refl

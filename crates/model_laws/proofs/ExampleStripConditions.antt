@@ -1,0 +1,120 @@
+-- Strips that fail in one of the conditions of a checker alone.
+use Rattle.std.proofs.Common.{refl, ℕ, ◌+◌, ◌*◌, ◌^◌, pos, List, [], ◌∷◌, ◌++◌}
+use Rattle.bounds_model.specs.Plane.{PlanePoint}
+use Rattle.bounds_model.specs.Fractions.{Fraction}
+use Rattle.bounds_model.specs.Strip.{Span}
+use Rattle.bounds_model.specs.Fans.{HalfCone}
+use Rattle.bounds_model.specs.StripAnswer.{StripAnswer, StripPlaces, PassesStrip}
+use Rattle.model_laws.proofs.Decisions.{by_test, by_failed_test, by_one_failure}
+use Rattle.model_laws.proofs.DecideFans.{strip_places, strip_passes}
+use Rattle.model_laws.proofs.ExampleBalls.{triangle}
+use Rattle.model_laws.proofs.Literals.{minus, at, left_at, signed_at, fraction, span, half_cone}
+
+-- a strip with the fan of these cones, which ends in the west
+abbrev strip : Fraction → PlanePoint → Span → List HalfCone → StripAnswer
+strip size direction bounds cones = record { size = size; direction = direction; bounds = bounds; fan = record { cones = cones; last = left_at 1 0 } }
+
+-- ---- around a triangle
+
+abbrev cones : List HalfCone
+cones = half_cone 1 0 1 0 ∷ half_cone 3 4 2 0 ∷ half_cone 0 1 2 1 ∷ []
+
+abbrev along_longest : List HalfCone → StripAnswer
+along_longest = strip (fraction 144 25) (at 3 4) (span (pos 0) (pos 12))
+
+thinnest : PassesStrip triangle (along_longest cones)
+thinnest = by_test (strip_passes triangle (along_longest cones)) refl
+
+unreduced : ¬ PassesStrip triangle (strip (fraction 288 50) (at 3 4) (span (pos 0) (pos 12)) cones)
+unreduced = by_one_failure (strip_passes triangle (strip (fraction 288 50) (at 3 4) (span (pos 0) (pos 12)) cones)) refl refl
+
+other_size : ¬ PassesStrip triangle (strip (fraction 1 1) (at 3 4) (span (pos 0) (pos 12)) cones)
+other_size = by_one_failure (strip_passes triangle (strip (fraction 1 1) (at 3 4) (span (pos 0) (pos 12)) cones)) refl refl
+
+no_normal : ¬ PassesStrip triangle (strip (fraction 0 1) (at 0 0) (span (pos 0) (pos 0)) cones)
+no_normal = by_one_failure (strip_passes triangle (strip (fraction 0 1) (at 0 0) (span (pos 0) (pos 0)) cones)) refl refl
+
+-- bounds that leave a point out, and a strip that is not the thinnest
+too_low : ¬ PassesStrip triangle (strip (fraction 121 25) (at 3 4) (span (pos 0) (pos 11)) cones)
+too_low = by_one_failure (strip_passes triangle (strip (fraction 121 25) (at 3 4) (span (pos 0) (pos 11)) cones)) refl refl
+
+too_high : ¬ PassesStrip triangle (strip (fraction 121 25) (at 3 4) (span (pos 1) (pos 12)) cones)
+too_high = by_one_failure (strip_passes triangle (strip (fraction 121 25) (at 3 4) (span (pos 1) (pos 12)) cones)) refl refl
+
+level : ¬ PassesStrip triangle (strip (fraction 9 1) (at 0 1) (span (pos 0) (pos 3)) cones)
+level = by_one_failure (strip_passes triangle (strip (fraction 9 1) (at 0 1) (span (pos 0) (pos 3)) cones)) refl refl
+
+-- a number that is no point's, where the point would be the origin
+low_beyond : ¬ PassesStrip triangle (along_longest (half_cone 1 0 1 9 ∷ half_cone 3 4 2 0 ∷ half_cone 0 1 2 1 ∷ []))
+low_beyond = by_one_failure (strip_passes triangle (along_longest (half_cone 1 0 1 9 ∷ half_cone 3 4 2 0 ∷ half_cone 0 1 2 1 ∷ []))) refl refl
+
+-- a fan that begins late, stands still, or ends early
+begun_late : ¬ PassesStrip triangle (along_longest (half_cone 3 4 2 0 ∷ half_cone 0 1 2 1 ∷ []))
+begun_late = by_one_failure (strip_passes triangle (along_longest (half_cone 3 4 2 0 ∷ half_cone 0 1 2 1 ∷ []))) refl refl
+
+standing : ¬ PassesStrip triangle (along_longest (half_cone 1 0 1 0 ∷ half_cone 3 4 2 0 ∷ half_cone 3 4 2 0 ∷ half_cone 0 1 2 1 ∷ []))
+standing =
+    by_one_failure (strip_passes triangle (along_longest (half_cone 1 0 1 0 ∷ half_cone 3 4 2 0 ∷ half_cone 3 4 2 0 ∷ half_cone 0 1 2 1 ∷ []))) refl refl
+
+ended_early : ¬ PassesStrip triangle (record (along_longest []) { fan = record { cones = half_cone 1 0 1 0 ∷ half_cone 3 4 2 0 ∷ []; last = at 0 1 } })
+ended_early =
+    by_one_failure (strip_passes triangle (record (along_longest []) { fan = record { cones = half_cone 1 0 1 0 ∷ half_cone 3 4 2 0 ∷ []; last = at 0 1 } })) refl refl
+
+-- ---- around three points on a line, with a size of 0
+
+abbrev on_line : List PlanePoint
+on_line = at 0 0 ∷ at 1 0 ∷ at 2 0 ∷ []
+
+-- this direction, and these cones up to the north
+abbrev level_line : PlanePoint → List HalfCone → StripAnswer
+level_line direction cones = strip (fraction 0 1) direction (span (pos 0) (pos 0)) (cones ++ half_cone 0 1 0 2 ∷ [])
+
+thin : PassesStrip on_line (level_line (at 0 1) (half_cone 1 0 2 0 ∷ []))
+thin = by_test (strip_passes on_line (level_line (at 0 1) (half_cone 1 0 2 0 ∷ []))) refl
+
+not_highest : ¬ PassesStrip on_line (level_line (at 0 1) (half_cone 1 0 1 0 ∷ []))
+not_highest = by_one_failure (strip_passes on_line (level_line (at 0 1) (half_cone 1 0 1 0 ∷ []))) refl refl
+
+not_lowest : ¬ PassesStrip on_line (level_line (at 0 1) (half_cone 1 0 2 1 ∷ []))
+not_lowest = by_one_failure (strip_passes on_line (level_line (at 0 1) (half_cone 1 0 2 1 ∷ []))) refl refl
+
+high_beyond : ¬ PassesStrip on_line (strip (fraction 0 1) (at 0 1) (span (pos 0) (pos 0)) (half_cone 1 0 2 0 ∷ half_cone 0 1 9 2 ∷ []))
+high_beyond =
+    by_one_failure (strip_passes on_line (strip (fraction 0 1) (at 0 1) (span (pos 0) (pos 0)) (half_cone 1 0 2 0 ∷ half_cone 0 1 9 2 ∷ []))) refl refl
+
+longest : PassesStrip on_line (level_line (at 0 400000) (half_cone 1 0 2 0 ∷ half_cone 1 400000 2 0 ∷ []))
+longest = by_test (strip_passes on_line (level_line (at 0 400000) (half_cone 1 0 2 0 ∷ half_cone 1 400000 2 0 ∷ []))) refl
+
+long_direction : ¬ PassesStrip on_line (level_line (at 0 400001) (half_cone 1 0 2 0 ∷ []))
+long_direction = by_one_failure (strip_passes on_line (level_line (at 0 400001) (half_cone 1 0 2 0 ∷ []))) refl refl
+
+long_x : ¬ PassesStrip on_line (level_line (at 0 1) (half_cone 1 0 2 0 ∷ half_cone 400001 1 2 0 ∷ []))
+long_x = by_one_failure (strip_passes on_line (level_line (at 0 1) (half_cone 1 0 2 0 ∷ half_cone 400001 1 2 0 ∷ []))) refl refl
+
+long_y : ¬ PassesStrip on_line (level_line (at 0 1) (half_cone 1 0 2 0 ∷ half_cone 1 400001 2 0 ∷ []))
+long_y = by_one_failure (strip_passes on_line (level_line (at 0 1) (half_cone 1 0 2 0 ∷ half_cone 1 400001 2 0 ∷ []))) refl refl
+
+-- ---- between the long sides of a large rectangle
+
+abbrev sides : ℕ → List PlanePoint
+sides x = at 0 0 ∷ at x 0 ∷ at 0 (10 * x) ∷ at x (10 * x) ∷ []
+
+abbrev between : ℕ → StripAnswer
+between x = strip (fraction (x * x) 1) (at 1 0) (span (pos 0) (pos x)) (half_cone 1 0 3 0 ∷ half_cone 0 1 2 1 ∷ [])
+
+widest : PassesStrip (sides (2 ^ 40)) (between (2 ^ 40))
+widest = by_test (strip_passes (sides (2 ^ 40)) (between (2 ^ 40))) refl
+
+too_wide : ¬ PassesStrip (sides (2 ^ 40 + 1)) (between (2 ^ 40 + 1))
+too_wide = by_one_failure (strip_passes (sides (2 ^ 40 + 1)) (between (2 ^ 40 + 1))) refl refl
+
+-- ---- places
+
+no_cones : ¬ StripPlaces (strip (fraction 1 1) (at 1 0) (span (pos 0) (pos 1)) [])
+no_cones = by_one_failure (strip_places (strip (fraction 1 1) (at 1 0) (span (pos 0) (pos 1)) [])) refl refl
+
+direction_past : ¬ StripPlaces (strip (fraction 1 1) (at (2 ^ 126 + 1) 0) (span (pos 0) (pos 1)) cones)
+direction_past = by_one_failure (strip_places (strip (fraction 1 1) (at (2 ^ 126 + 1) 0) (span (pos 0) (pos 1)) cones)) refl refl
+
+bounds_past : ¬ StripPlaces (strip (fraction 1 1) (at 1 0) (span (pos 0) (pos (2 ^ 126 + 1))) cones)
+bounds_past = by_one_failure (strip_places (strip (fraction 1 1) (at 1 0) (span (pos 0) (pos (2 ^ 126 + 1))) cones)) refl refl
