@@ -114,7 +114,7 @@ over_farthest_fails : ¬ Passes ask_circle (plane sharper) (circle over_farthest
 over_farthest_fails = by_failed_test (passes ask_circle (plane sharper) (circle over_farthest)) refl
 
 -- four points on a circle: two that face each other hold it, whichever they are
-abbrev unit_square : List PlanePoint
+abbrev pub unit_square : List PlanePoint
 unit_square = at 0 0 ∷ at 1 0 ∷ at 1 1 ∷ at 0 1 ∷ []
 
 abbrev over_diagonal : ℕ → ℕ → CircleAnswer

@@ -5,6 +5,7 @@ use Rattle.bounds_model.specs.Fractions.{Fraction}
 use Rattle.bounds_model.specs.BallAnswer.{Weighted, CircleAnswer, CirclePlaces, PassesCircle}
 use Rattle.model_laws.proofs.Decisions.{by_test, by_failed_test, by_one_failure}
 use Rattle.model_laws.proofs.DecideBall.{circle_places, circle_passes}
+use Rattle.model_laws.proofs.ExampleBalls.{triangle, unit_square}
 use Rattle.model_laws.proofs.Literals.{minus, at, over, fraction, support, signed_support}
 
 abbrev circle : Fraction → PlaneRatio → List Weighted → CircleAnswer
@@ -55,13 +56,14 @@ inside_circle = by_one_failure (circle_passes two_points (circle (fraction 16 3)
 one_outside : ¬ PassesCircle (at 0 0 ∷ at 4 0 ∷ at 2 3 ∷ []) (circle (fraction 4 1) (over 2 0 1) both)
 one_outside = by_one_failure (circle_passes (at 0 0 ∷ at 4 0 ∷ at 2 3 ∷ []) (circle (fraction 4 1) (over 2 0 1) both)) refl refl
 
-weightless : ¬ PassesCircle (at 0 0 ∷ at 4 0 ∷ at 0 3 ∷ []) (circle (fraction 25 4) (over 4 3 2) (support 0 0 ∷ support 1 1 ∷ support 2 1 ∷ []))
-weightless =
-    by_one_failure (circle_passes (at 0 0 ∷ at 4 0 ∷ at 0 3 ∷ []) (circle (fraction 25 4) (over 4 3 2) (support 0 0 ∷ support 1 1 ∷ support 2 1 ∷ []))) refl refl
+weightless : ¬ PassesCircle triangle (circle (fraction 25 4) (over 4 3 2) (support 0 0 ∷ support 1 1 ∷ support 2 1 ∷ []))
+weightless = by_one_failure (circle_passes triangle (circle (fraction 25 4) (over 4 3 2) (support 0 0 ∷ support 1 1 ∷ support 2 1 ∷ []))) refl refl
 
-four_supports : ¬ PassesCircle (at 0 0 ∷ at 1 0 ∷ at 1 1 ∷ at 0 1 ∷ []) (circle (fraction 1 2) (over 1 1 2) (support 0 1 ∷ support 1 1 ∷ support 2 1 ∷ support 3 1 ∷ []))
-four_supports =
-    by_one_failure (circle_passes (at 0 0 ∷ at 1 0 ∷ at 1 1 ∷ at 0 1 ∷ []) (circle (fraction 1 2) (over 1 1 2) (support 0 1 ∷ support 1 1 ∷ support 2 1 ∷ support 3 1 ∷ []))) refl refl
+abbrev four_supports : CircleAnswer
+four_supports = circle (fraction 1 2) (over 1 1 2) (support 0 1 ∷ support 1 1 ∷ support 2 1 ∷ support 3 1 ∷ [])
+
+four_supports_fails : ¬ PassesCircle unit_square four_supports
+four_supports_fails = by_one_failure (circle_passes unit_square four_supports) refl refl
 
 heaviest : PassesCircle (at 5 6 ∷ []) (circle (fraction 0 1) (over 5 6 1) (support 0 (2 ^ 80) ∷ []))
 heaviest = by_test (circle_passes (at 5 6 ∷ []) (circle (fraction 0 1) (over 5 6 1) (support 0 (2 ^ 80) ∷ []))) refl

@@ -10,10 +10,10 @@ use Rattle.model_laws.proofs.Literals.{minus, in_space, signed_in_space, fractio
 abbrev equal_potentials : (square : ℤ) (items : List WeightedVector) → Decision (AreEqualPotentials square items)
 equal_potentials square items =
     all {P = λ a. All (λ b. potential square items a.vector ≡ potential square items b.vector) items}
-    (λ a. all {P = λ b. potential square items a.vector ≡ potential square items b.vector} (λ b. equal_ℤ (potential square items a.vector) (potential square items b.vector)) items) items
+    (λ a. all {P = λ b. potential square items a.vector ≡ potential square items b.vector} (λ b. equal_ℤ _ _) items) items
 
 abbrev low : (square : ℤ) (items : List WeightedVector) (v : SpacePoint) → Decision (IsLow square items v)
-low square items v = all {P = λ item. potential square items v <ℤ potential square items item.vector} (λ item. less_ℤ (potential square items v) (potential square items item.vector)) items
+low square items v = all {P = λ item. potential square items v <ℤ potential square items item.vector} (λ item. less_ℤ _ _) items
 
 abbrev item : ℤ → SpacePoint → WeightedVector
 item weight vector = record { weight = weight; vector = vector }

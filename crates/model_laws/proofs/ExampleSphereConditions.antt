@@ -59,9 +59,13 @@ one_outside : ¬ PassesSphere (in_space 0 0 0 ∷ in_space 0 0 4 ∷ in_space 3 
 one_outside =
     by_one_failure (sphere_passes (in_space 0 0 0 ∷ in_space 0 0 4 ∷ in_space 3 0 2 ∷ []) (sphere (fraction 4 1) (space_over 0 0 2 1) both)) refl refl
 
-weightless : ¬ PassesSphere (in_space 0 0 0 ∷ in_space 0 0 4 ∷ in_space 2 0 2 ∷ []) (sphere (fraction 4 1) (space_over 0 0 2 1) (support 0 1 ∷ support 1 1 ∷ support 2 0 ∷ []))
+-- a third point on the sphere over the two
+abbrev three_points : List SpacePoint
+three_points = in_space 0 0 0 ∷ in_space 0 0 4 ∷ in_space 2 0 2 ∷ []
+
+weightless : ¬ PassesSphere three_points (sphere (fraction 4 1) (space_over 0 0 2 1) (support 0 1 ∷ support 1 1 ∷ support 2 0 ∷ []))
 weightless =
-    by_one_failure (sphere_passes (in_space 0 0 0 ∷ in_space 0 0 4 ∷ in_space 2 0 2 ∷ []) (sphere (fraction 4 1) (space_over 0 0 2 1) (support 0 1 ∷ support 1 1 ∷ support 2 0 ∷ []))) refl refl
+    by_one_failure (sphere_passes three_points (sphere (fraction 4 1) (space_over 0 0 2 1) (support 0 1 ∷ support 1 1 ∷ support 2 0 ∷ []))) refl refl
 
 -- five corners of a cube
 abbrev five : List SpacePoint
@@ -71,9 +75,11 @@ four_supports : PassesSphere five (sphere (fraction 3 4) (space_over 1 1 1 2) (s
 four_supports =
     by_test (sphere_passes five (sphere (fraction 3 4) (space_over 1 1 1 2) (support 0 1 ∷ support 2 1 ∷ support 3 1 ∷ support 4 1 ∷ []))) refl
 
-five_supports : ¬ PassesSphere five (sphere (fraction 3 4) (space_over 1 1 1 2) (support 0 2 ∷ support 1 1 ∷ support 2 1 ∷ support 3 1 ∷ support 4 1 ∷ []))
-five_supports =
-    by_one_failure (sphere_passes five (sphere (fraction 3 4) (space_over 1 1 1 2) (support 0 2 ∷ support 1 1 ∷ support 2 1 ∷ support 3 1 ∷ support 4 1 ∷ []))) refl refl
+abbrev five_supports : SphereAnswer
+five_supports = sphere (fraction 3 4) (space_over 1 1 1 2) (support 0 2 ∷ support 1 1 ∷ support 2 1 ∷ support 3 1 ∷ support 4 1 ∷ [])
+
+five_supports_fails : ¬ PassesSphere five five_supports
+five_supports_fails = by_one_failure (sphere_passes five five_supports) refl refl
 
 heaviest : PassesSphere (in_space 5 6 7 ∷ []) (sphere (fraction 0 1) (space_over 5 6 7 1) (support 0 (2 ^ 92) ∷ []))
 heaviest = by_test (sphere_passes (in_space 5 6 7 ∷ []) (sphere (fraction 0 1) (space_over 5 6 7 1) (support 0 (2 ^ 92) ∷ []))) refl

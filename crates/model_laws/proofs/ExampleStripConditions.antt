@@ -52,13 +52,17 @@ low_beyond = by_one_failure (strip_passes triangle (along_longest (half_cone 1 0
 begun_late : ¬ PassesStrip triangle (along_longest (half_cone 3 4 2 0 ∷ half_cone 0 1 2 1 ∷ []))
 begun_late = by_one_failure (strip_passes triangle (along_longest (half_cone 3 4 2 0 ∷ half_cone 0 1 2 1 ∷ []))) refl refl
 
-standing : ¬ PassesStrip triangle (along_longest (half_cone 1 0 1 0 ∷ half_cone 3 4 2 0 ∷ half_cone 3 4 2 0 ∷ half_cone 0 1 2 1 ∷ []))
-standing =
-    by_one_failure (strip_passes triangle (along_longest (half_cone 1 0 1 0 ∷ half_cone 3 4 2 0 ∷ half_cone 3 4 2 0 ∷ half_cone 0 1 2 1 ∷ []))) refl refl
+abbrev standing : StripAnswer
+standing = along_longest (half_cone 1 0 1 0 ∷ half_cone 3 4 2 0 ∷ half_cone 3 4 2 0 ∷ half_cone 0 1 2 1 ∷ [])
 
-ended_early : ¬ PassesStrip triangle (record (along_longest []) { fan = record { cones = half_cone 1 0 1 0 ∷ half_cone 3 4 2 0 ∷ []; last = at 0 1 } })
-ended_early =
-    by_one_failure (strip_passes triangle (record (along_longest []) { fan = record { cones = half_cone 1 0 1 0 ∷ half_cone 3 4 2 0 ∷ []; last = at 0 1 } })) refl refl
+standing_fails : ¬ PassesStrip triangle standing
+standing_fails = by_one_failure (strip_passes triangle standing) refl refl
+
+abbrev ended_early : StripAnswer
+ended_early = record (along_longest []) { fan = record { cones = half_cone 1 0 1 0 ∷ half_cone 3 4 2 0 ∷ []; last = at 0 1 } }
+
+ended_early_fails : ¬ PassesStrip triangle ended_early
+ended_early_fails = by_one_failure (strip_passes triangle ended_early) refl refl
 
 -- ---- around three points on a line, with a size of 0
 
@@ -78,9 +82,11 @@ not_highest = by_one_failure (strip_passes on_line (level_line (at 0 1) (half_co
 not_lowest : ¬ PassesStrip on_line (level_line (at 0 1) (half_cone 1 0 2 1 ∷ []))
 not_lowest = by_one_failure (strip_passes on_line (level_line (at 0 1) (half_cone 1 0 2 1 ∷ []))) refl refl
 
-high_beyond : ¬ PassesStrip on_line (strip (fraction 0 1) (at 0 1) (span (pos 0) (pos 0)) (half_cone 1 0 2 0 ∷ half_cone 0 1 9 2 ∷ []))
-high_beyond =
-    by_one_failure (strip_passes on_line (strip (fraction 0 1) (at 0 1) (span (pos 0) (pos 0)) (half_cone 1 0 2 0 ∷ half_cone 0 1 9 2 ∷ []))) refl refl
+abbrev high_beyond : StripAnswer
+high_beyond = strip (fraction 0 1) (at 0 1) (span (pos 0) (pos 0)) (half_cone 1 0 2 0 ∷ half_cone 0 1 9 2 ∷ [])
+
+high_beyond_fails : ¬ PassesStrip on_line high_beyond
+high_beyond_fails = by_one_failure (strip_passes on_line high_beyond) refl refl
 
 longest : PassesStrip on_line (level_line (at 0 400000) (half_cone 1 0 2 0 ∷ half_cone 1 400000 2 0 ∷ []))
 longest = by_test (strip_passes on_line (level_line (at 0 400000) (half_cone 1 0 2 0 ∷ half_cone 1 400000 2 0 ∷ []))) refl

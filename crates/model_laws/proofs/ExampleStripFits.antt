@@ -73,7 +73,13 @@ across_exchanged = by_one_failure (fits_rectangle [] (rectangle (at 3 4) (span (
 -- ---- parallelograms
 
 abbrev slanted : PlanePoint → Span → PlanePoint → Span → ℕ → Parallelogram
-slanted first first_bounds second second_bounds w = record { first = first; first_bounds = first_bounds; second = second; second_bounds = second_bounds; w = pos w }
+slanted first first_bounds second second_bounds w = record {
+  first = first;
+  first_bounds = first_bounds;
+  second = second;
+  second_bounds = second_bounds;
+  w = pos w;
+}
 
 -- the second normal to the left of the first, or to the right
 of_first_turn : FitsParallelogram triangle (slanted (at 1 0) (span (pos 0) (pos 8)) (at 1 1) (span (pos 0) (pos 8)) 2)

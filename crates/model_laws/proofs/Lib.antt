@@ -49,3 +49,15 @@ pub mod ExamplePotentials
 pub mod ExampleCircleConditions
 pub mod ExampleSphereConditions
 pub mod ExampleStripConditions
+pub mod ExampleRectangleConditions
+pub mod ExampleParallelogramConditions
+pub mod ExampleFlatParallelograms
+pub mod ExampleObjectPlaces
+pub mod ExampleAnnulusConditions
+pub mod ExampleDistanceConditions
+pub mod ExampleDirections
+pub mod ExampleEmptyConditions
+pub mod ExampleEmptyBounds
+pub mod ExampleKgonConditions
+pub mod ExampleCentresConditions
+pub mod ExampleLeaves

@@ -1,5 +1,5 @@
 -- Short words for points, numbers and parts of answers in examples.
-use Rattle.std.proofs.Common.{ℕ, ℤ, pos, neg_ℤ}
+use Rattle.std.proofs.Common.{ℕ, ℤ, pos, neg_ℤ, List}
 use Rattle.bounds_model.specs.Plane.{PlanePoint, PlaneRatio}
 use Rattle.bounds_model.specs.Space.{SpacePoint, SpaceRatio}
 use Rattle.bounds_model.specs.Fractions.{Fraction}
@@ -9,7 +9,7 @@ use Rattle.bounds_model.specs.Fans.{HalfCone, QuarterCone}
 use Rattle.bounds_model.specs.BallAnswer.{Weighted}
 use Rattle.bounds_model.specs.AnnulusAnswer.{WeightedPair}
 use Rattle.bounds_model.specs.CentresAnswer.{Leaf}
-use Rattle.bounds_model.specs.ParallelogramAnswer.{Chord}
+use Rattle.bounds_model.specs.ParallelogramAnswer.{Chord, ParallelogramAnswer}
 
 -- the number -n
 abbrev pub minus : ℕ → ℤ
@@ -77,6 +77,9 @@ signed_support point weight = record { point = point; weight = weight }
 abbrev pub pair : ℕ → ℕ → ℕ → WeightedPair
 pair first second weight = record { first = first; second = second; weight = pos weight }
 
+abbrev pub signed_pair : ℕ → ℕ → ℤ → WeightedPair
+signed_pair first second weight = record { first = first; second = second; weight = weight }
+
 -- a cone from the direction (x, y) on
 abbrev pub half_cone : ℕ → ℕ → ℕ → ℕ → HalfCone
 half_cone x y high low = record { direction = at x y; high = high; low = low }
@@ -95,3 +98,15 @@ signed_chord a b c beta gamma k = record { a = a; b = b; c = c; beta = beta; gam
 
 abbrev pub chord : ℕ → ℕ → ℕ → ℕ → ℕ → ℤ → Chord
 chord a b c beta gamma k = signed_chord a b c (pos beta) (pos gamma) k
+
+-- a parallelogram with the fan of these cones, which ends in the west
+abbrev pub slanted : Fraction → PlanePoint → Span → PlanePoint → Span → List HalfCone → List Chord → ParallelogramAnswer
+slanted size first first_bounds second second_bounds cones chords = record {
+  size = size;
+  first = first;
+  first_bounds = first_bounds;
+  second = second;
+  second_bounds = second_bounds;
+  fan = record { cones = cones; last = left_at 1 0 };
+  chords = chords;
+}

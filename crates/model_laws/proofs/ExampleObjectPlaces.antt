@@ -1,0 +1,90 @@
+-- Places of the numbers of rectangles and parallelograms: each one past its limit.
+use Rattle.std.proofs.Common.{refl, ℕ, ◌+◌, ◌^◌, pos, List, [], ◌∷◌}
+use Rattle.bounds_model.specs.Plane.{PlanePoint}
+use Rattle.bounds_model.specs.Fractions.{Fraction}
+use Rattle.bounds_model.specs.Strip.{Span}
+use Rattle.bounds_model.specs.Fans.{HalfCone}
+use Rattle.bounds_model.specs.RectangleAnswer.{RectangleAnswer, RectanglePlaces}
+use Rattle.bounds_model.specs.ParallelogramAnswer.{Chord, ParallelogramAnswer, ParallelogramPlaces}
+use Rattle.model_laws.proofs.Decisions.{by_test, by_failed_test, by_one_failure}
+use Rattle.model_laws.proofs.DecideFans.{rectangle_places, parallelogram_places}
+use Rattle.model_laws.proofs.Literals.{minus, at, left_at, fraction, span, half_cone, quarter_cone, chord}
+
+abbrev base : ParallelogramAnswer
+base = record {
+  size = fraction 0 1;
+  first = at 1 0;
+  first_bounds = span (pos 0) (pos 2);
+  second = at 0 1;
+  second_bounds = span (pos 0) (pos 0);
+  fan = record { cones = half_cone 1 0 1 0 ∷ half_cone 0 1 0 1 ∷ []; last = left_at 1 0 };
+  chords = chord 0 0 0 1 0 (pos 0) ∷ chord 0 0 0 1 0 (pos 0) ∷ chord 0 0 0 1 0 (pos 0) ∷ [];
+}
+
+abbrev past : ℕ
+past = 2 ^ 126 + 1
+
+-- ---- parallelograms
+
+base_in_places : ParallelogramPlaces base
+base_in_places = by_test (parallelogram_places base) refl
+
+size_past : ¬ ParallelogramPlaces (record base { size = fraction past 1 })
+size_past = by_one_failure (parallelogram_places (record base { size = fraction past 1 })) refl refl
+
+first_past : ¬ ParallelogramPlaces (record base { first = at past 0 })
+first_past = by_one_failure (parallelogram_places (record base { first = at past 0 })) refl refl
+
+first_bounds_past : ¬ ParallelogramPlaces (record base { first_bounds = span (pos 0) (pos past) })
+first_bounds_past = by_one_failure (parallelogram_places (record base { first_bounds = span (pos 0) (pos past) })) refl refl
+
+second_past : ¬ ParallelogramPlaces (record base { second = at 0 past })
+second_past = by_one_failure (parallelogram_places (record base { second = at 0 past })) refl refl
+
+second_bounds_past : ¬ ParallelogramPlaces (record base { second_bounds = span (minus past) (pos 0) })
+second_bounds_past = by_one_failure (parallelogram_places (record base { second_bounds = span (minus past) (pos 0) })) refl refl
+
+abbrev no_cones : ParallelogramAnswer
+no_cones = record base { fan = record { cones = []; last = left_at 1 0 }; chords = chord 0 0 0 1 0 (pos 0) ∷ [] }
+
+no_cones_fails : ¬ ParallelogramPlaces no_cones
+no_cones_fails = by_one_failure (parallelogram_places no_cones) refl refl
+
+-- a chord for each direction, each in its place
+no_chords : ¬ ParallelogramPlaces (record base { chords = [] })
+no_chords = by_one_failure (parallelogram_places (record base { chords = [] })) refl refl
+
+abbrev chord_past : ParallelogramAnswer
+chord_past = record base { chords = chord 0 0 0 1 0 (pos 0) ∷ chord 10000 0 0 1 0 (pos 0) ∷ chord 0 0 0 1 0 (pos 0) ∷ [] }
+
+chord_past_fails : ¬ ParallelogramPlaces chord_past
+chord_past_fails = by_one_failure (parallelogram_places chord_past) refl refl
+
+-- ---- rectangles
+
+abbrev upright : RectangleAnswer
+upright = record {
+  size = fraction 0 1;
+  direction = at 1 0;
+  along = span (pos 0) (pos 2);
+  across = span (pos 0) (pos 0);
+  fan = record { cones = quarter_cone 1 0 1 0 0 1 ∷ []; last = at 0 1 };
+}
+
+upright_in_places : RectanglePlaces upright
+upright_in_places = by_test (rectangle_places upright) refl
+
+upright_size_past : ¬ RectanglePlaces (record upright { size = fraction past 1 })
+upright_size_past = by_one_failure (rectangle_places (record upright { size = fraction past 1 })) refl refl
+
+direction_past : ¬ RectanglePlaces (record upright { direction = at past 0 })
+direction_past = by_one_failure (rectangle_places (record upright { direction = at past 0 })) refl refl
+
+along_past : ¬ RectanglePlaces (record upright { along = span (pos 0) (pos past) })
+along_past = by_one_failure (rectangle_places (record upright { along = span (pos 0) (pos past) })) refl refl
+
+across_past : ¬ RectanglePlaces (record upright { across = span (minus past) (pos 0) })
+across_past = by_one_failure (rectangle_places (record upright { across = span (minus past) (pos 0) })) refl refl
+
+no_upright_cones : ¬ RectanglePlaces (record upright { fan = record { cones = []; last = at 0 1 } })
+no_upright_cones = by_one_failure (rectangle_places (record upright { fan = record { cones = []; last = at 0 1 } })) refl refl
