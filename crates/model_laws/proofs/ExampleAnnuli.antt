@@ -10,14 +10,14 @@ use Rattle.model_laws.proofs.Decisions.{by_test, by_failed_test}
 use Rattle.model_laws.proofs.DecideAnswers.{passes}
 use Rattle.model_laws.proofs.Literals.{at, over, fraction, pair}
 
-abbrev four_points : List PlanePoint
+abbrev pub four_points : List PlanePoint
 four_points = at 0 0 ∷ at 2 0 ∷ at 0 2 ∷ at 2 3 ∷ []
 
 -- their ring, with these pairs
 abbrev with_pairs : List WeightedPair → AnnulusAnswer
 with_pairs pairs = record { size = fraction 6 5; centre = over 13 13 10; inner = fraction 109 50; outer = fraction 169 50; pairs = pairs }
 
-abbrev ring : AnnulusAnswer
+abbrev pub ring : AnnulusAnswer
 ring = with_pairs (pair 0 2 3 ∷ pair 3 1 2 ∷ [])
 
 ring_passes : Passes ask_annulus (plane four_points) (annulus ring)

@@ -148,10 +148,10 @@ thrice_passes = by_test (passes ask_circle (plane (at 5 5 ∷ at 5 5 ∷ at 5 5 
 
 -- ---- every second corner of a cube
 
-abbrev tetrahedron : List SpacePoint
+abbrev pub tetrahedron : List SpacePoint
 tetrahedron = in_space 0 0 0 ∷ in_space 1 1 0 ∷ in_space 1 0 1 ∷ in_space 0 1 1 ∷ []
 
-abbrev around_four : ℕ → SphereAnswer
+abbrev pub around_four : ℕ → SphereAnswer
 around_four weight = record { size = fraction 3 4; centre = space_over 1 1 1 2; supports = support 0 weight ∷ support 1 weight ∷ support 2 weight ∷ support 3 weight ∷ [] }
 
 around_four_passes : Passes ask_sphere (space tetrahedron) (sphere (around_four 1))

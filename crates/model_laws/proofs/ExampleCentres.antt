@@ -12,13 +12,13 @@ use Rattle.model_laws.proofs.Literals.{at, over, fraction, leaf}
 
 -- ---- two squares around four points
 
-abbrev four_points : List PlanePoint
+abbrev pub four_points : List PlanePoint
 four_points = at 0 0 ∷ at 1 1 ∷ at 10 10 ∷ at 12 11 ∷ []
 
 abbrev with_leaves : List Leaf → CentresAnswer
 with_leaves leaves = record { size = fraction 1 1; squares = over 1 1 1 ∷ over 11 11 1 ∷ []; leaves = leaves }
 
-abbrev two_squares : CentresAnswer
+abbrev pub two_squares : CentresAnswer
 two_squares = with_leaves (leaf 2 3 ∷ leaf 0 3 ∷ leaf 0 3 ∷ leaf 0 2 ∷ [])
 
 two_squares_pass : Passes (ask_centres 2) (plane four_points) (centres two_squares)

@@ -13,13 +13,13 @@ use Rattle.model_laws.proofs.Literals.{minus, in_space, space_over, fraction, pa
 
 -- ---- a point and a triangle
 
-abbrev corner : List SpacePoint
+abbrev pub corner : List SpacePoint
 corner = in_space 0 0 0 ∷ []
 
-abbrev facing : List SpacePoint
+abbrev pub facing : List SpacePoint
 facing = in_space 3 0 0 ∷ in_space 0 3 0 ∷ in_space 0 0 3 ∷ []
 
-abbrev to_middle : DistanceAnswer
+abbrev pub to_middle : DistanceAnswer
 to_middle = record {
   size = fraction 3 1;
   from = space_over 0 0 0 1;

@@ -12,15 +12,15 @@ use Rattle.model_laws.proofs.Decisions.{by_test, by_failed_test}
 use Rattle.model_laws.proofs.DecideAnswers.{passes}
 use Rattle.model_laws.proofs.Literals.{at, fraction, box}
 
-abbrev frame : Box
+abbrev pub frame : Box
 frame = box 0 0 4 4
 
 -- ---- one point in the frame
 
-abbrev one_point : List PlanePoint
+abbrev pub one_point : List PlanePoint
 one_point = at 1 2 ∷ []
 
-abbrev beside : EmptyAnswer
+abbrev pub beside : EmptyAnswer
 beside = record { size = fraction 12 1; box = box 1 0 4 4; left = point 0; bottom = side; right = side; top = side }
 
 beside_passes : Passes (ask_empty frame) (plane one_point) (empty beside)
@@ -41,7 +41,7 @@ resting_on_frame_fails : ¬ Passes (ask_empty frame) (plane one_point) (empty re
 resting_on_frame_fails = by_failed_test (passes (ask_empty frame) (plane one_point) (empty resting_on_frame)) refl
 
 -- the one below the point, which is smaller
-abbrev below : EmptyAnswer
+abbrev pub below : EmptyAnswer
 below = record { size = fraction 8 1; box = box 0 0 4 2; left = side; bottom = side; right = side; top = point 0 }
 
 below_fails : ¬ Passes (ask_empty frame) (plane one_point) (empty below)

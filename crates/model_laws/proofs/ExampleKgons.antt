@@ -15,14 +15,14 @@ use Rattle.model_laws.proofs.Literals.{at, fraction}
 
 -- ---- the greatest triangle with corners of a square
 
-abbrev square : List PlanePoint
+abbrev pub square : List PlanePoint
 square = at 0 0 ∷ at 2 0 ∷ at 2 2 ∷ at 0 2 ∷ []
 
 -- its corners, three of them, and these potentials
 abbrev with_potentials : List ℕ → KgonAnswer
 with_potentials potentials = record { size = fraction 2 1; corners = 0 ∷ 1 ∷ 2 ∷ 3 ∷ []; chosen = 0 ∷ 1 ∷ 2 ∷ []; layers = 1; potentials = map pos potentials }
 
-abbrev half : KgonAnswer
+abbrev pub half : KgonAnswer
 half = with_potentials (0 ∷ 4 ∷ 4 ∷ 0 ∷ 4 ∷ 0 ∷ [])
 
 half_passes : Passes (ask_kgon 3) (plane square) (kgon half)

@@ -26,7 +26,7 @@ with_chords chords = record {
 abbrev first_three : List Chord → List Chord
 first_three rest = chord 0 2 2 1 0 (pos 3) ∷ chord 1 2 2 1 0 (pos 1) ∷ chord 0 1 1 1 0 (minus 4) ∷ rest
 
-abbrev upright : ParallelogramAnswer
+abbrev pub upright : ParallelogramAnswer
 upright = with_chords (first_three (chord 0 2 2 1 0 (minus 3) ∷ []))
 
 upright_passes : Passes ask_parallelogram (plane triangle) (parallelogram upright)

@@ -53,7 +53,7 @@ far_bound_fails : ¬ Passes ask_strip (plane triangle) (strip far_bound)
 far_bound_fails = by_failed_test (passes ask_strip (plane triangle) (strip far_bound)) refl
 
 -- the level strip, which is wider than the best
-abbrev level : StripAnswer
+abbrev pub level : StripAnswer
 level = record along_longest { size = fraction 9 1; direction = at 0 1; bounds = span (pos 0) (pos 3) }
 
 level_fails : ¬ Passes ask_strip (plane triangle) (strip level)

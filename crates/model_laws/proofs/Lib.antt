@@ -9,6 +9,7 @@ pub mod DecideCentres
 pub mod DecideDirection
 pub mod DecideDistance
 pub mod DecideFits
+pub mod DecideClaims
 pub mod DecideAnswers
 pub mod DecidePlain
 pub mod Literals
@@ -61,3 +62,7 @@ pub mod ExampleEmptyBounds
 pub mod ExampleKgonConditions
 pub mod ExampleCentresConditions
 pub mod ExampleLeaves
+pub mod ExampleClaims
+pub mod ExampleBest
+pub mod ExampleAsks
+pub mod ExampleChosenClaims
