@@ -1,7 +1,5 @@
 -- A test whether an answer's object fits and its size is printed, for all ten kinds.
-use Rattle.std.proofs.Common.{List, length}
-use Rattle.std.specs.Option.{IsSomeAnd}
-use Rattle.bounds_model.specs.Best.{IsPrintedSize}
+use Rattle.std.proofs.Common.{length}
 use Rattle.bounds_model.specs.Ball.{ball_size}
 use Rattle.bounds_model.specs.Strip.{strip_size}
 use Rattle.bounds_model.specs.Rectangle.{rectangle_size}

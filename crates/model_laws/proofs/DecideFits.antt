@@ -1,6 +1,5 @@
 -- Tests whether an object fits. Each decides the definition of the like name.
-use Rattle.std.proofs.Common.{◌≡◌, pos, ◌*ℤ◌, ℤ, List, length, map, zip}
-use Rattle.std.specs.Prelude.{All}
+use Rattle.std.proofs.Common.{pos, ◌*ℤ◌, ℤ, List, length, map, zip}
 use Rattle.integers.specs.Total.{total}
 use Rattle.bounds_model.specs.Plane.{PlanePoint, origin, times, dot, cross, quarter_turn, plane_limit, IsInPlane}
 use Rattle.bounds_model.specs.Space

@@ -6,7 +6,7 @@ use Rattle.bounds_model.specs.Asks.Ask.{ask_annulus}
 use Rattle.bounds_model.specs.Asks.Sets.{plane}
 use Rattle.bounds_model.specs.Answers.{Passes}
 use Rattle.bounds_model.specs.Answers.Answer.{annulus}
-use Rattle.model_laws.proofs.Decisions.{by_test, by_failed_test}
+use Rattle.model_laws.proofs.Decisions.{by_test, by_failed_test, by_one_failure}
 use Rattle.model_laws.proofs.DecideAnswers.{passes}
 use Rattle.model_laws.proofs.Literals.{at, over, fraction, pair}
 
@@ -33,14 +33,14 @@ unbalanced_fails = by_failed_test (passes ask_annulus (plane four_points) (annul
 
 -- a pair of a point with itself shows nothing
 idle_fails : ¬ Passes ask_annulus (plane four_points) (annulus (with_pairs (pair 0 0 1 ∷ [])))
-idle_fails = by_failed_test (passes ask_annulus (plane four_points) (annulus (with_pairs (pair 0 0 1 ∷ [])))) refl
+idle_fails = by_one_failure (passes ask_annulus (plane four_points) (annulus (with_pairs (pair 0 0 1 ∷ [])))) refl refl
 
 -- a greater outer radius, with the size or without it
 abbrev wider : AnnulusAnswer
 wider = record ring { outer = fraction 17 5 }
 
 wider_fails : ¬ Passes ask_annulus (plane four_points) (annulus wider)
-wider_fails = by_failed_test (passes ask_annulus (plane four_points) (annulus wider)) refl
+wider_fails = by_one_failure (passes ask_annulus (plane four_points) (annulus wider)) refl refl
 
 abbrev wider_and_larger : AnnulusAnswer
 wider_and_larger = record wider { size = fraction 61 50 }

@@ -3,7 +3,7 @@ use Rattle.std.proofs.Common.{refl, ℕ, ◌+◌, ◌*◌, ◌^◌, ℤ, pos, Li
 use Rattle.bounds_model.specs.Plane.{PlanePoint, PlaneRatio}
 use Rattle.bounds_model.specs.Fractions.{Fraction}
 use Rattle.bounds_model.specs.AnnulusAnswer.{WeightedPair, AnnulusAnswer, AnnulusPlaces, PassesAnnulus}
-use Rattle.model_laws.proofs.Decisions.{by_test, by_failed_test, by_one_failure}
+use Rattle.model_laws.proofs.Decisions.{by_test, by_one_failure}
 use Rattle.model_laws.proofs.DecideDistance.{annulus_places, annulus_passes}
 use Rattle.model_laws.proofs.Literals.{minus, at, over, signed_over, fraction, pair, signed_pair}
 

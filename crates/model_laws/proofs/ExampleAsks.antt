@@ -1,10 +1,9 @@
 -- Questions that are valid, and points that suit them.
-use Rattle.std.proofs.Common.{refl, ℕ, ◌≤◌, List, [], ◌∷◌}
-use Rattle.bounds_model.specs.Asks.{Ask, IsValid, Suits}
+use Rattle.std.proofs.Common.{refl, ℕ, []}
+use Rattle.bounds_model.specs.Asks.{IsValid, Suits}
 use Rattle.bounds_model.specs.Asks.Ask.{ask_circle, ask_sphere, ask_rectangle, ask_parallelogram, ask_strip, ask_annulus, ask_empty, ask_kgon, ask_distance, ask_centres}
 use Rattle.bounds_model.specs.Asks.Sets.{plane, space, two, bare}
-use Rattle.bounds_model.specs.EmptyRectangle.{Box}
-use Rattle.model_laws.proofs.Decisions.{Decision, by_test, by_failed_test, by_one_failure, both, most_ℕ}
+use Rattle.model_laws.proofs.Decisions.{Decision, by_test, by_one_failure, both, most_ℕ}
 use Rattle.model_laws.proofs.DecideFits.{is_frame}
 use Rattle.model_laws.proofs.Literals.{box}
 

@@ -7,7 +7,7 @@ use Rattle.bounds_model.specs.Asks.Ask.{ask_circle, ask_sphere, ask_strip}
 use Rattle.bounds_model.specs.Asks.Sets.{plane, space, bare}
 use Rattle.bounds_model.specs.Answers.{Passes}
 use Rattle.bounds_model.specs.Answers.Answer.{circle, sphere}
-use Rattle.model_laws.proofs.Decisions.{by_test, by_failed_test}
+use Rattle.model_laws.proofs.Decisions.{by_test, by_failed_test, by_one_failure}
 use Rattle.model_laws.proofs.DecideAnswers.{passes}
 use Rattle.model_laws.proofs.Literals.{minus, at, in_space, over, space_over, fraction, support}
 
@@ -40,7 +40,7 @@ heaviest_passes : Passes ask_circle (plane triangle) (circle (heavy (2 ^ 79)))
 heaviest_passes = by_test (passes ask_circle (plane triangle) (circle (heavy (2 ^ 79)))) refl
 
 too_heavy_fails : ¬ Passes ask_circle (plane triangle) (circle (heavy (2 ^ 80)))
-too_heavy_fails = by_failed_test (passes ask_circle (plane triangle) (circle (heavy (2 ^ 80)))) refl
+too_heavy_fails = by_one_failure (passes ask_circle (plane triangle) (circle (heavy (2 ^ 80)))) refl refl
 
 -- weights that differ
 abbrev lopsided : CircleAnswer
@@ -54,7 +54,7 @@ abbrev weightless : CircleAnswer
 weightless = with_supports (support 0 0 ∷ support 1 1 ∷ support 2 1 ∷ [])
 
 weightless_fails : ¬ Passes ask_circle (plane triangle) (circle weightless)
-weightless_fails = by_failed_test (passes ask_circle (plane triangle) (circle weightless)) refl
+weightless_fails = by_one_failure (passes ask_circle (plane triangle) (circle weightless)) refl refl
 
 abbrev one_weightless : CircleAnswer
 one_weightless = with_supports (support 1 0 ∷ support 2 1 ∷ [])
@@ -74,27 +74,27 @@ abbrev vast : CircleAnswer
 vast = record over_longest { size = fraction (2 ^ 126) 1 }
 
 vast_fails : ¬ Passes ask_circle (plane triangle) (circle vast)
-vast_fails = by_failed_test (passes ask_circle (plane triangle) (circle vast)) refl
+vast_fails = by_one_failure (passes ask_circle (plane triangle) (circle vast)) refl refl
 
 -- the size, and the centre, not in lowest terms
 abbrev unreduced_size : CircleAnswer
 unreduced_size = record over_longest { size = fraction 50 8 }
 
 unreduced_size_fails : ¬ Passes ask_circle (plane triangle) (circle unreduced_size)
-unreduced_size_fails = by_failed_test (passes ask_circle (plane triangle) (circle unreduced_size)) refl
+unreduced_size_fails = by_one_failure (passes ask_circle (plane triangle) (circle unreduced_size)) refl refl
 
 abbrev unreduced_centre : CircleAnswer
 unreduced_centre = record over_longest { centre = over 8 6 4 }
 
 unreduced_centre_fails : ¬ Passes ask_circle (plane triangle) (circle unreduced_centre)
-unreduced_centre_fails = by_failed_test (passes ask_circle (plane triangle) (circle unreduced_centre)) refl
+unreduced_centre_fails = by_one_failure (passes ask_circle (plane triangle) (circle unreduced_centre)) refl refl
 
 -- where something else was asked, or of no points
 other_kind_fails : ¬ Passes ask_strip (plane triangle) (circle over_longest)
-other_kind_fails = by_failed_test (passes ask_strip (plane triangle) (circle over_longest)) refl
+other_kind_fails = by_one_failure (passes ask_strip (plane triangle) (circle over_longest)) refl refl
 
 no_points_fails : ¬ Passes ask_circle bare (circle over_longest)
-no_points_fails = by_failed_test (passes ask_circle bare (circle over_longest)) refl
+no_points_fails = by_one_failure (passes ask_circle bare (circle over_longest)) refl refl
 
 -- ---- a sharper triangle: all three corners hold the circle, and the one over the two farthest does not contain the third
 
@@ -111,7 +111,7 @@ abbrev over_farthest : CircleAnswer
 over_farthest = record { size = fraction 4 1; centre = over 2 0 1; supports = support 0 1 ∷ support 1 1 ∷ [] }
 
 over_farthest_fails : ¬ Passes ask_circle (plane sharper) (circle over_farthest)
-over_farthest_fails = by_failed_test (passes ask_circle (plane sharper) (circle over_farthest)) refl
+over_farthest_fails = by_one_failure (passes ask_circle (plane sharper) (circle over_farthest)) refl refl
 
 -- four points on a circle: two that face each other hold it, whichever they are
 abbrev pub unit_square : List PlanePoint
@@ -161,14 +161,14 @@ heaviest_four_passes : Passes ask_sphere (space tetrahedron) (sphere (around_fou
 heaviest_four_passes = by_test (passes ask_sphere (space tetrahedron) (sphere (around_four (2 ^ 90)))) refl
 
 too_heavy_four_fails : ¬ Passes ask_sphere (space tetrahedron) (sphere (around_four (2 ^ 91)))
-too_heavy_four_fails = by_failed_test (passes ask_sphere (space tetrahedron) (sphere (around_four (2 ^ 91)))) refl
+too_heavy_four_fails = by_one_failure (passes ask_sphere (space tetrahedron) (sphere (around_four (2 ^ 91)))) refl refl
 
 -- the sphere around three of them
 abbrev around_first_three : SphereAnswer
 around_first_three = record { size = fraction 2 3; centre = space_over 2 1 1 3; supports = support 0 1 ∷ support 1 1 ∷ support 2 1 ∷ [] }
 
 around_first_three_fails : ¬ Passes ask_sphere (space tetrahedron) (sphere around_first_three)
-around_first_three_fails = by_failed_test (passes ask_sphere (space tetrahedron) (sphere around_first_three)) refl
+around_first_three_fails = by_one_failure (passes ask_sphere (space tetrahedron) (sphere around_first_three)) refl refl
 
 -- which passes where the fourth is left out
 around_first_three_passes : Passes ask_sphere (space (in_space 0 0 0 ∷ in_space 1 1 0 ∷ in_space 1 0 1 ∷ [])) (sphere around_first_three)

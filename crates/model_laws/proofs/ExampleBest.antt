@@ -1,13 +1,13 @@
 -- What is smallest or greatest, printed, best, and the optimum, and what is not for one reason alone.
-use Rattle.std.proofs.Common.{◌≡◌, refl, ap, ℕ, ◌≤◌, ℤ, pos, ◌*ℤ◌, ◌≤ℤ◌, List, [], ◌∷◌, arith}
+use Rattle.std.proofs.Common.{◌≡◌, refl, ap, ℕ, ◌≤◌, ℤ, pos, ◌*ℤ◌, ◌≤ℤ◌, arith}
 use Rattle.std.proofs.lemmas.Int.{ints}
-use Rattle.bounds_model.specs.Fractions.{Fraction, IsAtMost}
+use Rattle.bounds_model.specs.Fractions.{Fraction}
 use Rattle.bounds_model.specs.Ball.{Ball, FitsCircle, ball_size}
 use Rattle.bounds_model.specs.Best.{IsSmallest, IsGreatest, IsPrintedSize}
 use Rattle.bounds_model.specs.BallAnswer.{CircleAnswer, circle_of}
 use Rattle.bounds_model.specs.Asks.Ask.{ask_circle}
 use Rattle.bounds_model.specs.Asks.Sets.{plane}
-use Rattle.bounds_model.specs.Answers.{Fits, IsBest, IsOptimum, ClaimIsBest}
+use Rattle.bounds_model.specs.Answers.{Fits, IsBest, IsOptimum}
 use Rattle.bounds_model.specs.Answers.Answer.{circle}
 use Rattle.model_laws.proofs.Decisions.{by_test, by_failed_test, by_one_failure, equal_ℤ, most_ℤ, most_ℕ}
 use Rattle.model_laws.proofs.DecideFits.{printed, fits_circle}
@@ -16,7 +16,7 @@ use Rattle.model_laws.proofs.DecideAnswers.{passes}
 use Rattle.model_laws.proofs.BallLaw.{circle_is_best}
 use Rattle.model_laws.proofs.SizeLaw.{one_optimum}
 use Rattle.model_laws.proofs.ExampleBalls.{triangle, over_longest}
-use Rattle.model_laws.proofs.Literals.{minus, at, fraction}
+use Rattle.model_laws.proofs.Literals.{fraction}
 
 -- ---- numbers: the smallest that is at least 2, and the greatest that is at most 2
 

@@ -6,7 +6,7 @@ use Rattle.bounds_model.specs.Asks.Ask.{ask_centres}
 use Rattle.bounds_model.specs.Asks.Sets.{plane}
 use Rattle.bounds_model.specs.Answers.{Passes}
 use Rattle.bounds_model.specs.Answers.Answer.{centres}
-use Rattle.model_laws.proofs.Decisions.{by_test, by_failed_test}
+use Rattle.model_laws.proofs.Decisions.{by_test, by_failed_test, by_one_failure}
 use Rattle.model_laws.proofs.DecideAnswers.{passes}
 use Rattle.model_laws.proofs.Literals.{at, over, fraction, leaf}
 
@@ -26,7 +26,7 @@ two_squares_pass = by_test (passes (ask_centres 2) (plane four_points) (centres 
 
 -- a leaf left out, and one with points that are near each other
 too_few_leaves_fail : ¬ Passes (ask_centres 2) (plane four_points) (centres (with_leaves (leaf 2 3 ∷ leaf 0 3 ∷ leaf 0 3 ∷ [])))
-too_few_leaves_fail = by_failed_test (passes (ask_centres 2) (plane four_points) (centres (with_leaves (leaf 2 3 ∷ leaf 0 3 ∷ leaf 0 3 ∷ [])))) refl
+too_few_leaves_fail = by_one_failure (passes (ask_centres 2) (plane four_points) (centres (with_leaves (leaf 2 3 ∷ leaf 0 3 ∷ leaf 0 3 ∷ [])))) refl refl
 
 near_points_fail : ¬ Passes (ask_centres 2) (plane four_points) (centres (with_leaves (leaf 0 1 ∷ leaf 0 3 ∷ leaf 0 3 ∷ leaf 0 2 ∷ [])))
 near_points_fail = by_failed_test (passes (ask_centres 2) (plane four_points) (centres (with_leaves (leaf 0 1 ∷ leaf 0 3 ∷ leaf 0 3 ∷ leaf 0 2 ∷ [])))) refl
@@ -36,14 +36,14 @@ abbrev larger : CentresAnswer
 larger = record two_squares { size = fraction 3 2 }
 
 larger_fail : ¬ Passes (ask_centres 2) (plane four_points) (centres larger)
-larger_fail = by_failed_test (passes (ask_centres 2) (plane four_points) (centres larger)) refl
+larger_fail = by_one_failure (passes (ask_centres 2) (plane four_points) (centres larger)) refl refl
 
 -- squares that leave a point out, and where three are asked for
 abbrev elsewhere : CentresAnswer
 elsewhere = record two_squares { squares = over 1 1 1 ∷ over 10 10 1 ∷ [] }
 
 elsewhere_fail : ¬ Passes (ask_centres 2) (plane four_points) (centres elsewhere)
-elsewhere_fail = by_failed_test (passes (ask_centres 2) (plane four_points) (centres elsewhere)) refl
+elsewhere_fail = by_one_failure (passes (ask_centres 2) (plane four_points) (centres elsewhere)) refl refl
 
 of_three_fail : ¬ Passes (ask_centres 3) (plane four_points) (centres two_squares)
 of_three_fail = by_failed_test (passes (ask_centres 3) (plane four_points) (centres two_squares)) refl
@@ -60,7 +60,7 @@ points_themselves_pass : Passes (ask_centres 3) (plane three_points) (centres (p
 points_themselves_pass = by_test (passes (ask_centres 3) (plane three_points) (centres (points_themselves []))) refl
 
 leaf_too_many_fails : ¬ Passes (ask_centres 3) (plane three_points) (centres (points_themselves (leaf 0 1 ∷ [])))
-leaf_too_many_fails = by_failed_test (passes (ask_centres 3) (plane three_points) (centres (points_themselves (leaf 0 1 ∷ [])))) refl
+leaf_too_many_fails = by_one_failure (passes (ask_centres 3) (plane three_points) (centres (points_themselves (leaf 0 1 ∷ [])))) refl refl
 
 -- ---- one square around two points
 
@@ -71,4 +71,4 @@ one_square_passes : Passes (ask_centres 1) (plane (at 0 0 ∷ at 3 1 ∷ [])) (c
 one_square_passes = by_test (passes (ask_centres 1) (plane (at 0 0 ∷ at 3 1 ∷ [])) (centres (one_square (leaf 0 1)))) refl
 
 same_point_fails : ¬ Passes (ask_centres 1) (plane (at 0 0 ∷ at 3 1 ∷ [])) (centres (one_square (leaf 1 1)))
-same_point_fails = by_failed_test (passes (ask_centres 1) (plane (at 0 0 ∷ at 3 1 ∷ [])) (centres (one_square (leaf 1 1)))) refl
+same_point_fails = by_one_failure (passes (ask_centres 1) (plane (at 0 0 ∷ at 3 1 ∷ [])) (centres (one_square (leaf 1 1)))) refl refl

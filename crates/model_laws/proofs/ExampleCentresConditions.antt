@@ -1,10 +1,10 @@
 -- Centres that fail in one of the conditions of a checker alone.
-use Rattle.std.proofs.Common.{refl, ℕ, zero, suc, ◌+◌, ◌^◌, ◌*◌, pos, List, [], ◌∷◌}
+use Rattle.std.proofs.Common.{refl, ℕ, pos, List, [], ◌∷◌}
 use Rattle.bounds_model.specs.Plane.{PlanePoint, PlaneRatio}
 use Rattle.bounds_model.specs.Fractions.{Fraction}
-use Rattle.bounds_model.specs.CentresAnswer.{Leaf, CentresAnswer, CentresPlaces, IsNearCentre, PassesCentres}
-use Rattle.model_laws.proofs.Decisions.{by_test, by_failed_test, by_one_failure}
-use Rattle.model_laws.proofs.DecideCentres.{near_centre, centres_places, centres_passes}
+use Rattle.bounds_model.specs.CentresAnswer.{Leaf, CentresAnswer, IsNearCentre, PassesCentres}
+use Rattle.model_laws.proofs.Decisions.{by_test, by_one_failure}
+use Rattle.model_laws.proofs.DecideCentres.{near_centre, centres_passes}
 use Rattle.model_laws.proofs.Literals.{minus, at, left_at, over, signed_over, fraction, leaf}
 
 abbrev cover : Fraction → List PlaneRatio → List Leaf → CentresAnswer

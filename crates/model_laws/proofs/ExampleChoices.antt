@@ -1,12 +1,12 @@
 -- Polygons, weights of two hulls and covers that fit, and some that fail in one condition alone.
-use Rattle.std.proofs.Common.{◌≡◌, refl, ℕ, ℤ, pos, List, [], ◌∷◌}
-use Rattle.bounds_model.specs.Plane.{PlanePoint, PlaneRatio}
+use Rattle.std.proofs.Common.{◌≡◌, refl, ℤ, pos, List, [], ◌∷◌}
+use Rattle.bounds_model.specs.Plane.{PlanePoint}
 use Rattle.bounds_model.specs.Space.{SpacePoint}
 use Rattle.bounds_model.specs.Fractions.{Fraction}
 use Rattle.bounds_model.specs.Kgon.{FitsKgon, kgon_size}
 use Rattle.bounds_model.specs.Distance.{Weights, FitsDistance, distance_size}
-use Rattle.bounds_model.specs.Centres.{Cover, IsNear, FitsCentres, centres_size}
-use Rattle.model_laws.proofs.Decisions.{by_test, by_failed_test, by_one_failure}
+use Rattle.bounds_model.specs.Centres.{Cover, IsNear, FitsCentres}
+use Rattle.model_laws.proofs.Decisions.{by_test, by_one_failure}
 use Rattle.model_laws.proofs.DecideKgon.{fits_kgon}
 use Rattle.model_laws.proofs.DecideCentres.{near, covers}
 use Rattle.model_laws.proofs.DecideFits.{fits_distance}

@@ -1,20 +1,20 @@
 -- Answers on boxes, polygons, distances and squares whose object fits and whose size is printed, and some that fail in one condition alone.
-use Rattle.std.proofs.Common.{refl, pos, List, [], ◌∷◌}
+use Rattle.std.proofs.Common.{refl, [], ◌∷◌}
 use Rattle.bounds_model.specs.EmptyAnswer.{EmptyAnswer}
 use Rattle.bounds_model.specs.KgonAnswer.{KgonAnswer}
 use Rattle.bounds_model.specs.DistanceAnswer.{DistanceAnswer}
 use Rattle.bounds_model.specs.CentresAnswer.{CentresAnswer}
 use Rattle.bounds_model.specs.Asks.Ask.{ask_empty, ask_kgon, ask_distance, ask_centres}
-use Rattle.bounds_model.specs.Asks.Sets.{plane, space, two, bare}
+use Rattle.bounds_model.specs.Asks.Sets.{plane, two, bare}
 use Rattle.bounds_model.specs.Answers.{Fits}
 use Rattle.bounds_model.specs.Answers.Answer.{empty, kgon, distance, centres}
-use Rattle.model_laws.proofs.Decisions.{Decision, by_test, by_failed_test, by_one_failure}
+use Rattle.model_laws.proofs.Decisions.{Decision, by_test, by_one_failure}
 use Rattle.model_laws.proofs.DecideClaims.{fits}
 use Rattle.model_laws.proofs.ExampleEmpty
 use Rattle.model_laws.proofs.ExampleKgons
 use Rattle.model_laws.proofs.ExampleDistances
 use Rattle.model_laws.proofs.ExampleCentres
-use Rattle.model_laws.proofs.Literals.{minus, at, over, space_over, fraction, span, box, pair}
+use Rattle.model_laws.proofs.Literals.{fraction, box, pair}
 
 abbrev BoxFits : EmptyAnswer → Type 0
 BoxFits a = Fits (ask_empty ExampleEmpty.frame) (plane ExampleEmpty.one_point) (empty a)

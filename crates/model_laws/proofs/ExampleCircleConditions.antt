@@ -1,9 +1,9 @@
 -- Circles that fail in one of the conditions of a checker alone.
-use Rattle.std.proofs.Common.{refl, ℕ, ◌+◌, ◌^◌, pos, List, [], ◌∷◌}
+use Rattle.std.proofs.Common.{refl, ◌+◌, ◌^◌, pos, List, [], ◌∷◌}
 use Rattle.bounds_model.specs.Plane.{PlanePoint, PlaneRatio}
 use Rattle.bounds_model.specs.Fractions.{Fraction}
 use Rattle.bounds_model.specs.BallAnswer.{Weighted, CircleAnswer, CirclePlaces, PassesCircle}
-use Rattle.model_laws.proofs.Decisions.{by_test, by_failed_test, by_one_failure}
+use Rattle.model_laws.proofs.Decisions.{by_test, by_one_failure}
 use Rattle.model_laws.proofs.DecideBall.{circle_places, circle_passes}
 use Rattle.model_laws.proofs.ExampleBalls.{triangle, unit_square}
 use Rattle.model_laws.proofs.Literals.{minus, at, over, fraction, support, signed_support}

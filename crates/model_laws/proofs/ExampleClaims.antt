@@ -1,22 +1,22 @@
 -- Answers around points whose object fits and whose size is printed, and some that fail in one condition alone.
-use Rattle.std.proofs.Common.{refl, pos, List, [], ◌∷◌}
+use Rattle.std.proofs.Common.{refl, pos}
 use Rattle.bounds_model.specs.BallAnswer.{CircleAnswer, SphereAnswer}
 use Rattle.bounds_model.specs.StripAnswer.{StripAnswer}
 use Rattle.bounds_model.specs.RectangleAnswer.{RectangleAnswer}
 use Rattle.bounds_model.specs.ParallelogramAnswer.{ParallelogramAnswer}
 use Rattle.bounds_model.specs.AnnulusAnswer.{AnnulusAnswer}
 use Rattle.bounds_model.specs.Asks.Ask.{ask_circle, ask_sphere, ask_rectangle, ask_parallelogram, ask_strip, ask_annulus}
-use Rattle.bounds_model.specs.Asks.Sets.{plane, space, two, bare}
+use Rattle.bounds_model.specs.Asks.Sets.{plane, space}
 use Rattle.bounds_model.specs.Answers.{Fits}
 use Rattle.bounds_model.specs.Answers.Answer.{circle, sphere, rectangle, parallelogram, strip, annulus}
-use Rattle.model_laws.proofs.Decisions.{Decision, by_test, by_failed_test, by_one_failure}
+use Rattle.model_laws.proofs.Decisions.{Decision, by_test, by_one_failure}
 use Rattle.model_laws.proofs.DecideClaims.{fits}
 use Rattle.model_laws.proofs.ExampleBalls.{triangle, over_longest, tetrahedron, around_four}
 use Rattle.model_laws.proofs.ExampleStrips
 use Rattle.model_laws.proofs.ExampleRectangles
 use Rattle.model_laws.proofs.ExampleParallelograms
 use Rattle.model_laws.proofs.ExampleAnnuli
-use Rattle.model_laws.proofs.Literals.{minus, at, over, space_over, fraction, span, box, pair}
+use Rattle.model_laws.proofs.Literals.{fraction, span}
 
 -- an object that fits need not be best: each size is that of the object, in lowest terms
 

@@ -1,12 +1,11 @@
 -- Distances that fail in one of the conditions of a checker alone.
 use Rattle.std.proofs.Common.{refl, ℕ, ◌+◌, ◌^◌, pos, List, [], ◌∷◌}
-use Rattle.bounds_model.specs.Space.{SpacePoint, SpaceRatio}
-use Rattle.bounds_model.specs.Fractions.{Fraction}
+use Rattle.bounds_model.specs.Space.{SpacePoint}
 use Rattle.bounds_model.specs.AnnulusAnswer.{WeightedPair}
 use Rattle.bounds_model.specs.DistanceAnswer.{DistanceAnswer, DistancePlaces, PassesDistance}
-use Rattle.model_laws.proofs.Decisions.{by_test, by_failed_test, by_one_failure}
+use Rattle.model_laws.proofs.Decisions.{by_test, by_one_failure}
 use Rattle.model_laws.proofs.DecideDistance.{distance_places, distance_passes}
-use Rattle.model_laws.proofs.Literals.{minus, in_space, signed_in_space, space_over, fraction, pair, signed_pair}
+use Rattle.model_laws.proofs.Literals.{minus, in_space, signed_in_space, space_over, fraction, pair}
 
 -- ---- a point and a triangle
 

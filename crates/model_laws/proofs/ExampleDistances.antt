@@ -7,7 +7,7 @@ use Rattle.bounds_model.specs.Asks.Ask.{ask_distance}
 use Rattle.bounds_model.specs.Asks.Sets.{two}
 use Rattle.bounds_model.specs.Answers.{Passes}
 use Rattle.bounds_model.specs.Answers.Answer.{distance}
-use Rattle.model_laws.proofs.Decisions.{by_test, by_failed_test}
+use Rattle.model_laws.proofs.Decisions.{by_test, by_failed_test, by_one_failure}
 use Rattle.model_laws.proofs.DecideAnswers.{passes}
 use Rattle.model_laws.proofs.Literals.{minus, in_space, space_over, fraction, pair}
 
@@ -36,13 +36,13 @@ abbrev in_direction : SpacePoint → DistanceAnswer
 in_direction direction = record to_middle { direction = direction }
 
 turned_fails : ¬ Passes ask_distance (two corner facing) (distance (in_direction (in_space 1 1 1)))
-turned_fails = by_failed_test (passes ask_distance (two corner facing) (distance (in_direction (in_space 1 1 1)))) refl
+turned_fails = by_one_failure (passes ask_distance (two corner facing) (distance (in_direction (in_space 1 1 1)))) refl refl
 
 unreduced_fails : ¬ Passes ask_distance (two corner facing) (distance (in_direction (record { x = minus 2; y = minus 2; z = minus 2 })))
-unreduced_fails = by_failed_test (passes ask_distance (two corner facing) (distance (in_direction (record { x = minus 2; y = minus 2; z = minus 2 })))) refl
+unreduced_fails = by_one_failure (passes ask_distance (two corner facing) (distance (in_direction (record { x = minus 2; y = minus 2; z = minus 2 })))) refl refl
 
 no_direction_fails : ¬ Passes ask_distance (two corner facing) (distance (in_direction (in_space 0 0 0)))
-no_direction_fails = by_failed_test (passes ask_distance (two corner facing) (distance (in_direction (in_space 0 0 0)))) refl
+no_direction_fails = by_one_failure (passes ask_distance (two corner facing) (distance (in_direction (in_space 0 0 0)))) refl refl
 
 -- other weights
 abbrev lopsided : DistanceAnswer
@@ -62,7 +62,7 @@ to_first = record {
 }
 
 to_first_fails : ¬ Passes ask_distance (two corner facing) (distance to_first)
-to_first_fails = by_failed_test (passes ask_distance (two corner facing) (distance to_first)) refl
+to_first_fails = by_one_failure (passes ask_distance (two corner facing) (distance to_first)) refl refl
 
 -- a distance of 0, where the hulls do not meet
 abbrev nothing : DistanceAnswer

@@ -8,7 +8,7 @@ use Rattle.bounds_model.specs.Asks.Ask.{ask_empty}
 use Rattle.bounds_model.specs.Asks.Sets.{plane, bare}
 use Rattle.bounds_model.specs.Answers.{Passes}
 use Rattle.bounds_model.specs.Answers.Answer.{empty}
-use Rattle.model_laws.proofs.Decisions.{by_test, by_failed_test}
+use Rattle.model_laws.proofs.Decisions.{by_test, by_failed_test, by_one_failure}
 use Rattle.model_laws.proofs.DecideAnswers.{passes}
 use Rattle.model_laws.proofs.Literals.{at, fraction, box}
 
@@ -38,21 +38,21 @@ abbrev resting_on_frame : EmptyAnswer
 resting_on_frame = record beside { left = side }
 
 resting_on_frame_fails : ¬ Passes (ask_empty frame) (plane one_point) (empty resting_on_frame)
-resting_on_frame_fails = by_failed_test (passes (ask_empty frame) (plane one_point) (empty resting_on_frame)) refl
+resting_on_frame_fails = by_one_failure (passes (ask_empty frame) (plane one_point) (empty resting_on_frame)) refl refl
 
 -- the one below the point, which is smaller
 abbrev pub below : EmptyAnswer
 below = record { size = fraction 8 1; box = box 0 0 4 2; left = side; bottom = side; right = side; top = point 0 }
 
 below_fails : ¬ Passes (ask_empty frame) (plane one_point) (empty below)
-below_fails = by_failed_test (passes (ask_empty frame) (plane one_point) (empty below)) refl
+below_fails = by_one_failure (passes (ask_empty frame) (plane one_point) (empty below)) refl refl
 
 -- the whole frame, which is not empty
 abbrev whole : EmptyAnswer
 whole = record { size = fraction 16 1; box = frame; left = side; bottom = side; right = side; top = side }
 
 whole_fails : ¬ Passes (ask_empty frame) (plane one_point) (empty whole)
-whole_fails = by_failed_test (passes (ask_empty frame) (plane one_point) (empty whole)) refl
+whole_fails = by_one_failure (passes (ask_empty frame) (plane one_point) (empty whole)) refl refl
 
 -- ---- it passes where no point is strictly inside the frame
 

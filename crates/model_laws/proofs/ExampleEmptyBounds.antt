@@ -1,9 +1,9 @@
 -- Empty rectangles outside the frame, in frames without an inside, smaller than another, or with numbers past their places.
-use Rattle.std.proofs.Common.{refl, ℕ, ◌+◌, ◌^◌, ℤ, pos, List, [], ◌∷◌}
+use Rattle.std.proofs.Common.{refl, ℕ, ◌+◌, ◌^◌, pos, List, [], ◌∷◌}
 use Rattle.bounds_model.specs.Plane.{PlanePoint}
 use Rattle.bounds_model.specs.Fractions.{Fraction}
 use Rattle.bounds_model.specs.EmptyRectangle.{Box}
-use Rattle.bounds_model.specs.EmptyAnswer.{Blocker, EmptyAnswer, EmptyPlaces, PassesEmpty}
+use Rattle.bounds_model.specs.EmptyAnswer.{EmptyAnswer, EmptyPlaces, PassesEmpty}
 use Rattle.bounds_model.specs.EmptyAnswer.Blocker.{side, point}
 use Rattle.model_laws.proofs.Decisions.{by_test, by_failed_test, by_one_failure}
 use Rattle.model_laws.proofs.DecideEmpty.{empty_places, empty_passes}

@@ -1,12 +1,12 @@
 -- Empty rectangles that fail in one of the conditions of a checker alone.
-use Rattle.std.proofs.Common.{refl, ℕ, ◌+◌, ◌^◌, ℤ, pos, List, [], ◌∷◌}
+use Rattle.std.proofs.Common.{refl, pos, List, [], ◌∷◌}
 use Rattle.bounds_model.specs.Plane.{PlanePoint}
 use Rattle.bounds_model.specs.EmptyRectangle.{Box}
-use Rattle.bounds_model.specs.EmptyAnswer.{Blocker, EmptyAnswer, EmptyPlaces, PassesEmpty}
+use Rattle.bounds_model.specs.EmptyAnswer.{Blocker, EmptyAnswer, PassesEmpty}
 use Rattle.bounds_model.specs.EmptyAnswer.Blocker.{side, point}
-use Rattle.model_laws.proofs.Decisions.{by_test, by_failed_test, by_one_failure}
-use Rattle.model_laws.proofs.DecideEmpty.{empty_places, empty_passes}
-use Rattle.model_laws.proofs.Literals.{minus, at, left_at, signed_at, fraction, box, signed_box}
+use Rattle.model_laws.proofs.Decisions.{by_test, by_one_failure}
+use Rattle.model_laws.proofs.DecideEmpty.{empty_passes}
+use Rattle.model_laws.proofs.Literals.{minus, at, left_at, signed_at, fraction, signed_box}
 
 abbrev frame : Box
 frame = signed_box (minus 4) (minus 4) (pos 4) (pos 4)

@@ -1,8 +1,8 @@
 -- Frames, points inside boxes, and empty rectangles that fit or fail in one condition alone.
-use Rattle.std.proofs.Common.{◌≡◌, refl, ℕ, ℤ, pos, List, [], ◌∷◌}
+use Rattle.std.proofs.Common.{◌≡◌, refl, ℕ, pos, List, [], ◌∷◌}
 use Rattle.bounds_model.specs.Plane.{PlanePoint}
 use Rattle.bounds_model.specs.EmptyRectangle.{Box, IsFrame, IsStrictlyInside, EmptyRectangle, FitsEmpty, empty_size}
-use Rattle.model_laws.proofs.Decisions.{by_test, by_failed_test, by_one_failure}
+use Rattle.model_laws.proofs.Decisions.{by_test, by_one_failure}
 use Rattle.model_laws.proofs.DecideEmpty.{strictly_inside}
 use Rattle.model_laws.proofs.DecideFits.{is_frame, fits_empty}
 use Rattle.model_laws.proofs.Literals.{minus, at, fraction, box, signed_box}

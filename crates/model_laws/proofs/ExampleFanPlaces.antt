@@ -3,8 +3,8 @@ use Rattle.std.proofs.Common.{refl, ℕ, ◌+◌, ◌^◌, pos, List, [], ◌∷
 use Rattle.bounds_model.specs.Plane.{PlanePoint}
 use Rattle.bounds_model.specs.Fans.{HalfFan, HalfCone, QuarterFan, QuarterCone, IsShort, HalfPlaces, QuarterPlaces}
 use Rattle.bounds_model.specs.StripAnswer.{IsShortSpan}
-use Rattle.bounds_model.specs.ParallelogramAnswer.{Chord, IsShortChord, ChordPlaces}
-use Rattle.model_laws.proofs.Decisions.{by_test, by_failed_test, by_one_failure}
+use Rattle.bounds_model.specs.ParallelogramAnswer.{IsShortChord, ChordPlaces}
+use Rattle.model_laws.proofs.Decisions.{by_test, by_one_failure}
 use Rattle.model_laws.proofs.DecideFans.{short, short_span, half_places, quarter_places, short_chord, chord_places}
 use Rattle.model_laws.proofs.Literals.{minus, at, span, signed_at, half_cone, quarter_cone, signed_chord, chord}
 

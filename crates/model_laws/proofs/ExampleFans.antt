@@ -1,12 +1,11 @@
 -- Fans that hold for points, and some that fail in one condition alone.
-use Rattle.std.proofs.Common.{refl, ℕ, ◌+◌, ◌^◌, pos, List, [], ◌∷◌}
+use Rattle.std.proofs.Common.{refl, List, [], ◌∷◌}
 use Rattle.bounds_model.specs.Plane.{PlanePoint}
-use Rattle.bounds_model.specs.Fans.{HalfCone, HalfFan, QuarterCone, QuarterFan, AreExtreme, TurnLeft, east, west, HoldsHalf, HoldsQuarter, IsShort, HalfPlaces, QuarterPlaces}
-use Rattle.bounds_model.specs.StripAnswer.{IsShortSpan}
-use Rattle.model_laws.proofs.Decisions.{by_test, by_failed_test, by_one_failure}
-use Rattle.model_laws.proofs.DecideFans.{extreme, turn_left, holds_half, holds_quarter, short, short_span, half_places, quarter_places}
+use Rattle.bounds_model.specs.Fans.{HalfCone, HalfFan, QuarterCone, QuarterFan, AreExtreme, TurnLeft, east, west, HoldsHalf, HoldsQuarter}
+use Rattle.model_laws.proofs.Decisions.{by_test, by_one_failure}
+use Rattle.model_laws.proofs.DecideFans.{extreme, turn_left, holds_half, holds_quarter}
 use Rattle.model_laws.proofs.ExampleBalls.{triangle}
-use Rattle.model_laws.proofs.Literals.{minus, at, left_at, span, signed_at, half_cone, quarter_cone}
+use Rattle.model_laws.proofs.Literals.{at, left_at, half_cone, quarter_cone}
 
 -- ---- extreme points, and directions that turn left
 

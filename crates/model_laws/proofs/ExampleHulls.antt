@@ -5,7 +5,7 @@ use Rattle.bounds_model.specs.Hull.{AreRing, AreEnds, IsOnlyPoint, AreCorners}
 use Rattle.bounds_model.specs.CornerTest.{GoAround, LeadToGreatest, CornersPass}
 use Rattle.model_laws.proofs.Decisions.{by_test, by_failed_test, by_one_failure}
 use Rattle.model_laws.proofs.DecideKgon.{ring, ends, only_point, are_corners, go_around, lead_to_greatest, corners_pass}
-use Rattle.model_laws.proofs.Literals.{at, left_at}
+use Rattle.model_laws.proofs.Literals.{at}
 
 abbrev square : List PlanePoint
 square = at 0 0 ∷ at 2 0 ∷ at 2 2 ∷ at 0 2 ∷ []

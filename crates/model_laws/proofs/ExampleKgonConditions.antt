@@ -1,8 +1,8 @@
 -- Polygons that fail in one of the conditions of a checker alone.
-use Rattle.std.proofs.Common.{refl, ℕ, zero, suc, ◌+◌, ◌^◌, ℤ, pos, List, [], ◌∷◌, map}
+use Rattle.std.proofs.Common.{refl, ℕ, zero, suc, ◌+◌, ◌^◌, pos, List, [], ◌∷◌, map}
 use Rattle.bounds_model.specs.Plane.{PlanePoint}
 use Rattle.bounds_model.specs.KgonAnswer.{KgonAnswer, KgonPlaces, PassesKgon}
-use Rattle.model_laws.proofs.Decisions.{by_test, by_failed_test, by_one_failure}
+use Rattle.model_laws.proofs.Decisions.{by_test, by_one_failure}
 use Rattle.model_laws.proofs.DecideKgon.{kgon_places, kgon_passes}
 use Rattle.model_laws.proofs.Literals.{minus, at, fraction}
 

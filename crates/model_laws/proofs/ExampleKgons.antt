@@ -8,7 +8,7 @@ use Rattle.bounds_model.specs.Asks.Ask.{ask_kgon}
 use Rattle.bounds_model.specs.Asks.Sets.{plane}
 use Rattle.bounds_model.specs.Answers.{Passes}
 use Rattle.bounds_model.specs.Answers.Answer.{kgon}
-use Rattle.model_laws.proofs.Decisions.{by_test, by_failed_test}
+use Rattle.model_laws.proofs.Decisions.{by_test, by_failed_test, by_one_failure}
 use Rattle.model_laws.proofs.DecideKgon.{are_corners, corners_pass}
 use Rattle.model_laws.proofs.DecideAnswers.{passes}
 use Rattle.model_laws.proofs.Literals.{at, fraction}
@@ -30,21 +30,21 @@ half_passes = by_test (passes (ask_kgon 3) (plane square) (kgon half)) refl
 
 -- a potential that is too small to grow, or larger than twice the size
 too_small_fails : ¬ Passes (ask_kgon 3) (plane square) (kgon (with_potentials (0 ∷ 4 ∷ 3 ∷ 0 ∷ 4 ∷ 0 ∷ [])))
-too_small_fails = by_failed_test (passes (ask_kgon 3) (plane square) (kgon (with_potentials (0 ∷ 4 ∷ 3 ∷ 0 ∷ 4 ∷ 0 ∷ [])))) refl
+too_small_fails = by_one_failure (passes (ask_kgon 3) (plane square) (kgon (with_potentials (0 ∷ 4 ∷ 3 ∷ 0 ∷ 4 ∷ 0 ∷ [])))) refl refl
 
 too_large_fails : ¬ Passes (ask_kgon 3) (plane square) (kgon (with_potentials (0 ∷ 4 ∷ 5 ∷ 0 ∷ 4 ∷ 0 ∷ [])))
-too_large_fails = by_failed_test (passes (ask_kgon 3) (plane square) (kgon (with_potentials (0 ∷ 4 ∷ 5 ∷ 0 ∷ 4 ∷ 0 ∷ [])))) refl
+too_large_fails = by_one_failure (passes (ask_kgon 3) (plane square) (kgon (with_potentials (0 ∷ 4 ∷ 5 ∷ 0 ∷ 4 ∷ 0 ∷ [])))) refl refl
 
 -- the same where four corners may be chosen
 half_of_four_fails : ¬ Passes (ask_kgon 4) (plane square) (kgon half)
-half_of_four_fails = by_failed_test (passes (ask_kgon 4) (plane square) (kgon half)) refl
+half_of_four_fails = by_one_failure (passes (ask_kgon 4) (plane square) (kgon half)) refl refl
 
 -- corners that do not begin with the least point, turn right, or leave one out
 abbrev with_corners : List ℕ → KgonAnswer
 with_corners corners = record half { corners = corners }
 
 begun_late_fails : ¬ Passes (ask_kgon 3) (plane square) (kgon (with_corners (1 ∷ 2 ∷ 3 ∷ 0 ∷ [])))
-begun_late_fails = by_failed_test (passes (ask_kgon 3) (plane square) (kgon (with_corners (1 ∷ 2 ∷ 3 ∷ 0 ∷ [])))) refl
+begun_late_fails = by_one_failure (passes (ask_kgon 3) (plane square) (kgon (with_corners (1 ∷ 2 ∷ 3 ∷ 0 ∷ [])))) refl refl
 
 clockwise_fails : ¬ Passes (ask_kgon 3) (plane square) (kgon (with_corners (0 ∷ 3 ∷ 2 ∷ 1 ∷ [])))
 clockwise_fails = by_failed_test (passes (ask_kgon 3) (plane square) (kgon (with_corners (0 ∷ 3 ∷ 2 ∷ 1 ∷ [])))) refl
@@ -53,7 +53,7 @@ abbrev three_corners : KgonAnswer
 three_corners = record half { corners = 0 ∷ 1 ∷ 2 ∷ []; potentials = map pos (0 ∷ 4 ∷ 0 ∷ []) }
 
 three_corners_fails : ¬ Passes (ask_kgon 3) (plane square) (kgon three_corners)
-three_corners_fails = by_failed_test (passes (ask_kgon 3) (plane square) (kgon three_corners)) refl
+three_corners_fails = by_one_failure (passes (ask_kgon 3) (plane square) (kgon three_corners)) refl refl
 
 -- ---- all four corners, over two layers: the place of each potential in the list matters
 
@@ -67,10 +67,10 @@ whole_passes : Passes (ask_kgon 5) (plane square) (kgon whole)
 whole_passes = by_test (passes (ask_kgon 5) (plane square) (kgon whole)) refl
 
 shifted_fails : ¬ Passes (ask_kgon 5) (plane square) (kgon (with_layers (0 ∷ 4 ∷ 4 ∷ 0 ∷ 8 ∷ 4 ∷ 0 ∷ 4 ∷ 0 ∷ 4 ∷ 0 ∷ 0 ∷ [])))
-shifted_fails = by_failed_test (passes (ask_kgon 5) (plane square) (kgon (with_layers (0 ∷ 4 ∷ 4 ∷ 0 ∷ 8 ∷ 4 ∷ 0 ∷ 4 ∷ 0 ∷ 4 ∷ 0 ∷ 0 ∷ [])))) refl
+shifted_fails = by_one_failure (passes (ask_kgon 5) (plane square) (kgon (with_layers (0 ∷ 4 ∷ 4 ∷ 0 ∷ 8 ∷ 4 ∷ 0 ∷ 4 ∷ 0 ∷ 4 ∷ 0 ∷ 0 ∷ [])))) refl refl
 
 layers_exchanged_fails : ¬ Passes (ask_kgon 5) (plane square) (kgon (with_layers (0 ∷ 4 ∷ 8 ∷ 0 ∷ 4 ∷ 4 ∷ 0 ∷ 4 ∷ 0 ∷ 4 ∷ 0 ∷ 0 ∷ [])))
-layers_exchanged_fails = by_failed_test (passes (ask_kgon 5) (plane square) (kgon (with_layers (0 ∷ 4 ∷ 8 ∷ 0 ∷ 4 ∷ 4 ∷ 0 ∷ 4 ∷ 0 ∷ 4 ∷ 0 ∷ 0 ∷ [])))) refl
+layers_exchanged_fails = by_one_failure (passes (ask_kgon 5) (plane square) (kgon (with_layers (0 ∷ 4 ∷ 8 ∷ 0 ∷ 4 ∷ 4 ∷ 0 ∷ 4 ∷ 0 ∷ 4 ∷ 0 ∷ 0 ∷ [])))) refl refl
 
 -- ---- points on a line, and one point
 
@@ -81,7 +81,7 @@ line_passes : Passes (ask_kgon 3) (plane (at 1 1 ∷ at 0 0 ∷ at 2 2 ∷ [])) 
 line_passes = by_test (passes (ask_kgon 3) (plane (at 1 1 ∷ at 0 0 ∷ at 2 2 ∷ [])) (kgon (flat_kgon (1 ∷ 2 ∷ [])))) refl
 
 short_line_fails : ¬ Passes (ask_kgon 3) (plane (at 1 1 ∷ at 0 0 ∷ at 2 2 ∷ [])) (kgon (flat_kgon (1 ∷ 0 ∷ [])))
-short_line_fails = by_failed_test (passes (ask_kgon 3) (plane (at 1 1 ∷ at 0 0 ∷ at 2 2 ∷ [])) (kgon (flat_kgon (1 ∷ 0 ∷ [])))) refl
+short_line_fails = by_one_failure (passes (ask_kgon 3) (plane (at 1 1 ∷ at 0 0 ∷ at 2 2 ∷ [])) (kgon (flat_kgon (1 ∷ 0 ∷ [])))) refl refl
 
 point_passes : Passes (ask_kgon 3) (plane (at 5 5 ∷ at 5 5 ∷ [])) (kgon (flat_kgon (1 ∷ [])))
 point_passes = by_test (passes (ask_kgon 3) (plane (at 5 5 ∷ at 5 5 ∷ [])) (kgon (flat_kgon (1 ∷ [])))) refl
@@ -96,8 +96,8 @@ square_of_six = by_test (are_corners six square) refl
 
 -- a point on an edge is no corner
 point_on_edge : ¬ AreCorners six (at 0 0 ∷ at 1 0 ∷ at 2 0 ∷ at 2 2 ∷ at 0 2 ∷ [])
-point_on_edge = by_failed_test (are_corners six (at 0 0 ∷ at 1 0 ∷ at 2 0 ∷ at 2 2 ∷ at 0 2 ∷ [])) refl
+point_on_edge = by_one_failure (are_corners six (at 0 0 ∷ at 1 0 ∷ at 2 0 ∷ at 2 2 ∷ at 0 2 ∷ [])) refl refl
 
 -- twice around the square: each corner turns left, and all points are to the left of each edge
 twice_around : ¬ CornersPass six (at 0 0 ∷ at 2 0 ∷ at 2 2 ∷ at 0 2 ∷ at 0 0 ∷ at 2 0 ∷ at 2 2 ∷ at 0 2 ∷ [])
-twice_around = by_failed_test (corners_pass six (at 0 0 ∷ at 2 0 ∷ at 2 2 ∷ at 0 2 ∷ at 0 0 ∷ at 2 0 ∷ at 2 2 ∷ at 0 2 ∷ [])) refl
+twice_around = by_one_failure (corners_pass six (at 0 0 ∷ at 2 0 ∷ at 2 2 ∷ at 0 2 ∷ at 0 0 ∷ at 2 0 ∷ at 2 2 ∷ at 0 2 ∷ [])) refl refl

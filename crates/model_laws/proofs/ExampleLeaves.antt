@@ -1,11 +1,10 @@
 -- Leaves of three squares, in the order of their corners, and the places of leaves.
 use Rattle.std.proofs.Common.{◌≡◌, refl, ℕ, zero, suc, pos, List, [], ◌∷◌, ◌++◌}
-use Rattle.bounds_model.specs.Plane.{PlanePoint, PlaneRatio}
-use Rattle.bounds_model.specs.Fractions.{Fraction}
-use Rattle.bounds_model.specs.CentresAnswer.{Leaf, CentresAnswer, CentresPlaces, PassesCentres, digits, side, corner_square, Square}
-use Rattle.model_laws.proofs.Decisions.{by_test, by_failed_test, by_one_failure}
+use Rattle.bounds_model.specs.Plane.{PlanePoint}
+use Rattle.bounds_model.specs.CentresAnswer.{Leaf, CentresAnswer, CentresPlaces, PassesCentres, digits, side, corner_square}
+use Rattle.model_laws.proofs.Decisions.{by_test, by_one_failure}
 use Rattle.model_laws.proofs.DecideCentres.{centres_places, centres_passes}
-use Rattle.model_laws.proofs.Literals.{minus, at, over, fraction, leaf}
+use Rattle.model_laws.proofs.Literals.{at, over, fraction, leaf}
 
 abbrev five_points : List PlanePoint
 five_points = at 0 0 ∷ at 4 0 ∷ at 0 10 ∷ at 20 12 ∷ at 23 13 ∷ []

@@ -1,12 +1,12 @@
 -- Ranges, fractions and places of numbers: at each limit, and one past it.
-use Rattle.std.proofs.Common.{refl, ℕ, ◌+◌, ◌^◌, pos, List, [], ◌∷◌}
+use Rattle.std.proofs.Common.{refl, ℕ, ◌+◌, ◌^◌, pos, [], ◌∷◌}
 use Rattle.bounds_model.specs.Numbers.{IsWithin, HasCount}
 use Rattle.bounds_model.specs.Fractions.{SameValue, HaveNoCommonFactor, IsNotNegative, IsLowest}
-use Rattle.bounds_model.specs.Places.{IsNatural, IsPair, IsSpan, IsFraction, IsPlaneRatio, IsSpaceRatio}
-use Rattle.model_laws.proofs.Decisions.{by_test, by_failed_test, by_one_failure}
+use Rattle.bounds_model.specs.Places.{IsNatural, IsPair, IsSpan, IsFraction, IsPlaneRatio}
+use Rattle.model_laws.proofs.Decisions.{by_test, by_one_failure}
 use Rattle.model_laws.proofs.CommonFactors.{no_common_factor}
-use Rattle.model_laws.proofs.DecideParts.{within, counted, natural, same_value, pair_placed, span_placed, not_negative, lowest, fraction_placed, plane_ratio_placed, space_ratio_placed}
-use Rattle.model_laws.proofs.Literals.{minus, at, over, space_over, fraction, span, signed_at, signed_over, signed_space_over, signed_fraction}
+use Rattle.model_laws.proofs.DecideParts.{within, counted, natural, same_value, pair_placed, span_placed, not_negative, lowest, fraction_placed, plane_ratio_placed}
+use Rattle.model_laws.proofs.Literals.{minus, at, over, fraction, span, signed_at, signed_over, signed_fraction}
 
 -- ---- ranges and counts
 

@@ -1,12 +1,8 @@
 -- Places of the numbers of rectangles and parallelograms: each one past its limit.
-use Rattle.std.proofs.Common.{refl, ℕ, ◌+◌, ◌^◌, pos, List, [], ◌∷◌}
-use Rattle.bounds_model.specs.Plane.{PlanePoint}
-use Rattle.bounds_model.specs.Fractions.{Fraction}
-use Rattle.bounds_model.specs.Strip.{Span}
-use Rattle.bounds_model.specs.Fans.{HalfCone}
+use Rattle.std.proofs.Common.{refl, ℕ, ◌+◌, ◌^◌, pos, [], ◌∷◌}
 use Rattle.bounds_model.specs.RectangleAnswer.{RectangleAnswer, RectanglePlaces}
-use Rattle.bounds_model.specs.ParallelogramAnswer.{Chord, ParallelogramAnswer, ParallelogramPlaces}
-use Rattle.model_laws.proofs.Decisions.{by_test, by_failed_test, by_one_failure}
+use Rattle.bounds_model.specs.ParallelogramAnswer.{ParallelogramAnswer, ParallelogramPlaces}
+use Rattle.model_laws.proofs.Decisions.{by_test, by_one_failure}
 use Rattle.model_laws.proofs.DecideFans.{rectangle_places, parallelogram_places}
 use Rattle.model_laws.proofs.Literals.{minus, at, left_at, fraction, span, half_cone, quarter_cone, chord}
 

@@ -1,11 +1,11 @@
 -- Parallelograms that fail in one of the conditions of a checker alone.
-use Rattle.std.proofs.Common.{refl, ℕ, ◌+◌, ◌^◌, ℤ, pos, List, [], ◌∷◌, ◌++◌}
+use Rattle.std.proofs.Common.{refl, ℕ, pos, List, [], ◌∷◌}
 use Rattle.bounds_model.specs.Plane.{PlanePoint}
 use Rattle.bounds_model.specs.Fractions.{Fraction}
 use Rattle.bounds_model.specs.Strip.{Span}
 use Rattle.bounds_model.specs.Fans.{HalfCone}
 use Rattle.bounds_model.specs.ParallelogramAnswer.{Chord, ParallelogramAnswer, PassesParallelogram}
-use Rattle.model_laws.proofs.Decisions.{by_test, by_failed_test, by_one_failure}
+use Rattle.model_laws.proofs.Decisions.{by_test, by_one_failure}
 use Rattle.model_laws.proofs.DecideFans.{parallelogram_passes}
 use Rattle.model_laws.proofs.ExampleBalls.{triangle}
 use Rattle.model_laws.proofs.Literals.{minus, at, left_at, fraction, span, half_cone, chord, slanted}

@@ -5,7 +5,7 @@ use Rattle.bounds_model.specs.Asks.Ask.{ask_parallelogram}
 use Rattle.bounds_model.specs.Asks.Sets.{plane}
 use Rattle.bounds_model.specs.Answers.{Passes}
 use Rattle.bounds_model.specs.Answers.Answer.{parallelogram}
-use Rattle.model_laws.proofs.Decisions.{by_test, by_failed_test}
+use Rattle.model_laws.proofs.Decisions.{by_test, by_failed_test, by_one_failure}
 use Rattle.model_laws.proofs.DecideAnswers.{passes}
 use Rattle.model_laws.proofs.ExampleBalls.{triangle}
 use Rattle.model_laws.proofs.Literals.{minus, at, left_at, fraction, span, half_cone, chord}
@@ -37,7 +37,7 @@ abbrev turned : ParallelogramAnswer
 turned = with_chords (first_three (chord 0 2 2 1 0 (pos 3) ∷ []))
 
 turned_fails : ¬ Passes ask_parallelogram (plane triangle) (parallelogram turned)
-turned_fails = by_failed_test (passes ask_parallelogram (plane triangle) (parallelogram turned)) refl
+turned_fails = by_one_failure (passes ask_parallelogram (plane triangle) (parallelogram turned)) refl refl
 
 abbrev one_too_few : ParallelogramAnswer
 one_too_few = with_chords (first_three [])
@@ -50,18 +50,18 @@ abbrev empty_chord : ParallelogramAnswer
 empty_chord = with_chords (first_three (chord 0 2 2 0 0 (pos 0) ∷ []))
 
 empty_chord_fails : ¬ Passes ask_parallelogram (plane triangle) (parallelogram empty_chord)
-empty_chord_fails = by_failed_test (passes ask_parallelogram (plane triangle) (parallelogram empty_chord)) refl
+empty_chord_fails = by_one_failure (passes ask_parallelogram (plane triangle) (parallelogram empty_chord)) refl refl
 
 -- a chord that is too short
 abbrev short_chord : ParallelogramAnswer
 short_chord = with_chords (first_three (chord 0 2 0 1 1 (minus 3) ∷ []))
 
 short_chord_fails : ¬ Passes ask_parallelogram (plane triangle) (parallelogram short_chord)
-short_chord_fails = by_failed_test (passes ask_parallelogram (plane triangle) (parallelogram short_chord)) refl
+short_chord_fails = by_one_failure (passes ask_parallelogram (plane triangle) (parallelogram short_chord)) refl refl
 
 -- a parallelogram with room to spare
 abbrev roomy : ParallelogramAnswer
 roomy = record upright { size = fraction 15 1; first_bounds = span (pos 0) (pos 5) }
 
 roomy_fails : ¬ Passes ask_parallelogram (plane triangle) (parallelogram roomy)
-roomy_fails = by_failed_test (passes ask_parallelogram (plane triangle) (parallelogram roomy)) refl
+roomy_fails = by_one_failure (passes ask_parallelogram (plane triangle) (parallelogram roomy)) refl refl

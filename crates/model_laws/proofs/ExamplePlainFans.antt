@@ -1,9 +1,8 @@
 -- Fans that are plain, and some that fail in one condition alone.
-use Rattle.std.proofs.Common.{refl, pos, List, [], ◌∷◌}
-use Rattle.bounds_model.specs.Plane.{PlanePoint}
+use Rattle.std.proofs.Common.{refl, pos, [], ◌∷◌}
 use Rattle.bounds_model.specs.Fans.{half_directions, quarter_directions}
 use Rattle.bounds_model.specs.PlainFans.{IsUpright, IsUprightOrAlong, IsPlainHalf, IsPlainQuarter}
-use Rattle.model_laws.proofs.Decisions.{by_test, by_failed_test, by_one_failure}
+use Rattle.model_laws.proofs.Decisions.{by_test, by_one_failure}
 use Rattle.model_laws.proofs.DecidePlain.{upright, upright_or_along, plain_half, plain_quarter}
 use Rattle.model_laws.proofs.Literals.{minus, at, left_at, signed_at}
 use Rattle.model_laws.proofs.ExampleBalls.{triangle}

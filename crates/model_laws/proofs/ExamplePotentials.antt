@@ -3,7 +3,7 @@ use Rattle.std.proofs.Common.{◌≡◌, refl, ℤ, pos, ◌<ℤ◌, List, [], �
 use Rattle.std.specs.Prelude.{All}
 use Rattle.bounds_model.specs.Space.{SpacePoint}
 use Rattle.bounds_model.specs.Potentials.{WeightedVector, AreEqualPotentials, IsLow, IsDependence, value, potential}
-use Rattle.model_laws.proofs.Decisions.{Decision, by_test, by_failed_test, by_one_failure, all, equal_ℤ, less_ℤ}
+use Rattle.model_laws.proofs.Decisions.{Decision, by_test, by_one_failure, all, equal_ℤ, less_ℤ}
 use Rattle.model_laws.proofs.DecideFits.{dependence}
 use Rattle.model_laws.proofs.Literals.{minus, in_space, signed_in_space, fraction, signed_fraction}
 

@@ -5,7 +5,7 @@ use Rattle.bounds_model.specs.Fractions.{Fraction}
 use Rattle.bounds_model.specs.Strip.{Span}
 use Rattle.bounds_model.specs.Fans.{QuarterCone}
 use Rattle.bounds_model.specs.RectangleAnswer.{RectangleAnswer, PassesRectangle}
-use Rattle.model_laws.proofs.Decisions.{by_test, by_failed_test, by_one_failure}
+use Rattle.model_laws.proofs.Decisions.{by_test, by_one_failure}
 use Rattle.model_laws.proofs.DecideFans.{rectangle_passes}
 use Rattle.model_laws.proofs.ExampleRectangles.{diamond}
 use Rattle.model_laws.proofs.Literals.{minus, at, left_at, fraction, span, quarter_cone}

@@ -6,7 +6,7 @@ use Rattle.bounds_model.specs.Asks.Ask.{ask_rectangle}
 use Rattle.bounds_model.specs.Asks.Sets.{plane}
 use Rattle.bounds_model.specs.Answers.{Passes}
 use Rattle.bounds_model.specs.Answers.Answer.{rectangle}
-use Rattle.model_laws.proofs.Decisions.{by_test, by_failed_test}
+use Rattle.model_laws.proofs.Decisions.{by_test, by_failed_test, by_one_failure}
 use Rattle.model_laws.proofs.DecideAnswers.{passes}
 use Rattle.model_laws.proofs.Literals.{minus, at, fraction, span, quarter_cone}
 
@@ -31,7 +31,7 @@ abbrev not_highest : RectangleAnswer
 not_highest = record slanted { fan = record { cones = quarter_cone 1 0 3 0 3 1 ∷ quarter_cone 1 1 3 1 0 2 ∷ []; last = at 0 1 } }
 
 not_highest_fails : ¬ Passes ask_rectangle (plane diamond) (rectangle not_highest)
-not_highest_fails = by_failed_test (passes ask_rectangle (plane diamond) (rectangle not_highest)) refl
+not_highest_fails = by_one_failure (passes ask_rectangle (plane diamond) (rectangle not_highest)) refl refl
 
 -- the upright rectangle, whose area is 4, with a fan of the two upright directions alone
 abbrev upright : RectangleAnswer
@@ -51,7 +51,7 @@ abbrev upright_with_fan : RectangleAnswer
 upright_with_fan = record upright { fan = slanted.fan }
 
 upright_with_fan_fails : ¬ Passes ask_rectangle (plane diamond) (rectangle upright_with_fan)
-upright_with_fan_fails = by_failed_test (passes ask_rectangle (plane diamond) (rectangle upright_with_fan)) refl
+upright_with_fan_fails = by_one_failure (passes ask_rectangle (plane diamond) (rectangle upright_with_fan)) refl refl
 
 -- the two bounds exchanged
 abbrev exchanged : RectangleAnswer

@@ -5,7 +5,7 @@ use Rattle.bounds_model.specs.Space.{SpacePoint, SpaceRatio}
 use Rattle.bounds_model.specs.Fractions.{Fraction}
 use Rattle.bounds_model.specs.Ball.{Ball, FitsBall, FitsCircle, ball_size}
 use Rattle.bounds_model.specs.Annulus.{Annulus, FitsAnnulus, annulus_size}
-use Rattle.model_laws.proofs.Decisions.{by_test, by_failed_test, by_one_failure}
+use Rattle.model_laws.proofs.Decisions.{by_test, by_one_failure}
 use Rattle.model_laws.proofs.DecideFits.{fits_ball, fits_circle, fits_annulus}
 use Rattle.model_laws.proofs.Literals.{minus, at, in_space, over, space_over, fraction, signed_fraction}
 

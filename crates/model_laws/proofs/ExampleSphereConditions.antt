@@ -1,9 +1,9 @@
 -- Spheres that fail in one of the conditions of a checker alone.
-use Rattle.std.proofs.Common.{refl, ℕ, ◌+◌, ◌^◌, pos, List, [], ◌∷◌}
+use Rattle.std.proofs.Common.{refl, ◌+◌, ◌^◌, pos, List, [], ◌∷◌}
 use Rattle.bounds_model.specs.Space.{SpacePoint, SpaceRatio}
 use Rattle.bounds_model.specs.Fractions.{Fraction}
 use Rattle.bounds_model.specs.BallAnswer.{Weighted, SphereAnswer, SpherePlaces, PassesSphere}
-use Rattle.model_laws.proofs.Decisions.{by_test, by_failed_test, by_one_failure}
+use Rattle.model_laws.proofs.Decisions.{by_test, by_one_failure}
 use Rattle.model_laws.proofs.DecideBall.{sphere_places, sphere_passes}
 use Rattle.model_laws.proofs.Literals.{minus, in_space, space_over, fraction, support, signed_support}
 

@@ -5,10 +5,10 @@ use Rattle.bounds_model.specs.Fractions.{Fraction}
 use Rattle.bounds_model.specs.Strip.{Span}
 use Rattle.bounds_model.specs.Fans.{HalfCone}
 use Rattle.bounds_model.specs.StripAnswer.{StripAnswer, StripPlaces, PassesStrip}
-use Rattle.model_laws.proofs.Decisions.{by_test, by_failed_test, by_one_failure}
+use Rattle.model_laws.proofs.Decisions.{by_test, by_one_failure}
 use Rattle.model_laws.proofs.DecideFans.{strip_places, strip_passes}
 use Rattle.model_laws.proofs.ExampleBalls.{triangle}
-use Rattle.model_laws.proofs.Literals.{minus, at, left_at, signed_at, fraction, span, half_cone}
+use Rattle.model_laws.proofs.Literals.{at, left_at, fraction, span, half_cone}
 
 -- a strip with the fan of these cones, which ends in the west
 abbrev strip : Fraction → PlanePoint → Span → List HalfCone → StripAnswer

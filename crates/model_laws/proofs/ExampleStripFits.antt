@@ -1,13 +1,13 @@
 -- Strips, rectangles and parallelograms that fit points, and some that fail in one condition alone.
-use Rattle.std.proofs.Common.{◌≡◌, refl, ℕ, ℤ, pos, List, [], ◌∷◌}
+use Rattle.std.proofs.Common.{◌≡◌, refl, ℕ, pos, []}
 use Rattle.bounds_model.specs.Plane.{PlanePoint}
 use Rattle.bounds_model.specs.Strip.{Span, Strip, FitsStrip, strip_size}
 use Rattle.bounds_model.specs.Rectangle.{Rectangle, FitsRectangle, rectangle_size}
 use Rattle.bounds_model.specs.Parallelogram.{Parallelogram, FitsParallelogram, parallelogram_size}
-use Rattle.model_laws.proofs.Decisions.{by_test, by_failed_test, by_one_failure}
+use Rattle.model_laws.proofs.Decisions.{by_test, by_one_failure}
 use Rattle.model_laws.proofs.DecideFits.{fits_strip, fits_rectangle, fits_parallelogram}
 use Rattle.model_laws.proofs.ExampleBalls.{triangle}
-use Rattle.model_laws.proofs.Literals.{minus, at, left_at, fraction, span}
+use Rattle.model_laws.proofs.Literals.{minus, at, fraction, span}
 
 -- ---- strips
 

@@ -7,7 +7,7 @@ use Rattle.bounds_model.specs.Asks.Ask.{ask_strip}
 use Rattle.bounds_model.specs.Asks.Sets.{plane}
 use Rattle.bounds_model.specs.Answers.{Passes}
 use Rattle.bounds_model.specs.Answers.Answer.{strip}
-use Rattle.model_laws.proofs.Decisions.{by_test, by_failed_test}
+use Rattle.model_laws.proofs.Decisions.{by_test, by_failed_test, by_one_failure}
 use Rattle.model_laws.proofs.DecideAnswers.{passes}
 use Rattle.model_laws.proofs.ExampleBalls.{triangle}
 use Rattle.model_laws.proofs.Literals.{minus, at, left_at, fraction, span, half_cone}
@@ -40,7 +40,7 @@ abbrev cut : PlanePoint → StripAnswer
 cut last = with_fan (half_cone 1 0 1 0 ∷ half_cone 3 4 2 0 ∷ []) last
 
 cut_fails : ¬ Passes ask_strip (plane triangle) (strip (cut (at 0 1)))
-cut_fails = by_failed_test (passes ask_strip (plane triangle) (strip (cut (at 0 1)))) refl
+cut_fails = by_one_failure (passes ask_strip (plane triangle) (strip (cut (at 0 1)))) refl refl
 
 stretched_fails : ¬ Passes ask_strip (plane triangle) (strip (cut (left_at 1 0)))
 stretched_fails = by_failed_test (passes ask_strip (plane triangle) (strip (cut (left_at 1 0)))) refl
@@ -57,21 +57,21 @@ abbrev pub level : StripAnswer
 level = record along_longest { size = fraction 9 1; direction = at 0 1; bounds = span (pos 0) (pos 3) }
 
 level_fails : ¬ Passes ask_strip (plane triangle) (strip level)
-level_fails = by_failed_test (passes ask_strip (plane triangle) (strip level)) refl
+level_fails = by_one_failure (passes ask_strip (plane triangle) (strip level)) refl refl
 
 -- a strip with room to spare
 abbrev roomy : StripAnswer
 roomy = record along_longest { size = fraction 169 25; bounds = span (minus 1) (pos 12) }
 
 roomy_fails : ¬ Passes ask_strip (plane triangle) (strip roomy)
-roomy_fails = by_failed_test (passes ask_strip (plane triangle) (strip roomy)) refl
+roomy_fails = by_one_failure (passes ask_strip (plane triangle) (strip roomy)) refl refl
 
 -- no normal at all
 abbrev no_normal : StripAnswer
 no_normal = record along_longest { size = fraction 0 1; direction = at 0 0; bounds = span (pos 0) (pos 0) }
 
 no_normal_fails : ¬ Passes ask_strip (plane triangle) (strip no_normal)
-no_normal_fails = by_failed_test (passes ask_strip (plane triangle) (strip no_normal)) refl
+no_normal_fails = by_one_failure (passes ask_strip (plane triangle) (strip no_normal)) refl refl
 
 -- one point
 abbrev single : StripAnswer
