@@ -90,3 +90,6 @@ size_past = by_one_failure (circle_places (circle (fraction (2 ^ 126 + 1) 1) (ov
 
 centre_past : ¬ CirclePlaces (circle (fraction 1 1) (over (2 ^ 126 + 1) 0 1) (support 0 1 ∷ []))
 centre_past = by_one_failure (circle_places (circle (fraction 1 1) (over (2 ^ 126 + 1) 0 1) (support 0 1 ∷ []))) refl refl
+
+no_places : ¬ CirclePlaces (circle (fraction 1 1) (over 0 0 1) [])
+no_places = by_one_failure (circle_places (circle (fraction 1 1) (over 0 0 1) [])) refl refl

@@ -13,6 +13,9 @@ pub mod DecideClaims
 pub mod DecideAnswers
 pub mod DecidePlain
 pub mod Literals
+pub mod Pigeonhole
+pub mod TurningUp
+pub mod PlainFanLaw
 pub mod Turning
 pub mod CornerLaw
 pub mod NextCorner

@@ -1,8 +1,10 @@
 -- What shows that the definitions are the right ones: statements on the definitions alone.
-use Rattle.std.specs.Prelude.{◌≡◌, ⊤, ℕ, List, All, Contains, IsPermutation}
+use Rattle.std.specs.Prelude.{◌≡◌, ⊤, ℕ, ◌+◌, ◌≤◌, List, length, All, Contains, IsPermutation}
 use Rattle.bounds_model.specs.Plane.{PlanePoint}
 use Rattle.bounds_model.specs.Fractions.{Fraction}
 use Rattle.bounds_model.specs.Hull.{AreCorners}
+use Rattle.bounds_model.specs.Fans.{TurnLeft, east, north, west}
+use Rattle.bounds_model.specs.PlainFans.{IsPlainHalf, IsPlainQuarter}
 use Rattle.bounds_model.specs.CornerTest.{CornersPass}
 use Rattle.bounds_model.specs.KgonAnswer.{KgonAnswer, corner_points, PassesKgon}
 use Rattle.bounds_model.specs.Asks.{Ask, Sets, Suits}
@@ -63,3 +65,11 @@ NamesNumbers ask = ⊥
 -- where the object is not given by numbers of points, a best answer stays best for the points in another order
 abbrev pub BestAnswersHaveNoOrder : Type 0
 BestAnswersHaveNoOrder = (ask : Ask) (sets other : Sets) (answer : Answer) → ¬ NamesNumbers ask → ArePermuted sets other → IsBest ask sets answer → IsBest ask other answer
+
+-- a plain fan over half a turn has at most three directions more than the hull has corners
+abbrev pub PlainHalfFansAreFew : Type 0
+PlainHalfFansAreFew = (corners directions : List PlanePoint) → TurnLeft east west directions → IsPlainHalf corners directions → length directions ≤ length corners + 3
+
+-- and one over a quarter turn at most two
+abbrev pub PlainQuarterFansAreFew : Type 0
+PlainQuarterFansAreFew = (corners directions : List PlanePoint) → TurnLeft east north directions → IsPlainQuarter corners directions → length directions ≤ length corners + 2

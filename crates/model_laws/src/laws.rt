@@ -1,6 +1,6 @@
 //! Laws of the definitions.
 
-ghost use Rattle.model_laws.specs.Laws.{PassingAnswersHavePlaces, FittingPointsSuit, PassingAnswersAreBest, PassingCornersAreCorners, PassingKgonsListCorners, CornersAreUnique, BestSizeIsUnique, OptimumIsUnique, BestSizeHasNoOrder, BestAnswersHaveNoOrder};
+ghost use Rattle.model_laws.specs.Laws.{PassingAnswersHavePlaces, FittingPointsSuit, PassingAnswersAreBest, PassingCornersAreCorners, PassingKgonsListCorners, CornersAreUnique, BestSizeIsUnique, OptimumIsUnique, BestSizeHasNoOrder, BestAnswersHaveNoOrder, PlainHalfFansAreFew, PlainQuarterFansAreFew};
 ghost use Rattle.bounds_model.specs.Asks.Ask.{ask_circle, ask_sphere, ask_centres};
 
 /// An answer that passes has all its numbers in their places.
@@ -61,4 +61,14 @@ pub fn passing_spheres_are_best()
 /// One centre that passes is best.
 pub fn passing_single_centres_are_best()
     ensures { PassingAnswersAreBest (ask_centres 1) }
+{}
+
+/// A plain fan over half a turn has at most three directions more than the hull has corners.
+pub fn plain_half_fans_are_few()
+    ensures { PlainHalfFansAreFew }
+{}
+
+/// A plain fan over a quarter turn has at most two directions more than the hull has corners.
+pub fn plain_quarter_fans_are_few()
+    ensures { PlainQuarterFansAreFew }
 {}
