@@ -133,3 +133,15 @@ y_past = by_one_failure (distance_places (record to_middle { direction = in_spac
 
 z_past : ¬ DistancePlaces (record to_middle { direction = in_space 0 0 past })
 z_past = by_one_failure (distance_places (record to_middle { direction = in_space 0 0 past })) refl refl
+
+size_past : ¬ DistancePlaces (record to_middle { size = fraction past 1 })
+size_past = by_one_failure (distance_places (record to_middle { size = fraction past 1 })) refl refl
+
+from_past : ¬ DistancePlaces (record to_middle { from = space_over past 0 0 1 })
+from_past = by_one_failure (distance_places (record to_middle { from = space_over past 0 0 1 })) refl refl
+
+to_past : ¬ DistancePlaces (record to_middle { to = space_over past 0 0 1 })
+to_past = by_one_failure (distance_places (record to_middle { to = space_over past 0 0 1 })) refl refl
+
+none_in_places : ¬ DistancePlaces (with_pairs [])
+none_in_places = by_one_failure (distance_places (with_pairs [])) refl refl

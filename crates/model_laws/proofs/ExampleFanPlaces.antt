@@ -1,5 +1,5 @@
 -- The limits of directions, of bounds and of the numbers of fans: at each limit, and one past it.
-use Rattle.std.proofs.Common.{refl, ℕ, ◌+◌, ◌^◌, pos, List, [], ◌∷◌}
+use Rattle.std.proofs.Common.{refl, ℕ, zero, suc, ◌+◌, ◌^◌, pos, List, [], ◌∷◌}
 use Rattle.bounds_model.specs.Plane.{PlanePoint}
 use Rattle.bounds_model.specs.Fans.{HalfFan, HalfCone, QuarterFan, QuarterCone, IsShort, HalfPlaces, QuarterPlaces}
 use Rattle.bounds_model.specs.StripAnswer.{IsShortSpan}
@@ -119,3 +119,24 @@ quarter_over_past = by_one_failure (quarter_places (quarter_fan (quarter_cone 1 
 
 quarter_under_past : ¬ QuarterPlaces (quarter_fan (quarter_cone 1 0 0 0 0 10000 ∷ []) (at 0 1))
 quarter_under_past = by_one_failure (quarter_places (quarter_fan (quarter_cone 1 0 0 0 0 10000 ∷ []) (at 0 1))) refl refl
+
+-- a fan with the most directions, and with one more
+abbrev many : ℕ → List HalfCone
+many zero = []
+many (suc count) = half_cone 1 0 0 0 ∷ many count
+
+too_many_cones : ¬ HalfPlaces (half_fan (many 10003) (at 0 1))
+too_many_cones = by_one_failure (half_places (half_fan (many 10003) (at 0 1))) refl refl
+
+most_cones : HalfPlaces (half_fan (many 10002) (at 0 1))
+most_cones = by_test (half_places (half_fan (many 10002) (at 0 1))) refl
+
+abbrev many_quarters : ℕ → List QuarterCone
+many_quarters zero = []
+many_quarters (suc count) = quarter_cone 1 0 0 0 0 0 ∷ many_quarters count
+
+too_many_quarters : ¬ QuarterPlaces (quarter_fan (many_quarters 10003) (at 0 1))
+too_many_quarters = by_one_failure (quarter_places (quarter_fan (many_quarters 10003) (at 0 1))) refl refl
+
+most_quarters : QuarterPlaces (quarter_fan (many_quarters 10002) (at 0 1))
+most_quarters = by_test (quarter_places (quarter_fan (many_quarters 10002) (at 0 1))) refl

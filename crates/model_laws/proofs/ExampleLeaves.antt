@@ -91,3 +91,9 @@ no_squares = by_one_failure (centres_places (record (three_squares []) { squares
 four_squares : ¬ CentresPlaces (record (three_squares []) { squares = over 0 0 1 ∷ over 0 0 1 ∷ over 0 0 1 ∷ over 0 0 1 ∷ [] })
 four_squares =
     by_one_failure (centres_places (record (three_squares []) { squares = over 0 0 1 ∷ over 0 0 1 ∷ over 0 0 1 ∷ over 0 0 1 ∷ [] })) refl refl
+
+size_unreduced : ¬ CentresPlaces (record (three_squares []) { size = fraction 4 2 })
+size_unreduced = by_one_failure (centres_places (record (three_squares []) { size = fraction 4 2 })) refl refl
+
+square_unreduced : ¬ CentresPlaces (record (three_squares []) { squares = over 2 2 2 ∷ [] })
+square_unreduced = by_one_failure (centres_places (record (three_squares []) { squares = over 2 2 2 ∷ [] })) refl refl

@@ -106,3 +106,6 @@ size_past = by_one_failure (sphere_places (sphere (fraction (2 ^ 126 + 1) 1) (sp
 
 centre_past : ¬ SpherePlaces (sphere (fraction 1 1) (space_over 0 0 (2 ^ 126 + 1) 1) (support 0 1 ∷ []))
 centre_past = by_one_failure (sphere_places (sphere (fraction 1 1) (space_over 0 0 (2 ^ 126 + 1) 1) (support 0 1 ∷ []))) refl refl
+
+no_places : ¬ SpherePlaces (sphere (fraction 1 1) (space_over 0 0 0 1) [])
+no_places = by_one_failure (sphere_places (sphere (fraction 1 1) (space_over 0 0 0 1) [])) refl refl

@@ -124,3 +124,6 @@ direction_past = by_one_failure (strip_places (strip (fraction 1 1) (at (2 ^ 126
 
 bounds_past : ¬ StripPlaces (strip (fraction 1 1) (at 1 0) (span (pos 0) (pos (2 ^ 126 + 1))) cones)
 bounds_past = by_one_failure (strip_places (strip (fraction 1 1) (at 1 0) (span (pos 0) (pos (2 ^ 126 + 1))) cones)) refl refl
+
+size_past : ¬ StripPlaces (strip (fraction (2 ^ 126 + 1) 1) (at 1 0) (span (pos 0) (pos 1)) cones)
+size_past = by_one_failure (strip_places (strip (fraction (2 ^ 126 + 1) 1) (at 1 0) (span (pos 0) (pos 1)) cones)) refl refl
