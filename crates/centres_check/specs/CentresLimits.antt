@@ -3,7 +3,7 @@ use Rattle.std.specs.Prelude.{◌≡◌, ◌⊎◌, ℕ, ◌<◌, pos, ◌≤ℤ
 use Rattle.bounds_model.specs.Plane.{PlanePoint, PlaneRatio}
 use Rattle.bounds_model.specs.Fractions.{Fraction}
 use Rattle.bounds_model.specs.Places.{IsFraction, IsPlaneRatio}
-use Rattle.bounds_model.specs.CentresAnswer.{CentresAnswer, Leaf, IsNearCentre, AreFar}
+use Rattle.bounds_model.specs.CentresAnswer.{CentresAnswer, Leaf, IsCentreWithinLimits, AreFar}
 use Rattle.corner_squares.specs.declared.square.Square.{Square}
 use Rattle.corner_squares.specs.Squares.{IsHeld}
 
@@ -16,7 +16,7 @@ pub record IsSmallRadius (radius : Fraction) : Type 0 where
 -- a centre in its place, with numbers within the checker's limits
 pub record IsSmallCentre (c : PlaneRatio) : Type 0 where
   pub place : IsPlaneRatio c
-  pub near : IsNearCentre c
+  pub near : IsCentreWithinLimits c
 
 -- the leaf names two of so many points
 abbrev pub NamesPoints : ℕ → Leaf → Type 0

@@ -2,9 +2,9 @@
 use Rattle.std.proofs.Common.{refl, ℕ, pos, List, [], ◌∷◌}
 use Rattle.bounds_model.specs.Plane.{PlanePoint, PlaneRatio}
 use Rattle.bounds_model.specs.Fractions.{Fraction}
-use Rattle.bounds_model.specs.CentresAnswer.{Leaf, CentresAnswer, IsNearCentre, PassesCentres}
+use Rattle.bounds_model.specs.CentresAnswer.{Leaf, CentresAnswer, IsCentreWithinLimits, PassesCentres}
 use Rattle.model_laws.proofs.Decisions.{by_test, by_one_failure}
-use Rattle.model_laws.proofs.DecideCentres.{near_centre, centres_passes}
+use Rattle.model_laws.proofs.DecideCentres.{centre_within_limits, centres_passes}
 use Rattle.model_laws.proofs.Literals.{minus, at, left_at, over, signed_over, fraction, leaf}
 
 abbrev cover : Fraction → List PlaneRatio → List Leaf → CentresAnswer
@@ -128,17 +128,17 @@ centre_of_halves = by_test (centres_passes 2 (at 0 0 ∷ at 2 2 ∷ at 10 0 ∷ 
 centre_of_thirds : ¬ PassesCentres 2 (at 0 0 ∷ at 2 2 ∷ at 10 0 ∷ []) (far_centre (over 31 1 3))
 centre_of_thirds = by_one_failure (centres_passes 2 (at 0 0 ∷ at 2 2 ∷ at 10 0 ∷ []) (far_centre (over 31 1 3))) refl refl
 
-of_halves : IsNearCentre (signed_over (minus 1000000) (pos 1000000) (pos 2))
-of_halves = by_test (near_centre (signed_over (minus 1000000) (pos 1000000) (pos 2))) refl
+of_halves : IsCentreWithinLimits (signed_over (minus 1000000) (pos 1000000) (pos 2))
+of_halves = by_test (centre_within_limits (signed_over (minus 1000000) (pos 1000000) (pos 2))) refl
 
-of_thirds : ¬ IsNearCentre (over 1 1 3)
-of_thirds = by_one_failure (near_centre (over 1 1 3)) refl refl
+of_thirds : ¬ IsCentreWithinLimits (over 1 1 3)
+of_thirds = by_one_failure (centre_within_limits (over 1 1 3)) refl refl
 
-of_nothing : ¬ IsNearCentre (over 1 1 0)
-of_nothing = by_one_failure (near_centre (over 1 1 0)) refl refl
+of_nothing : ¬ IsCentreWithinLimits (over 1 1 0)
+of_nothing = by_one_failure (centre_within_limits (over 1 1 0)) refl refl
 
-x_past : ¬ IsNearCentre (signed_over (minus 1000001) (pos 0) (pos 1))
-x_past = by_one_failure (near_centre (signed_over (minus 1000001) (pos 0) (pos 1))) refl refl
+x_past : ¬ IsCentreWithinLimits (signed_over (minus 1000001) (pos 0) (pos 1))
+x_past = by_one_failure (centre_within_limits (signed_over (minus 1000001) (pos 0) (pos 1))) refl refl
 
-y_past : ¬ IsNearCentre (over 0 1000001 2)
-y_past = by_one_failure (near_centre (over 0 1000001 2)) refl refl
+y_past : ¬ IsCentreWithinLimits (over 0 1000001 2)
+y_past = by_one_failure (centre_within_limits (over 0 1000001 2)) refl refl

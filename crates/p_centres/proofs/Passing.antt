@@ -99,7 +99,7 @@ answer_passes points count b squares some few most h least cover as_many = recor
   numbers = λ k d below. let names = h.names k d below in (names.first, names.second);
   halves = half-denominator b.high;
   size_limit = let n = (half-numbers b.high h.limit).0.high in omega (arith, ints, n);
-  centres = All-map model.IsNearCentre (λ s. centre_of s (half_of b.high)) squares (λ k d below. centre_near b.high (get_or squares k d) (cover.placed k d below) h.limit);
+  centres = All-map model.IsCentreWithinLimits (λ s. centre_of s (half_of b.high)) squares (λ k d below. centre_near b.high (get_or squares k d) (cover.placed k d below) h.limit);
   covers = record {
     as_many = count_is;
     denominators = All-map (λ c. pos 1 ≤ℤ c.w) (λ s. centre_of s (half_of b.high)) squares (λ k d below. (centre_place b.high (get_or squares k d) (cover.placed k d below) h.limit).denominator);
