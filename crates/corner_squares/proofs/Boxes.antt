@@ -1,5 +1,5 @@
 -- How the bounding box of points grows point by point, and what it says of all points that are left over.
-use Rattle.std.proofs.Common.{◌≡◌, ◌⊎◌, inl, inr, refl, sym, subst, ap, ap₂, ◌∙◌, ℕ, ◌+◌, ◌%◌, ◌/◌, ◌<◌, ◌≤◌, ℤ, pos, ◌+ℤ◌, ◌-ℤ◌, ◌≤ℤ◌, ◌<ℤ◌, Bool, List, [], ◌∷◌, ◌++◌, length, get_or, All, Contains, arith}
+use Rattle.std.proofs.Common.{◌≡◌, ◌⊎◌, inl, inr, refl, sym, subst, ap, ap₂, ◌∙◌, ℕ, ◌+◌, ◌%◌, ◌/◌, ◌<◌, ◌≤◌, ℤ, pos, ◌-ℤ◌, ◌≤ℤ◌, ◌<ℤ◌, List, [], ◌∷◌, ◌++◌, length, get_or, All, Contains, arith}
 use Rattle.std.specs.Prelude.{slice_get, Option, Some, None, if◌then◌else◌, ◌==◌}
 use Rattle.std.proofs.lemmas.Int.{ints}
 use Rattle.std.proofs.lemmas.Option.{slice_get_within, get_or_from_slice_get}
@@ -14,7 +14,7 @@ use Rattle.corner_squares.specs.declared.square.Square.{Square}
 use Rattle.corner_squares.specs.declared.extent.Extent.{Extent}
 use Rattle.corner_squares.specs.declared.bounds.Bounds.{Bounds}
 use Rattle.corner_squares.specs.Squares.{square_of, IsHeld, left_over}
-use Rattle.corner_squares.specs.Extents.{Sees, HasAt, IsExtent, IsPlaneExtent, IsBox, Adds, IsFound}
+use Rattle.corner_squares.specs.Extents.{Sees, HasAt, IsExtent, IsBox, Adds, IsFound}
 use Rattle.corner_squares.proofs.LeftOver.{Contains-left_over, All-left_over, left_over-push}
 
 -- ---- one point more
@@ -22,6 +22,9 @@ use Rattle.corner_squares.proofs.LeftOver.{Contains-left_over, All-left_over, le
 -- a place below i + 1 is below i or i
 pub below_or_at : (k i : ℕ) → k < i + 1 → (k < i) ⊎ (k ≡ i)
 below_or_at k i h = grind arith
+
+one_later : (k i : ℕ) → k < i → k < i + 1
+one_later k i h = omega (arith, h)
 
 -- the value is within the ends
 Between : Extent → ℤ → Type 0
@@ -67,6 +70,10 @@ IsExtent-start of points squares i p e before there free inside is =
       ];
       low_at = at;
       high_at = at;
+      low_seen = omega arith;
+      high_seen = omega arith;
+      low_first = λ k sooner. inl (before k sooner);
+      high_first = λ k sooner. inl (before k sooner);
       plane = record { low = inside; high = inside; order = omega (arith, ints) };
     })
   where
@@ -83,6 +90,10 @@ IsExtent-same of points squares i p e there held was = record {
   ];
   low_at = was.low_at;
   high_at = was.high_at;
+  low_seen = one_later e.low_at i was.low_seen;
+  high_seen = one_later e.high_at i was.high_seen;
+  low_first = was.low_first;
+  high_first = was.high_first;
   plane = was.plane;
 }
 
@@ -96,6 +107,16 @@ IsExtent-more of points squares i p old new there free inside was sees = record 
   ];
   low_at = elim sees.low [ inl stays ↦ moved of points squares old.low_at new.low_at old.low new.low was.low_at stays.1 stays.2 | inr takes ↦ moved of points squares i new.low_at (of p) new.low at takes.1 takes.2 ];
   high_at = elim sees.high [ inl stays ↦ moved of points squares old.high_at new.high_at old.high new.high was.high_at stays.1 stays.2 | inr takes ↦ moved of points squares i new.high_at (of p) new.high at takes.1 takes.2 ];
+  low_seen = elim sees.low [ inl stays ↦ (let l = was.low_seen in omega (arith, l, stays.2)) | inr takes ↦ omega (arith, takes.2) ];
+  high_seen = elim sees.high [ inl stays ↦ (let l = was.high_seen in omega (arith, l, stays.2)) | inr takes ↦ omega (arith, takes.2) ];
+  low_first = elim sees.low [
+    | inl stays ↦ λ k sooner. subst (λ v. IsHeld squares (point_at points k) ⊎ (v <ℤ of (point_at points k))) (sym stays.1) (was.low_first k (subst (λ n. k < n) stays.2 sooner))
+    | inr takes ↦ λ k sooner. elim (was.inside k (subst (λ n. k < n) takes.2 sooner)) [ inl held ↦ inl held | inr in_old ↦ inr (lower (of (point_at points k)) takes in_old) ]
+  ];
+  high_first = elim sees.high [
+    | inl stays ↦ λ k sooner. subst (λ v. IsHeld squares (point_at points k) ⊎ (of (point_at points k) <ℤ v)) (sym stays.1) (was.high_first k (subst (λ n. k < n) stays.2 sooner))
+    | inr takes ↦ λ k sooner. elim (was.inside k (subst (λ n. k < n) takes.2 sooner)) [ inl held ↦ inl held | inr in_old ↦ inr (higher (of (point_at points k)) takes in_old) ]
+  ];
   plane = record {
     low = elim sees.low [ inl stays ↦ subst (IsWithin plane_limit) (sym stays.1) was.plane.low | inr takes ↦ subst (IsWithin plane_limit) (sym takes.1) inside ];
     high = elim sees.high [ inl stays ↦ subst (IsWithin plane_limit) (sym stays.1) was.plane.high | inr takes ↦ subst (IsWithin plane_limit) (sym takes.1) inside ];
@@ -105,6 +126,12 @@ IsExtent-more of points squares i p old new there free inside was sees = record 
   where
     at : HasAt of points squares i (of p)
     at = here of points squares i p there free
+
+    lower : (v : ℤ) → (of p <ℤ old.low) × (new.low ≡ of p) × (new.low_at ≡ i) → (old.low ≤ℤ v) × (v ≤ℤ old.high) → new.low <ℤ v
+    lower v takes in_old = omega (arith, ints, takes.0, takes.1, in_old.0)
+
+    higher : (v : ℤ) → (old.high <ℤ of p) × (new.high ≡ of p) × (new.high_at ≡ i) → (old.low ≤ℤ v) × (v ≤ℤ old.high) → v <ℤ new.high
+    higher v takes in_old = omega (arith, ints, takes.0, takes.1, in_old.1)
 
     ordered : (new.low ≤ℤ of p) × (of p ≤ℤ new.high) → new.low ≤ℤ new.high
     ordered h = omega (arith, ints, h.0, h.1)

@@ -24,11 +24,15 @@ pub record HasAt (of : PlanePoint → ℤ) (points : List PlanePoint) (squares :
   pub free : ¬ IsHeld squares (point_at points number)
   pub has : of (point_at points number) ≡ value
 
--- the extent reaches from the least to the greatest coordinate of the first i points, as far as no square holds them, and names points that have them
+-- the extent reaches from the least to the greatest coordinate of the first i points, as far as no square holds them, and names the first of the points that have them
 pub record IsExtent (of : PlanePoint → ℤ) (points : List PlanePoint) (squares : List Square) (i : ℕ) (e : Extent) : Type 0 where
   pub inside : (k : ℕ) → k < i → IsHeld squares (point_at points k) ⊎ ((e.low ≤ℤ of (point_at points k)) × (of (point_at points k) ≤ℤ e.high))
   pub low_at : HasAt of points squares e.low_at e.low
   pub high_at : HasAt of points squares e.high_at e.high
+  pub low_seen : e.low_at < i
+  pub high_seen : e.high_at < i
+  pub low_first : (k : ℕ) → k < e.low_at → IsHeld squares (point_at points k) ⊎ (e.low <ℤ of (point_at points k))
+  pub high_first : (k : ℕ) → k < e.high_at → IsHeld squares (point_at points k) ⊎ (of (point_at points k) <ℤ e.high)
   pub plane : IsPlaneExtent e
 
 -- the box is the bounding box of the first i points, as far as no square holds them

@@ -1,9 +1,9 @@
 -- Squares that are placed one after another cover the points, or leaves below each corner show that they do not.
-use Rattle.std.proofs.Common.{◌≡◌, ◌⊎◌, inl, inr, refl, sym, subst, ap, ◌∙◌, ℕ, zero, suc, ◌+◌, ◌-◌, ◌*◌, ◌/◌, ◌%◌, ◌^◌, ◌<◌, ◌≤◌, ◌≢◌, ℤ, pos, ◌+ℤ◌, ◌-ℤ◌, ◌≤ℤ◌, neg_ℤ, Bool, true, false, List, [], ◌∷◌, ◌++◌, length, get_or, map, take, All, Any, IsTrue, arith}
+use Rattle.std.proofs.Common.{◌≡◌, inl, inr, refl, sym, subst, ap, ◌∙◌, ℕ, zero, suc, ◌+◌, ◌-◌, ◌*◌, ◌/◌, ◌%◌, ◌^◌, ◌<◌, ◌≤◌, ◌≢◌, ℤ, pos, ◌+ℤ◌, ◌-ℤ◌, ◌≤ℤ◌, neg_ℤ, Bool, true, false, List, [], ◌∷◌, ◌++◌, length, map, take, All, IsTrue, arith}
 use Rattle.std.specs.Prelude.{if◌then◌else◌, ◌==◌}
 use Rattle.std.proofs.lemmas.Int.{ints}
 use Rattle.std.proofs.lemmas.List.{append-nil, get_or_default, get_or_append_left, get_or_push, length_push, length-append, length-map, append_assoc, map-append, take_at}
-use Rattle.std.proofs.lemmas.List.Elements.{All-push, Contains-get_or}
+use Rattle.std.proofs.lemmas.List.Elements.{All-nil, All-push, Contains-get_or}
 use Rattle.bounds_model.specs.Plane.{PlanePoint, point_at, origin}
 use Rattle.bounds_model.specs.CentresAnswer as model
 use Rattle.answers.specs.declared.centres.Leaf.{Leaf}
@@ -12,13 +12,13 @@ use Rattle.corner_squares.specs.declared.square.Square.{Square}
 use Rattle.corner_squares.specs.declared.extent.Extent.{Extent}
 use Rattle.corner_squares.specs.declared.bounds.Bounds.{Bounds}
 use Rattle.corner_squares.specs.Squares.{square_of, IsHeld, left_over}
-use Rattle.corner_squares.specs.Extents.{IsExtent, IsPlaneExtent, IsBox}
+use Rattle.corner_squares.specs.Extents.{IsPlaneExtent, IsBox}
 use Rattle.corner_squares.specs.Trees.{AreLeavesAt, nodes}
 use Rattle.corner_squares.proofs.Holding.{between_sides}
 use Rattle.corner_squares.proofs.LeftOver.{Contains-left_over}
 use Rattle.corner_squares.proofs.Boxes.{left_over-corner}
 use Rattle.corner_squares.proofs.Trees.{AreBelowFirst, one_leaf, none_below, more_below, all_below}
-use Rattle.p_centres.specs.Surveys.{IsNoLonger, IsFarPair}
+use Rattle.p_centres.specs.Surveys.{IsNoLonger, IsFirstFar, IsFarPair}
 use Rattle.p_centres.specs.Covers.{IsPlaced, IsCover, IsRefuted}
 
 -- ---- squares
@@ -108,6 +108,7 @@ refuted_by_pair points side placed leaves leaves_then leaf far is = record {
       (Contains-left_over placed points (point_at points leaf.first) (Contains-get_or points leaf.first origin far.first) far.first_free)
       (Contains-left_over placed points (point_at points leaf.second) (Contains-get_or points leaf.second origin far.second) far.second_free)
       far.far;
+  earliest = λ _. All-push (IsFirstFar points placed side) [] (leaf_of leaf) (All-nil (IsFirstFar points placed side)) far.earliest;
 }
 
 -- the leaves below the first corners are appended
@@ -143,6 +144,7 @@ all_corners side (suc depth) corner points placed placed_then leaves leaves_then
   own = below.0;
   appended = below.1;
   refuted = all_below side depth points (left_over placed points) (map leaf_of below.0) (subst (λ c. AreBelowFirst side c 4 points (left_over placed points) (map leaf_of below.0)) one_less (subst (λ c. AreBelowFirst side (suc depth - 1) c points (left_over placed points) (map leaf_of below.0)) four below.2));
+  earliest = λ leaf. absurd (some leaf);
 }
   where
     one_less : suc depth - 1 ≡ depth

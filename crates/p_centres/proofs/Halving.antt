@@ -1,23 +1,22 @@
 -- Between two sides the least one is found by halving, in as many tries as the distance has binary digits.
-use Rattle.std.proofs.Common.{◌≡◌, ◌⊎◌, inl, inr, refl, sym, subst, ap, ◌∙◌, ℕ, zero, suc, ◌+◌, ◌-◌, ◌*◌, ◌/◌, ◌^◌, ◌<◌, ◌≤◌, List, [], ◌∷◌, ◌++◌, length, map, All, arith}
+use Rattle.std.proofs.Common.{◌≡◌, ◌⊎◌, inl, inr, refl, sym, subst, ap, ℕ, zero, suc, ◌+◌, ◌-◌, ◌*◌, ◌/◌, ◌^◌, ◌<◌, ◌≤◌, List, [], length, map, All, arith}
 use Rattle.std.proofs.Math.Nat.{mul-le-mul_right}
 use Rattle.std.proofs.lemmas.List.Elements.{All-nil}
 use Rattle.bounds_model.specs.Plane.{PlanePoint, origin}
 use Rattle.bounds_model.specs.CentresAnswer.{AreLeaves}
-use Rattle.answers.specs.declared.centres.Leaf.{Leaf}
 use Rattle.answers.specs.Answers.{leaf_of}
 use Rattle.corner_squares.specs.declared.square.Square.{Square}
 use Rattle.corner_squares.specs.declared.bounds.Bounds.{Bounds}
 use Rattle.corner_squares.specs.Extents.{IsBox}
-use Rattle.corner_squares.specs.Squares.{IsHeld, left_over}
+use Rattle.corner_squares.specs.Squares.{IsHeld}
 use Rattle.corner_squares.specs.Trees.{NamesPoints, AreLeavesAt, nodes}
 use Rattle.corner_squares.proofs.LeftOver.{none_held}
 use Rattle.corner_squares.proofs.Trees.{tree_leaves}
 use Rattle.p_centres.specs.declared.sides.Bracket.{Bracket}
-use Rattle.p_centres.specs.Surveys.{IsNoLonger}
+use Rattle.p_centres.specs.Surveys.{IsFirstFar}
 use Rattle.p_centres.specs.Covers.{IsCover, IsRefuted}
 use Rattle.p_centres.specs.Sides.{IsBracket, IsStart}
-use Rattle.p_centres.proofs.Covering.{IsCorner, cover_by_more, cover_with_one_more}
+use Rattle.p_centres.proofs.Covering.{cover_by_more, cover_with_one_more}
 
 -- ---- how many tries are left
 
@@ -62,6 +61,7 @@ bracket_at_first points count bounds b some box h = record {
       (record { left = refl; bottom = refl; wide = refl }) h.squares);
   names = subst (λ ls. All (NamesPoints points) (map leaf_of ls)) (sym h.leaves) (All-nil (NamesPoints points));
   leaves = subst (λ low. AreLeaves low count points (map leaf_of b.leaves.items)) (sym h.low) (ap (map leaf_of) h.leaves);
+  earliest = λ _. subst (λ ls. All (IsFirstFar points [] (b.low - 1)) (map leaf_of ls)) (sym h.leaves) (All-nil (IsFirstFar points [] (b.low - 1)));
 }
 
 -- the squares of a side that serves
@@ -73,6 +73,7 @@ bracket_lowered points count side old new some h from to is_low is_high same cov
   cover = subst (λ high. IsCover points high count new.squares.items) (sym is_high) (cover_by_more points side (0 + (count - 1) + 1) count new.squares.items (omega (arith, some)) cover);
   names = subst (λ ls. All (NamesPoints points) (map leaf_of ls)) (sym (ap (λ ls. ls.items) same)) h.names;
   leaves = subst (λ low. AreLeaves low count points (map leaf_of new.leaves.items)) (sym is_low) (subst (λ ls. AreLeaves old.low count points (map leaf_of ls)) (sym (ap (λ ls. ls.items) same)) h.leaves);
+  earliest = λ one. subst (λ low. All (IsFirstFar points [] (low - 1)) (map leaf_of new.leaves.items)) (sym is_low) (subst (λ ls. All (IsFirstFar points [] (old.low - 1)) (map leaf_of ls)) (sym (ap (λ ls. ls.items) same)) (h.earliest one));
 }
 
 -- the leaves of a side that does not
@@ -84,6 +85,8 @@ bracket_raised points count side placed old new h from to is_low is_high same re
   cover = subst (λ high. IsCover points high count new.squares.items) (sym is_high) (subst (λ ss. IsCover points old.high count ss) (sym (ap (λ ss. ss.items) same)) h.cover);
   names = λ k d below. (leaves.each k d below).names;
   leaves = subst (λ low. AreLeaves low count points (map leaf_of new.leaves.items)) (sym one_more) (tree_leaves side count points (map leaf_of new.leaves.items) leaves);
+  earliest = λ one. subst (λ limit. All (IsFirstFar points [] limit) (map leaf_of new.leaves.items)) (omega (arith, is_low))
+      (subst (λ ls. All (IsFirstFar points [] side) (map leaf_of ls)) (sym refuted.appended) (refuted.earliest (omega (arith, one))));
 }
   where
     leaves : AreLeavesAt side (count - 1) points points (map leaf_of new.leaves.items)

@@ -1,21 +1,17 @@
 -- The answer with squares that cover the points, and the leaves of the tree at a side less by 1, passes what a checker asks.
-use Rattle.std.proofs.Common.{◌≡◌, inl, inr, refl, sym, subst, ap, ◌∙◌, ℕ, zero, suc, ◌+◌, ◌*◌, ◌<◌, ◌≤◌, ℤ, pos, ◌+ℤ◌, ◌-ℤ◌, ◌*ℤ◌, ◌≤ℤ◌, neg_ℤ, nat_abs, List, [], ◌∷◌, ◌++◌, length, get_or, map, All, Any, IsTrue, arith}
+use Rattle.std.proofs.Common.{◌≡◌, sym, subst, ap, ◌∙◌, ℕ, zero, suc, ◌<◌, ◌≤◌, ℤ, pos, ◌+ℤ◌, ◌-ℤ◌, ◌*ℤ◌, ◌≤ℤ◌, neg_ℤ, nat_abs, List, [], ◌∷◌, length, get_or, map, All, Any, IsTrue, arith}
 use Rattle.std.proofs.lemmas.Int.{ints}
-use Rattle.std.proofs.lemmas.List.{get_or-map, length-map, get_or_default}
-use Rattle.std.proofs.lemmas.List.Elements.{All-map, All-weaker, All-append, All-contains}
+use Rattle.std.proofs.lemmas.List.{get_or-map, length-map}
+use Rattle.std.proofs.lemmas.List.Elements.{All-map, All-append, All-contains}
 use Rattle.integers.proofs.Identities.{den-ring, read, polys, lits, below_lits}
 use Rattle.integers.proofs.Order.{nonneg_mul, le_by, nonneg_difference, combine1}
-use Rattle.bounds_model.specs.Numbers.{IsWithin, HasCount}
-use Rattle.bounds_model.specs.Plane.{PlanePoint, PlaneRatio}
-use Rattle.bounds_model.specs.Fractions.{Fraction}
+use Rattle.bounds_model.specs.Plane.{PlanePoint}
 use Rattle.bounds_model.specs.Places.{IsPlaneRatio}
 use Rattle.bounds_model.specs.Centres.{IsNear}
 use Rattle.bounds_model.specs.CentresAnswer as model
-use Rattle.answers.specs.declared.centres.Leaf.{Leaf}
 use Rattle.answers.specs.Answers.{leaf_of}
 use Rattle.corner_squares.specs.declared.square.Square.{Square}
 use Rattle.corner_squares.specs.Squares.{square_of, IsHeld}
-use Rattle.corner_squares.specs.Trees.{NamesPoints}
 use Rattle.corner_squares.proofs.Holding.{between_sides}
 use Rattle.p_centres.specs.declared.sides.Bracket.{Bracket}
 use Rattle.p_centres.specs.Covers.{IsPlaced, IsCover, IsFilledUp}

@@ -1,8 +1,7 @@
-use Rattle.std.proofs.Common.{rules, ◌≡◌, sym, subst, ◌∙◌, ◌+◌, ◌≤◌, length, ℕ, true, false, arith}
+use Rattle.std.proofs.Common.{rules, sym, subst, ◌+◌, arith}
 use Rattle.bounded_coords.specs.Clouds.{counted_points}
 use Rattle.corner_squares.specs.Extents.{IsBox}
-use Rattle.corner_squares.specs.Squares.{IsHeld}
-use Rattle.p_centres.specs.Surveys.{IsFound, IsNoLonger}
+use Rattle.p_centres.specs.Surveys.{IsFound}
 use Rattle.corner_squares.proofs.Boxes.{box_more}
 use Rattle.p_centres.proofs.Finding.{found, found_same, far_pair, found_all, found_none}
 use Rattle.p_centres.proofs.surveys.survey.Goals as goal
@@ -20,7 +19,7 @@ far_apart-requires-clause-up g c =
 
 pub returns-in-Some-clause-found : goal.returns-in-Some-clause-found
 returns-in-Some-clause-found g c =
-    far_pair (counted_points c.args.cloud) c.args.squares.now (c.loop-i.i + 1) c.args.limit c.grown-bounds.result c.in-Some.leaf
+    far_pair (counted_points c.args.cloud) c.args.squares.now c.loop-i.i c.args.limit c.point-p.result.now c.loop-i.found c.grown-bounds.result c.in-Some.leaf c.loop-i.invariant.found c.grown-bounds.ensures.adds
     (box_more (counted_points c.args.cloud) c.args.squares.now c.loop-i.i c.point-p.result.now c.loop-i.found c.grown-bounds.result c.point-p.ensures.point
     (λ held. let yes = c.is_held.ensures.1 held in absurd (cc yes)) c.grown-bounds.ensures.plane (found (counted_points c.args.cloud) c.args.squares.now c.args.limit c.loop-i.i c.loop-i.found c.loop-i.invariant.found) c.grown-bounds.ensures.adds) c.in-Some.ensures
 
