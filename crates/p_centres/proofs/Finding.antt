@@ -3,7 +3,7 @@ use Rattle.std.proofs.Common.{◌≡◌, ◌⊎◌, inl, inr, sym, subst, ap, �
 use Rattle.std.specs.Prelude.{slice_get, Option, max}
 use Rattle.std.proofs.lemmas.Int.{ints}
 use Rattle.std.proofs.lemmas.List.{get_or_default}
-use Rattle.bounds_model.specs.Plane.{PlanePoint, point_at, origin}
+use Rattle.bounds_model.specs.Plane.{PlanePoint, point_at, origin, IsInPlane}
 use Rattle.answers.specs.declared.centres.Leaf.{Leaf}
 use Rattle.answers.specs.Answers.{leaf_of}
 use Rattle.corner_squares.specs.declared.square.Square.{Square}
@@ -13,13 +13,19 @@ use Rattle.corner_squares.specs.Squares.{IsHeld}
 use Rattle.corner_squares.specs.Extents as boxes
 use Rattle.corner_squares.specs.Extents.{Sees, HasAt, IsExtent, IsBox, Adds}
 use Rattle.corner_squares.proofs.Boxes as same
+use Rattle.bounds_model.specs.CentresAnswer.{AreFar}
 use Rattle.p_centres.specs.Leaves.{later}
-use Rattle.p_centres.specs.Surveys.{IsFound, IsNoLonger, AreEnds, AreNear, AreFirstEnds, IsFirstFarIn, IsFarPair}
+use Rattle.p_centres.specs.Surveys.{IsFound, IsNoLonger, AreEnds, AreNear, AreFirstEnds, IsFirstFarIn, IsFirstFar, IsFarPair}
 
 -- what was found, without its limit
-pub found : (points : List PlanePoint) (squares : List Square) (limit i : ℕ) (b : Option Bounds) → IsFound points squares limit i b → boxes.IsFound points squares i b
+found : (points : List PlanePoint) (squares : List Square) (limit i : ℕ) (b : Option Bounds) → IsFound points squares limit i b → boxes.IsFound points squares i b
 found points squares limit i None h = h
 found points squares limit i (Some b) h = h.0
+
+-- the box with a point more that no square holds
+pub box_next : (points : List PlanePoint) (squares : List Square) (limit i : ℕ) (p : PlanePoint) (b : Option Bounds) (new : Bounds)
+    → slice_get points i ≡ Some p → ¬ IsHeld squares p → IsInPlane p → IsFound points squares limit i b → Adds b p i new → IsBox points squares (i + 1) new
+box_next points squares limit i p b new there free plane was = same.box_more points squares i p b new there free plane (found points squares limit i b was)
 
 -- nothing new where a square holds the point
 pub found_same : (points : List PlanePoint) (squares : List Square) (limit i : ℕ) (p : PlanePoint) (b : Option Bounds)
@@ -52,13 +58,9 @@ near_inside of points squares limit i e h no_longer j k j_seen k_seen = elim (h.
     apart a b a_in b_in = omega (arith, ints, no_longer, a_in.0, b_in.1)
 
 -- so the points of a pass that goes on are near each other
-near_in_x : (points : List PlanePoint) (squares : List Square) (limit i : ℕ) (found : Option Bounds) → IsFound points squares limit i found → AreNear (λ p. p.x) points squares limit i
-near_in_x points squares limit i None h = λ j k j_seen k_seen. inl (h j j_seen)
-near_in_x points squares limit i (Some b) h = near_inside (λ p. p.x) points squares limit i b.across h.0.across h.1.in_x
-
-near_in_y : (points : List PlanePoint) (squares : List Square) (limit i : ℕ) (found : Option Bounds) → IsFound points squares limit i found → AreNear (λ p. p.y) points squares limit i
-near_in_y points squares limit i None h = λ j k j_seen k_seen. inl (h j j_seen)
-near_in_y points squares limit i (Some b) h = near_inside (λ p. p.y) points squares limit i b.up h.0.up h.1.in_y
+near_found : (points : List PlanePoint) (squares : List Square) (limit i : ℕ) (found : Option Bounds) → IsFound points squares limit i found → AreNear (λ p. p.x) points squares limit i × AreNear (λ p. p.y) points squares limit i
+near_found points squares limit i None h = (λ j k j_seen k_seen. inl (h j j_seen), λ j k j_seen k_seen. inl (h j j_seen))
+near_found points squares limit i (Some b) h = (near_inside (λ p. p.x) points squares limit i b.across h.0.across h.1.in_x, near_inside (λ p. p.y) points squares limit i b.up h.0.up h.1.in_y)
 
 -- where an extent gets longer than the limit, it does so at the point that it sees
 seen_now : (limit i : ℕ) (old new : Extent) (value : ℤ) → old.low_at < i → old.high_at < i → old.high ≤ℤ (old.low +ℤ pos limit) → (new.low +ℤ pos limit) <ℤ new.high → Sees old value i new → max new.low_at new.high_at ≡ i
@@ -108,34 +110,25 @@ first_far of beside points squares limit i n e leaf h ends now before others =
     apart : (a b : ℤ) → a ≡ e.low → b ≡ e.high → (a +ℤ pos limit) <ℤ b
     apart a b is_a is_b = let l = ends.longer in omega (arith, ints, l, is_a, is_b)
 
+pair_of_ends : (of : PlanePoint → ℤ) (points : List PlanePoint) (squares : List Square) (i limit : ℕ) (e : Extent) (leaf : Leaf) → IsExtent of points squares i e → AreEnds limit e leaf
+    → (limit < nat_abs (of (point_at points leaf.second) -ℤ of (point_at points leaf.first)) → AreFar limit (point_at points leaf.first) (point_at points leaf.second)) → IsFirstFar points squares limit (leaf_of leaf) → IsFarPair points squares limit leaf
+pair_of_ends of points squares i limit e leaf h ends apart earliest =
+    let far = far_ends of points squares i limit e leaf h ends in
+    record { first = far.0.below; second = far.1.below; first_free = far.0.free; second_free = far.1.free; far = apart far.2; earliest = earliest; short = far.3 }
+
 pub far_pair : (points : List PlanePoint) (squares : List Square) (i limit : ℕ) (p : PlanePoint) (found : Option Bounds) (b : Bounds) (leaf : Leaf) → IsFound points squares limit i found → Adds found p i b
     → IsBox points squares (i + 1) b → AreEnds limit b.across leaf ⊎ (AreEnds limit b.up leaf × (b.across.high ≤ℤ (b.across.low +ℤ pos limit))) → IsFarPair points squares limit leaf
 far_pair points squares i limit p found b leaf was adds box (inl ends) =
-    let far = far_ends (λ p. p.x) points squares (i + 1) limit b.across leaf box.across ends in
+    let near = near_found points squares limit i found was in
     let now = later_in_x points squares limit i p found b leaf was adds ends in
-    record {
-      first = far.0.below;
-      second = far.1.below;
-      first_free = far.0.free;
-      second_free = far.1.free;
-      far = inl far.2;
-      earliest = inl (first_far (λ p. p.x) (λ p. p.y) points squares limit i (later (leaf_of leaf)) b.across leaf box.across ends now (near_in_x points squares limit i found was)
-          (subst (AreNear (λ p. p.y) points squares limit) (sym now) (near_in_y points squares limit i found was)));
-      short = far.3;
-    }
+    pair_of_ends (λ p. p.x) points squares (i + 1) limit b.across leaf box.across ends inl
+    (inl (first_far (λ p. p.x) (λ p. p.y) points squares limit i (later (leaf_of leaf)) b.across leaf box.across ends now near.0 (subst (AreNear (λ p. p.y) points squares limit) (sym now) near.1)))
 far_pair points squares i limit p found b leaf was adds box (inr ends) =
-    let far = far_ends (λ p. p.y) points squares (i + 1) limit b.up leaf box.up ends.0 in
+    let near = near_found points squares limit i found was in
     let now = later_in_y points squares limit i p found b leaf was adds ends.0 in
-    record {
-      first = far.0.below;
-      second = far.1.below;
-      first_free = far.0.free;
-      second_free = far.1.free;
-      far = inr far.2;
-      earliest = inr (first_far (λ p. p.y) (λ p. p.x) points squares limit i (later (leaf_of leaf) + 1) b.up leaf box.up ends.0 now (near_in_y points squares limit i found was)
-          (subst (λ n. AreNear (λ p. p.x) points squares limit (n + 1)) (sym now) (near_inside (λ p. p.x) points squares limit (i + 1) b.across box.across ends.1)));
-      short = far.3;
-    }
+    let beside = near_inside (λ p. p.x) points squares limit (i + 1) b.across box.across ends.1 in
+    pair_of_ends (λ p. p.y) points squares (i + 1) limit b.up leaf box.up ends.0 inr
+    (inr (first_far (λ p. p.y) (λ p. p.x) points squares limit i (later (leaf_of leaf) + 1) b.up leaf box.up ends.0 now near.1 (subst (λ n. AreNear (λ p. p.x) points squares limit (n + 1)) (sym now) beside)))
 
 -- all points are seen
 pub all_held : (points : List PlanePoint) (squares : List Square) (i : ℕ) → length points ≤ i → ((k : ℕ) → k < i → IsHeld squares (point_at points k)) → All (IsHeld squares) points
