@@ -72,17 +72,16 @@ seen_now limit i old new value low high no_longer longer sees = elim sees.low [
 later_is_now : (leaf : Leaf) (e : Extent) (limit i : ℕ) → AreEnds limit e leaf → max e.low_at e.high_at ≡ i → later (leaf_of leaf) ≡ i
 later_is_now leaf e limit i ends now = let a = ends.first in let b = ends.second in omega (arith, a, b, now)
 
-later_in_x : (points : List PlanePoint) (squares : List Square) (limit i : ℕ) (p : PlanePoint) (found : Option Bounds) (b : Bounds) (leaf : Leaf)
-    → IsFound points squares limit i found → Adds found p i b → AreEnds limit b.across leaf → later (leaf_of leaf) ≡ i
-later_in_x points squares limit i p None b leaf was adds ends = later_is_now leaf b.across limit i ends (let e = adds.0 in omega (arith, ap (λ e. e.low_at) e, ap (λ e. e.high_at) e))
-later_in_x points squares limit i p (Some old) b leaf was adds ends =
-    later_is_now leaf b.across limit i ends (seen_now limit i old.across b.across p.x was.0.across.low_seen was.0.across.high_seen was.1.in_x ends.longer adds.0)
+at_first : (e : Extent) (value : ℤ) (i : ℕ) → e ≡ record { low = value; high = value; low_at = i; high_at = i } → max e.low_at e.high_at ≡ i
+at_first e value i is = omega (arith, ap (λ e. e.low_at) is, ap (λ e. e.high_at) is)
 
-later_in_y : (points : List PlanePoint) (squares : List Square) (limit i : ℕ) (p : PlanePoint) (found : Option Bounds) (b : Bounds) (leaf : Leaf)
-    → IsFound points squares limit i found → Adds found p i b → AreEnds limit b.up leaf → later (leaf_of leaf) ≡ i
-later_in_y points squares limit i p None b leaf was adds ends = later_is_now leaf b.up limit i ends (let e = adds.1 in omega (arith, ap (λ e. e.low_at) e, ap (λ e. e.high_at) e))
-later_in_y points squares limit i p (Some old) b leaf was adds ends =
-    later_is_now leaf b.up limit i ends (seen_now limit i old.up b.up p.y was.0.up.low_seen was.0.up.high_seen was.1.in_y ends.longer adds.1)
+later_found : (points : List PlanePoint) (squares : List Square) (limit i : ℕ) (p : PlanePoint) (found : Option Bounds) (b : Bounds) (leaf : Leaf)
+    → IsFound points squares limit i found → Adds found p i b → (AreEnds limit b.across leaf → later (leaf_of leaf) ≡ i) × (AreEnds limit b.up leaf → later (leaf_of leaf) ≡ i)
+later_found points squares limit i p None b leaf was adds = (λ ends. later_is_now leaf b.across limit i ends (at_first b.across p.x i adds.0), λ ends. later_is_now leaf b.up limit i ends (at_first b.up p.y i adds.1))
+later_found points squares limit i p (Some old) b leaf was adds = (
+  λ ends. later_is_now leaf b.across limit i ends (seen_now limit i old.across b.across p.x was.0.across.low_seen was.0.across.high_seen was.1.in_x ends.longer adds.0),
+  λ ends. later_is_now leaf b.up limit i ends (seen_now limit i old.up b.up p.y was.0.up.low_seen was.0.up.high_seen was.1.in_y ends.longer adds.1),
+)
 
 -- the points at the ends of an extent are the first ones there
 first_ends : (of : PlanePoint → ℤ) (points : List PlanePoint) (squares : List Square) (i limit : ℕ) (e : Extent) (leaf : Leaf) → IsExtent of points squares i e → AreEnds limit e leaf → AreFirstEnds of points squares i (leaf_of leaf)
@@ -120,12 +119,12 @@ pub far_pair : (points : List PlanePoint) (squares : List Square) (i limit : ℕ
     → IsBox points squares (i + 1) b → AreEnds limit b.across leaf ⊎ (AreEnds limit b.up leaf × (b.across.high ≤ℤ (b.across.low +ℤ pos limit))) → IsFarPair points squares limit leaf
 far_pair points squares i limit p found b leaf was adds box (inl ends) =
     let near = near_found points squares limit i found was in
-    let now = later_in_x points squares limit i p found b leaf was adds ends in
+    let now = (later_found points squares limit i p found b leaf was adds).0 ends in
     pair_of_ends (λ p. p.x) points squares (i + 1) limit b.across leaf box.across ends inl
     (inl (first_far (λ p. p.x) (λ p. p.y) points squares limit i (later (leaf_of leaf)) b.across leaf box.across ends now near.0 (subst (AreNear (λ p. p.y) points squares limit) (sym now) near.1)))
 far_pair points squares i limit p found b leaf was adds box (inr ends) =
     let near = near_found points squares limit i found was in
-    let now = later_in_y points squares limit i p found b leaf was adds ends.0 in
+    let now = (later_found points squares limit i p found b leaf was adds).1 ends.0 in
     let beside = near_inside (λ p. p.x) points squares limit (i + 1) b.across box.across ends.1 in
     pair_of_ends (λ p. p.y) points squares (i + 1) limit b.up leaf box.up ends.0 inr
     (inr (first_far (λ p. p.y) (λ p. p.x) points squares limit i (later (leaf_of leaf) + 1) b.up leaf box.up ends.0 now near.1 (subst (λ n. AreNear (λ p. p.x) points squares limit (n + 1)) (sym now) beside)))
