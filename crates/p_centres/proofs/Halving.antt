@@ -95,20 +95,19 @@ bracket_raised points count side placed old new h from to is_low is_high same re
     one_more : new.low ≡ suc side
     one_more = omega (arith, is_low)
 
--- a tree for up to three squares
+-- a tree for up to three squares has a depth of at most 2
+each_depth : (P : ℕ → Type 0) → P 0 → P 1 → P 2 → (count : ℕ) → 1 ≤ count → count ≤ 3 → P (count - 1)
+each_depth P p0 p1 p2 zero some few = absurd (omega (arith, some))
+each_depth P p0 p1 p2 (suc zero) some few = p0
+each_depth P p0 p1 p2 (suc (suc zero)) some few = p1
+each_depth P p0 p1 p2 (suc (suc (suc zero))) some few = p2
+each_depth P p0 p1 p2 (suc (suc (suc (suc count)))) some few = absurd (omega (arith, few))
+
 pub room_for_tree : (count : ℕ) → 1 ≤ count → count ≤ 3 → 4 ^ (count - 1) ≤ 16
-room_for_tree zero some few = absurd (omega (arith, some))
-room_for_tree (suc zero) some few = omega arith
-room_for_tree (suc (suc zero)) some few = omega arith
-room_for_tree (suc (suc (suc zero))) some few = omega arith
-room_for_tree (suc (suc (suc (suc count)))) some few = absurd (omega (arith, few))
+room_for_tree = each_depth (λ depth. 4 ^ depth ≤ 16) (omega arith) (omega arith) (omega arith)
 
 few_nodes : (count : ℕ) → 1 ≤ count → count ≤ 3 → nodes (count - 1) ≤ 21
-few_nodes zero some few = absurd (omega (arith, some))
-few_nodes (suc zero) some few = omega arith
-few_nodes (suc (suc zero)) some few = omega arith
-few_nodes (suc (suc (suc zero))) some few = omega arith
-few_nodes (suc (suc (suc (suc count)))) some few = absurd (omega (arith, few))
+few_nodes = each_depth (λ depth. nodes depth ≤ 21) (omega arith) (omega arith) (omega arith)
 
 pub tree_steps : (count n now then : ℕ) → 1 ≤ count → count ≤ 3 → then ≤ now + nodes (count - 1) * n → then ≤ now + 21 * n
 tree_steps count n now then some few h = let l = mul-le-mul_right n (few_nodes count some few) in omega (arith, h, l)

@@ -99,28 +99,23 @@ only_leaves points (suc limit) count squares leaves one names cover are far = λ
 
 -- ---- and it is one leaf alone
 
-in_order : (m n : ℕ) → (m < n) ⊎ (n < m) ⊎ (m ≡ n)
-in_order m n = grind arith
+neither_sooner : (m n : ℕ) → ¬ (m < n) → ¬ (n < m) → m ≡ n
+neither_sooner m n h k = grind (arith, h, k)
 
-least_once : (of : PlanePoint → ℤ) (points : List PlanePoint) (a b : ℕ) → IsFirstLeast of points a → IsFirstLeast of points b → a ≡ b
-least_once of points a b h k = elim (in_order a b) [
-  | inl sooner ↦ absurd (let l = h.least b k.below in let m = k.first a sooner in omega (arith, ints, l, m))
-  | inr (inl later) ↦ absurd (let l = k.least a h.below in let m = h.first b later in omega (arith, ints, l, m))
-  | inr (inr same) ↦ same
-]
+not_sooner_least : (of : PlanePoint → ℤ) (points : List PlanePoint) (a b : ℕ) → IsFirstLeast of points a → IsFirstLeast of points b → ¬ (a < b)
+not_sooner_least of points a b h k = λ sooner. let l = h.least b k.below in let m = k.first a sooner in omega (arith, ints, l, m)
 
-greatest_once : (of : PlanePoint → ℤ) (points : List PlanePoint) (a b : ℕ) → IsFirstGreatest of points a → IsFirstGreatest of points b → a ≡ b
-greatest_once of points a b h k = elim (in_order a b) [
-  | inl sooner ↦ absurd (let l = h.greatest b k.below in let m = k.first a sooner in omega (arith, ints, l, m))
-  | inr (inl later) ↦ absurd (let l = k.greatest a h.below in let m = h.first b later in omega (arith, ints, l, m))
-  | inr (inr same) ↦ same
-]
+not_sooner_greatest : (of : PlanePoint → ℤ) (points : List PlanePoint) (a b : ℕ) → IsFirstGreatest of points a → IsFirstGreatest of points b → ¬ (a < b)
+not_sooner_greatest of points a b h k = λ sooner. let l = h.greatest b k.below in let m = k.first a sooner in omega (arith, ints, l, m)
 
 same_numbers : (a b : model.Leaf) → a.first ≡ b.first → a.second ≡ b.second → a ≡ b
 same_numbers a b e f = ap₂ (λ m n. record { first = m; second = n }) e f
 
 same_way : (of beside : PlanePoint → ℤ) (points : List PlanePoint) (i j : ℕ) (a b : model.Leaf) → IsAlong of beside points i a → IsAlong of beside points j b → a ≡ b
-same_way of beside points i j a b h k = same_numbers a b (least_once of points a.first b.first h.first k.first) (greatest_once of points a.second b.second h.second k.second)
+same_way of beside points i j a b h k =
+    same_numbers a b
+    (neither_sooner a.first b.first (not_sooner_least of points a.first b.first h.first k.first) (not_sooner_least of points b.first a.first k.first h.first))
+    (neither_sooner a.second b.second (not_sooner_greatest of points a.second b.second h.second k.second) (not_sooner_greatest of points b.second a.second k.second h.second))
 
 -- one leaf along x and one along y: both sides are as long, and each leaf has the sooner ends
 not_both : (of beside : PlanePoint → ℤ) (points : List PlanePoint) (a b : model.Leaf) → IsAlong of beside points (later a) a → IsAlong beside of points (later b + 1) b → ⊥
