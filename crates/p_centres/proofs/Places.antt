@@ -8,7 +8,7 @@ use Rattle.bounds_model.specs.Fractions.{Fraction, HaveNoCommonFactor}
 use Rattle.bounds_model.specs.Numbers.{IsWithin}
 use Rattle.bounds_model.specs.Plane.{PlaneRatio}
 use Rattle.bounds_model.specs.Places.{IsFraction, IsPlaneRatio}
-use Rattle.bounds_model.specs.CentresAnswer.{IsNearCentre}
+use Rattle.bounds_model.specs.CentresAnswer.{IsCentreWithinLimits}
 use Rattle.corner_squares.specs.declared.square.Square.{Square}
 use Rattle.p_centres.specs.Covers.{IsPlaced}
 use Rattle.p_centres.specs.Squares.{half_of, centre_of}
@@ -33,7 +33,7 @@ half_middle : (low : ℤ) (side : ℕ) → low ≤ℤ pos 200000 → neg_ℤ (po
 half_middle low side below above most = record { low = omega (arith, ints, below, above, most); high = omega (arith, ints, below, above, most) }
 
 -- a centre over 1 or 2, near and in lowest terms, is in its place
-good : (c : PlaneRatio) → (c.w ≡ pos 1) ⊎ (c.w ≡ pos 2) → IsWithin 1000000 c.x → IsWithin 1000000 c.y → HaveNoCommonFactor (c.x ∷ c.y ∷ c.w ∷ []) → IsNearCentre c × IsPlaneRatio c
+good : (c : PlaneRatio) → (c.w ≡ pos 1) ⊎ (c.w ≡ pos 2) → IsWithin 1000000 c.x → IsWithin 1000000 c.y → HaveNoCommonFactor (c.x ∷ c.y ∷ c.w ∷ []) → IsCentreWithinLimits c × IsPlaneRatio c
 good c halves x y lowest =
     let w = small c.w halves in (
       record { halves = halves; x = x; y = y },
@@ -45,11 +45,11 @@ good c halves x y lowest =
     small w (inr e) = (record { low = omega (arith, ints, e); high = omega (arith, ints, e) }, omega (arith, ints, e))
 
 -- the centre of the square is near, and in lowest terms
-centre_good : (side : ℕ) (square : Square) → IsPlaced side square → side ≤ 400000 → IsNearCentre (centre_of square (half_of side)) × IsPlaneRatio (centre_of square (half_of side))
+centre_good : (side : ℕ) (square : Square) → IsPlaced side square → side ≤ 400000 → IsCentreWithinLimits (centre_of square (half_of side)) × IsPlaneRatio (centre_of square (half_of side))
 centre_good side square placed most = by_parity (side % 2 == 0) refl
   where
     by_parity : (b : Bool) → (side % 2 == 0) ≡ b
-        → let centre : PlaneRatio = centre_of square (if b then record { n = pos (side / 2); d = pos 1 } else record { n = pos side; d = pos 2 }) in IsNearCentre centre × IsPlaneRatio centre
+        → let centre : PlaneRatio = centre_of square (if b then record { n = pos (side / 2); d = pos 1 } else record { n = pos side; d = pos 2 }) in IsCentreWithinLimits centre × IsPlaneRatio centre
     by_parity true e =
         good _ (inl refl) (whole_middle square.left side placed.left placed.right most) (whole_middle square.bottom side placed.bottom placed.top most) (λ k h. eq-one_of_dvd-one (h 2 (pos 1) (omega arith)))
     by_parity false e =
@@ -58,7 +58,7 @@ centre_good side square placed most = by_parity (side % 2 == 0) refl
         (λ k h. divides_two k _ (odd_sum square.left side odd) (h 0 (pos 0) (omega arith)) (h 2 (pos 2) (omega arith)))
 
 -- it is near
-pub centre_near : (side : ℕ) (square : Square) → IsPlaced side square → side ≤ 400000 → IsNearCentre (centre_of square (half_of side))
+pub centre_near : (side : ℕ) (square : Square) → IsPlaced side square → side ≤ 400000 → IsCentreWithinLimits (centre_of square (half_of side))
 centre_near side square placed most = (centre_good side square placed most).0
 
 -- it is in its place
