@@ -9,7 +9,7 @@ use Rattle.answers.specs.Answers.{leaf_of}
 use Rattle.corner_squares.specs.declared.square.Square.{Square}
 use Rattle.corner_squares.specs.declared.extent.Extent.{Extent}
 use Rattle.corner_squares.specs.declared.bounds.Bounds.{Bounds}
-use Rattle.corner_squares.specs.Squares.{IsHeld}
+use Rattle.corner_squares.specs.Squares.{IsCovered}
 use Rattle.corner_squares.specs.Extents as boxes
 use Rattle.corner_squares.specs.Extents.{Sees, HasAt, IsExtent, IsBox, Adds}
 use Rattle.corner_squares.proofs.Boxes as same
@@ -23,7 +23,7 @@ found points squares limit i (Some b) h = h.0
 
 -- nothing new where a square holds the point
 pub found_same : (points : List PlanePoint) (squares : List Square) (limit i : ℕ) (p : PlanePoint) (b : Option Bounds)
-    → slice_get points i ≡ Some p → IsHeld squares p → IsFound points squares limit i b → IsFound points squares limit (i + 1) b
+    → slice_get points i ≡ Some p → IsCovered squares p → IsFound points squares limit i b → IsFound points squares limit (i + 1) b
 found_same points squares limit i p None there held was = same.found_same points squares i p None there held was
 found_same points squares limit i p (Some b) there held was = (same.found_same points squares i p (Some b) there held was.0, was.1)
 
@@ -88,9 +88,9 @@ first_ends of points squares i limit e leaf h ends =
     let far = far_ends of points squares i limit e leaf h ends in
     record {
       least = λ k seen. elim (h.inside k seen) [ inl held ↦ inl held | inr inside ↦ inr (subst (λ v. v ≤ℤ of (point_at points k)) (sym far.0.has) inside.0) ];
-      first_least = λ k sooner. subst (λ v. IsHeld squares (point_at points k) ⊎ (v <ℤ of (point_at points k))) (sym far.0.has) (h.low_first k (subst (λ n. k < n) ends.first sooner));
+      first_least = λ k sooner. subst (λ v. IsCovered squares (point_at points k) ⊎ (v <ℤ of (point_at points k))) (sym far.0.has) (h.low_first k (subst (λ n. k < n) ends.first sooner));
       greatest = λ k seen. elim (h.inside k seen) [ inl held ↦ inl held | inr inside ↦ inr (subst (λ v. of (point_at points k) ≤ℤ v) (sym far.1.has) inside.1) ];
-      first_greatest = λ k sooner. subst (λ v. IsHeld squares (point_at points k) ⊎ (of (point_at points k) <ℤ v)) (sym far.1.has) (h.high_first k (subst (λ n. k < n) ends.second sooner));
+      first_greatest = λ k sooner. subst (λ v. IsCovered squares (point_at points k) ⊎ (of (point_at points k) <ℤ v)) (sym far.1.has) (h.high_first k (subst (λ n. k < n) ends.second sooner));
     }
 
 -- so they are the first two that are far apart
@@ -138,8 +138,8 @@ far_pair points squares i limit p found b leaf was adds box (inr ends) =
     }
 
 -- all points are seen
-pub all_held : (points : List PlanePoint) (squares : List Square) (i : ℕ) → length points ≤ i → ((k : ℕ) → k < i → IsHeld squares (point_at points k)) → All (IsHeld squares) points
-all_held points squares i all h = λ k d below. subst (IsHeld squares) (get_or_default points k origin d below) (h k (seen below))
+pub all_held : (points : List PlanePoint) (squares : List Square) (i : ℕ) → length points ≤ i → ((k : ℕ) → k < i → IsCovered squares (point_at points k)) → All (IsCovered squares) points
+all_held points squares i all h = λ k d below. subst (IsCovered squares) (get_or_default points k origin d below) (h k (seen below))
   where
     seen : {k : ℕ} → k < length points → k < i
     seen l = omega arith
@@ -171,5 +171,5 @@ found_all points squares limit i found b all is h =
     let some = subst (IsFound points squares limit i) is h in
     (box_of_all points squares i b all some.0, some.1)
 
-pub found_none : (points : List PlanePoint) (squares : List Square) (limit i : ℕ) (found : Option Bounds) → length points ≤ i → found ≡ None → IsFound points squares limit i found → All (IsHeld squares) points
+pub found_none : (points : List PlanePoint) (squares : List Square) (limit i : ℕ) (found : Option Bounds) → length points ≤ i → found ≡ None → IsFound points squares limit i found → All (IsCovered squares) points
 found_none points squares limit i found all is h = all_held points squares i all (subst (IsFound points squares limit i) is h)

@@ -5,7 +5,7 @@ use Rattle.std.proofs.lemmas.List.Elements.{All-nil}
 use Rattle.bounds_model.specs.Plane.{PlanePoint, point_at, origin}
 use Rattle.bounds_model.specs.CentresAnswer as model
 use Rattle.corner_squares.specs.declared.square.Square.{Square}
-use Rattle.corner_squares.specs.Squares.{square_of, IsHeld}
+use Rattle.corner_squares.specs.Squares.{square_of, IsCovered}
 use Rattle.corner_squares.specs.Trees.{NamesPoints}
 use Rattle.corner_squares.proofs.Holding.{between_sides}
 use Rattle.corner_squares.proofs.LeftOver.{none_held}
@@ -15,7 +15,7 @@ use Rattle.p_centres.specs.Leaves.{later, IsFirstLeast, IsFirstGreatest, IsAlong
 
 -- ---- what one square holds is no farther apart than its side
 
-held_alone : (s : Square) (p : PlanePoint) → IsHeld (s ∷ []) p → IsTrue (model.holds (square_of s) p)
+held_alone : (s : Square) (p : PlanePoint) → IsCovered (s ∷ []) p → IsTrue (model.holds (square_of s) p)
 held_alone s p (zero, t, below, is, held) = subst (λ u. IsTrue (model.holds (square_of u) p)) (sym is) held
 held_alone s p (suc k, t, below, is, held) = absurd (omega (arith, below))
 
@@ -44,7 +44,7 @@ abbrev AreWithin : (PlanePoint → ℤ) → List PlanePoint → ℕ → Type 0
 AreWithin of points side = (j k : ℕ) → j < length points → k < length points → of (point_at points k) ≤ℤ (of (point_at points j) +ℤ pos side)
 
 -- no square holds anything where there is none
-free : {A : Type 0} {p : PlanePoint} → IsHeld [] p ⊎ A → A
+free : {A : Type 0} {p : PlanePoint} → IsCovered [] p ⊎ A → A
 free {A} {p} (inl held) = absurd (none_held p held)
 free {A} {p} (inr a) = a
 

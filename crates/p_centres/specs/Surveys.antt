@@ -9,7 +9,7 @@ use Rattle.answers.specs.Answers.{leaf_of}
 use Rattle.corner_squares.specs.declared.square.Square.{Square}
 use Rattle.corner_squares.specs.declared.extent.Extent.{Extent}
 use Rattle.corner_squares.specs.declared.bounds.Bounds.{Bounds}
-use Rattle.corner_squares.specs.Squares.{IsHeld}
+use Rattle.corner_squares.specs.Squares.{IsCovered}
 use Rattle.corner_squares.specs.Extents.{IsBox}
 use Rattle.p_centres.specs.Leaves.{later}
 use Rattle.p_centres.specs.declared.surveys.Finding.{Finding}
@@ -33,20 +33,20 @@ IsFarOrNear b limit (Some leaf) = AreEnds limit b.across leaf ⊎ (AreEnds limit
 
 -- the first i points are all held, or the box is that of the others
 abbrev pub IsFound : List PlanePoint → List Square → ℕ → ℕ → Option Bounds → Type 0
-IsFound points squares limit i None = (k : ℕ) → k < i → IsHeld squares (point_at points k)
+IsFound points squares limit i None = (k : ℕ) → k < i → IsCovered squares (point_at points k)
 IsFound points squares limit i (Some b) = IsBox points squares i b × IsNoLonger limit b
 
 -- of the first i points, those that no square holds differ by at most the limit in this coordinate
 abbrev pub AreNear : (PlanePoint → ℤ) → List PlanePoint → List Square → ℕ → ℕ → Type 0
 AreNear of points squares limit i =
-    (j k : ℕ) → j < i → k < i → IsHeld squares (point_at points j) ⊎ IsHeld squares (point_at points k) ⊎ (of (point_at points k) ≤ℤ (of (point_at points j) +ℤ pos limit))
+    (j k : ℕ) → j < i → k < i → IsCovered squares (point_at points j) ⊎ IsCovered squares (point_at points k) ⊎ (of (point_at points k) ≤ℤ (of (point_at points j) +ℤ pos limit))
 
 -- of those of the first i points that no square holds, the leaf names the first one with the least value, and the first one with the greatest
 pub record AreFirstEnds (of : PlanePoint → ℤ) (points : List PlanePoint) (squares : List Square) (i : ℕ) (leaf : model.Leaf) : Type 0 where
-  pub least : (k : ℕ) → k < i → IsHeld squares (point_at points k) ⊎ (of (point_at points leaf.first) ≤ℤ of (point_at points k))
-  pub first_least : (k : ℕ) → k < leaf.first → IsHeld squares (point_at points k) ⊎ (of (point_at points leaf.first) <ℤ of (point_at points k))
-  pub greatest : (k : ℕ) → k < i → IsHeld squares (point_at points k) ⊎ (of (point_at points k) ≤ℤ of (point_at points leaf.second))
-  pub first_greatest : (k : ℕ) → k < leaf.second → IsHeld squares (point_at points k) ⊎ (of (point_at points k) <ℤ of (point_at points leaf.second))
+  pub least : (k : ℕ) → k < i → IsCovered squares (point_at points k) ⊎ (of (point_at points leaf.first) ≤ℤ of (point_at points k))
+  pub first_least : (k : ℕ) → k < leaf.first → IsCovered squares (point_at points k) ⊎ (of (point_at points leaf.first) <ℤ of (point_at points k))
+  pub greatest : (k : ℕ) → k < i → IsCovered squares (point_at points k) ⊎ (of (point_at points k) ≤ℤ of (point_at points leaf.second))
+  pub first_greatest : (k : ℕ) → k < leaf.second → IsCovered squares (point_at points k) ⊎ (of (point_at points k) <ℤ of (point_at points leaf.second))
 
 -- as far as its later point, the leaf names the ends in one coordinate, far apart; none are before that point, nor the first i beside
 pub record IsFirstFarIn (of beside : PlanePoint → ℤ) (points : List PlanePoint) (squares : List Square) (limit i : ℕ) (leaf : model.Leaf) : Type 0 where
@@ -63,19 +63,19 @@ IsFirstFar points squares limit leaf = IsFirstFarIn (λ p. p.x) (λ p. p.y) poin
 pub record IsFarPair (points : List PlanePoint) (squares : List Square) (limit : ℕ) (leaf : Leaf) : Type 0 where
   pub first : leaf.first < length points
   pub second : leaf.second < length points
-  pub first_free : ¬ IsHeld squares (point_at points leaf.first)
-  pub second_free : ¬ IsHeld squares (point_at points leaf.second)
+  pub first_free : ¬ IsCovered squares (point_at points leaf.first)
+  pub second_free : ¬ IsCovered squares (point_at points leaf.second)
   pub far : AreFar limit (point_at points leaf.first) (point_at points leaf.second)
   pub earliest : IsFirstFar points squares limit (leaf_of leaf)
   pub short : limit < 400000
 
 -- what is left over
 abbrev pub IsSurvey : List PlanePoint → List Square → ℕ → Finding → Type 0
-IsSurvey points squares limit Nothing = All (IsHeld squares) points
+IsSurvey points squares limit Nothing = All (IsCovered squares) points
 IsSurvey points squares limit (Around b) = IsBox points squares (length points) b × IsNoLonger limit b
 IsSurvey points squares limit (Far leaf) = IsFarPair points squares limit leaf
 
 -- the bounding box of what is left over, where there is something
 abbrev pub IsWhole : List PlanePoint → List Square → Option Bounds → Type 0
-IsWhole points squares None = All (IsHeld squares) points
+IsWhole points squares None = All (IsCovered squares) points
 IsWhole points squares (Some b) = IsBox points squares (length points) b
