@@ -4,7 +4,7 @@ use Rattle.std.proofs.lemmas.List.Elements.{All-weaker}
 use Rattle.bounds_model.specs.Plane.{PlanePoint}
 use Rattle.bounds_model.specs.Places.{IsPlaneRatio, point_limit}
 use Rattle.bounds_model.specs.Centres.{IsNear}
-use Rattle.bounds_model.specs.CentresAnswer.{CentresAnswer, PassesCentres, CentresPlaces, IsNearCentre, AreLeaves, side}
+use Rattle.bounds_model.specs.CentresAnswer.{CentresAnswer, PassesCentres, CentresPlaces, IsCentreWithinLimits, AreLeaves, side}
 use Rattle.centres_check.specs.CentresLimits.{IsSmallCentre, IsWithinLimits, NamesPoints}
 
 -- the squares cover the points, and the leaves show that no smaller ones do
@@ -28,7 +28,7 @@ passes count points a some few squares leaves limits tight = record {
   numbers = limits.numbers;
   halves = limits.radius.halves;
   size_limit = limits.radius.limit;
-  centres = All-weaker IsSmallCentre IsNearCentre (λ c small. small.near) a.squares limits.centres;
+  centres = All-weaker IsSmallCentre IsCentreWithinLimits (λ c small. small.near) a.squares limits.centres;
   covers = record {
     as_many = limits.as_many;
     denominators = All-weaker IsSmallCentre (λ c. pos 1 ≤ℤ c.w) (λ c small. small.place.denominator) a.squares limits.centres;

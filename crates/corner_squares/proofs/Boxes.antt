@@ -13,7 +13,7 @@ use Rattle.bounds_model.specs.CentresAnswer as model
 use Rattle.corner_squares.specs.declared.square.Square.{Square}
 use Rattle.corner_squares.specs.declared.extent.Extent.{Extent}
 use Rattle.corner_squares.specs.declared.bounds.Bounds.{Bounds}
-use Rattle.corner_squares.specs.Squares.{square_of, IsHeld, left_over}
+use Rattle.corner_squares.specs.Squares.{square_of, IsCovered, left_over}
 use Rattle.corner_squares.specs.Extents.{Sees, HasAt, IsExtent, IsPlaneExtent, IsBox, Adds, IsFound}
 use Rattle.corner_squares.proofs.LeftOver.{Contains-left_over, All-left_over, left_over-push}
 
@@ -44,10 +44,10 @@ moved of points squares old new value now h is_value is_number =
     subst (λ k. HasAt of points squares k now) (sym is_number) (subst (λ v. HasAt of points squares old v) (sym is_value) h)
 
 -- a point that is there has its coordinate
-here : (of : PlanePoint → ℤ) (points : List PlanePoint) (squares : List Square) (i : ℕ) (p : PlanePoint) → slice_get points i ≡ Some p → ¬ IsHeld squares p → HasAt of points squares i (of p)
+here : (of : PlanePoint → ℤ) (points : List PlanePoint) (squares : List Square) (i : ℕ) (p : PlanePoint) → slice_get points i ≡ Some p → ¬ IsCovered squares p → HasAt of points squares i (of p)
 here of points squares i p there free = record {
   below = slice_get_within points i p there;
-  free = subst (λ q. ¬ IsHeld squares q) (sym is) free;
+  free = subst (λ q. ¬ IsCovered squares q) (sym is) free;
   has = ap of is;
 }
   where
@@ -56,7 +56,7 @@ here of points squares i p there free = record {
 
 -- the first point that no square holds
 IsExtent-start : (of : PlanePoint → ℤ) (points : List PlanePoint) (squares : List Square) (i : ℕ) (p : PlanePoint) (e : Extent)
-    → ((k : ℕ) → k < i → IsHeld squares (point_at points k)) → slice_get points i ≡ Some p → ¬ IsHeld squares p → IsWithin plane_limit (of p)
+    → ((k : ℕ) → k < i → IsCovered squares (point_at points k)) → slice_get points i ≡ Some p → ¬ IsCovered squares p → IsWithin plane_limit (of p)
     → e ≡ record { low = of p; high = of p; low_at = i; high_at = i } → IsExtent of points squares (i + 1) e
 IsExtent-start of points squares i p e before there free inside is =
     let at = here of points squares i p there free in
@@ -75,11 +75,11 @@ IsExtent-start of points squares i p e before there free inside is =
 
 -- a point that a square holds
 IsExtent-same : (of : PlanePoint → ℤ) (points : List PlanePoint) (squares : List Square) (i : ℕ) (p : PlanePoint) (e : Extent)
-    → slice_get points i ≡ Some p → IsHeld squares p → IsExtent of points squares i e → IsExtent of points squares (i + 1) e
+    → slice_get points i ≡ Some p → IsCovered squares p → IsExtent of points squares i e → IsExtent of points squares (i + 1) e
 IsExtent-same of points squares i p e there held was = record {
   inside = λ k low. elim (below_or_at k i low) [
     | inl less ↦ was.inside k less
-    | inr same ↦ inl (subst (IsHeld squares) (sym (ap (point_at points) same ∙ get_or_from_slice_get points i p origin there)) held)
+    | inr same ↦ inl (subst (IsCovered squares) (sym (ap (point_at points) same ∙ get_or_from_slice_get points i p origin there)) held)
   ];
   low_at = was.low_at;
   high_at = was.high_at;
@@ -88,7 +88,7 @@ IsExtent-same of points squares i p e there held was = record {
 
 -- a point that no square holds
 IsExtent-more : (of : PlanePoint → ℤ) (points : List PlanePoint) (squares : List Square) (i : ℕ) (p : PlanePoint) (old new : Extent)
-    → slice_get points i ≡ Some p → ¬ IsHeld squares p → IsWithin plane_limit (of p) → IsExtent of points squares i old → Sees old (of p) i new → IsExtent of points squares (i + 1) new
+    → slice_get points i ≡ Some p → ¬ IsCovered squares p → IsWithin plane_limit (of p) → IsExtent of points squares i old → Sees old (of p) i new → IsExtent of points squares (i + 1) new
 IsExtent-more of points squares i p old new there free inside was sees = record {
   inside = λ k low. elim (below_or_at k i low) [
     | inl less ↦ elim (was.inside k less) [ inl held ↦ inl held | inr in_old ↦ inr (wider old new (of p) (of (point_at points k)) i sees in_old) ]
@@ -113,7 +113,7 @@ IsExtent-more of points squares i p old new there free inside was sees = record 
 
 -- the box of the first point that no square holds
 pub IsBox-start : (points : List PlanePoint) (squares : List Square) (i : ℕ) (p : PlanePoint) (b : Bounds)
-    → ((k : ℕ) → k < i → IsHeld squares (point_at points k)) → slice_get points i ≡ Some p → ¬ IsHeld squares p → IsInPlane p
+    → ((k : ℕ) → k < i → IsCovered squares (point_at points k)) → slice_get points i ≡ Some p → ¬ IsCovered squares p → IsInPlane p
     → b.across ≡ record { low = p.x; high = p.x; low_at = i; high_at = i } → b.up ≡ record { low = p.y; high = p.y; low_at = i; high_at = i } → IsBox points squares (i + 1) b
 IsBox-start points squares i p b before there free inside across up = record {
   across = IsExtent-start (λ p. p.x) points squares i p b.across before there free inside.x across;
@@ -122,7 +122,7 @@ IsBox-start points squares i p b before there free inside across up = record {
 
 -- it stays where a square holds the next point
 pub IsBox-same : (points : List PlanePoint) (squares : List Square) (i : ℕ) (p : PlanePoint) (b : Bounds)
-    → slice_get points i ≡ Some p → IsHeld squares p → IsBox points squares i b → IsBox points squares (i + 1) b
+    → slice_get points i ≡ Some p → IsCovered squares p → IsBox points squares i b → IsBox points squares (i + 1) b
 IsBox-same points squares i p b there held was = record {
   across = IsExtent-same (λ p. p.x) points squares i p b.across there held was.across;
   up = IsExtent-same (λ p. p.y) points squares i p b.up there held was.up;
@@ -130,7 +130,7 @@ IsBox-same points squares i p b there held was = record {
 
 -- and grows where none does
 pub IsBox-more : (points : List PlanePoint) (squares : List Square) (i : ℕ) (p : PlanePoint) (old new : Bounds)
-    → slice_get points i ≡ Some p → ¬ IsHeld squares p → IsInPlane p → IsBox points squares i old → Sees old.across p.x i new.across → Sees old.up p.y i new.up → IsBox points squares (i + 1) new
+    → slice_get points i ≡ Some p → ¬ IsCovered squares p → IsInPlane p → IsBox points squares i old → Sees old.across p.x i new.across → Sees old.up p.y i new.up → IsBox points squares (i + 1) new
 IsBox-more points squares i p old new there free inside was across up = record {
   across = IsExtent-more (λ p. p.x) points squares i p old.across new.across there free inside.x was.across across;
   up = IsExtent-more (λ p. p.y) points squares i p old.up new.up there free inside.y was.up up;
@@ -138,25 +138,25 @@ IsBox-more points squares i p old new there free inside was across up = record {
 
 -- the box with a point more that no square holds
 pub box_more : (points : List PlanePoint) (squares : List Square) (i : ℕ) (p : PlanePoint) (found : Option Bounds) (new : Bounds)
-    → slice_get points i ≡ Some p → ¬ IsHeld squares p → IsInPlane p → IsFound points squares i found → Adds found p i new → IsBox points squares (i + 1) new
+    → slice_get points i ≡ Some p → ¬ IsCovered squares p → IsInPlane p → IsFound points squares i found → Adds found p i new → IsBox points squares (i + 1) new
 box_more points squares i p None new there free plane was adds = IsBox-start points squares i p new was there free plane adds.0 adds.1
 box_more points squares i p (Some old) new there free plane was adds = IsBox-more points squares i p old new there free plane was adds.0 adds.1
 
 -- nothing new where a square holds the point
 pub found_same : (points : List PlanePoint) (squares : List Square) (i : ℕ) (p : PlanePoint) (found : Option Bounds)
-    → slice_get points i ≡ Some p → IsHeld squares p → IsFound points squares i found → IsFound points squares (i + 1) found
+    → slice_get points i ≡ Some p → IsCovered squares p → IsFound points squares i found → IsFound points squares (i + 1) found
 found_same points squares i p None there held was = λ k low. elim (below_or_at k i low) [
   | inl less ↦ was k less
-  | inr same ↦ subst (IsHeld squares) (sym (ap (point_at points) same ∙ get_or_from_slice_get points i p origin there)) held
+  | inr same ↦ subst (IsCovered squares) (sym (ap (point_at points) same ∙ get_or_from_slice_get points i p origin there)) held
 ]
 found_same points squares i p (Some b) there held was = IsBox-same points squares i p b there held was
 
 -- ---- all points seen
 
 -- where no box was found, all points are held, so nothing is left over
-pub nothing_free : (points : List PlanePoint) (squares : List Square) (i : ℕ) → length points ≤ i → ((k : ℕ) → k < i → IsHeld squares (point_at points k)) → left_over squares points ≡ []
+pub nothing_free : (points : List PlanePoint) (squares : List Square) (i : ℕ) → length points ≤ i → ((k : ℕ) → k < i → IsCovered squares (point_at points k)) → left_over squares points ≡ []
 nothing_free points squares i all h =
-    no_elements (left_over squares points) (All-left_over (λ p. ⊥) squares points (λ p m free. free (subst (IsHeld squares) (get_or_default points m.0 origin p m.1 ∙ m.2) (h m.0 (seen m.1)))))
+    no_elements (left_over squares points) (All-left_over (λ p. ⊥) squares points (λ p m free. free (subst (IsCovered squares) (get_or_default points m.0 origin p m.1 ∙ m.2) (h m.0 (seen m.1)))))
   where
     seen : {k : ℕ} → k < length points → k < i
     seen l = omega arith
@@ -174,7 +174,7 @@ inside_all : (of : PlanePoint → ℤ) (points : List PlanePoint) (squares : Lis
 inside_all of points squares i e all h =
     All-left_over (λ p. (e.low ≤ℤ of p) × (of p ≤ℤ e.high)) squares points
     (λ p m free. let is : point_at points m.0 ≡ p = get_or_default points m.0 origin p m.1 ∙ m.2 in elim (h.inside m.0 (seen m.1)) [
-      | inl held ↦ absurd (free (subst (IsHeld squares) is held))
+      | inl held ↦ absurd (free (subst (IsCovered squares) is held))
       | inr inside ↦ subst (λ p. (e.low ≤ℤ of p) × (of p ≤ℤ e.high)) is inside
     ])
   where

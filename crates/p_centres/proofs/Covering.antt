@@ -11,7 +11,7 @@ use Rattle.answers.specs.Answers.{leaf_of}
 use Rattle.corner_squares.specs.declared.square.Square.{Square}
 use Rattle.corner_squares.specs.declared.extent.Extent.{Extent}
 use Rattle.corner_squares.specs.declared.bounds.Bounds.{Bounds}
-use Rattle.corner_squares.specs.Squares.{square_of, IsHeld, left_over}
+use Rattle.corner_squares.specs.Squares.{square_of, IsCovered, left_over}
 use Rattle.corner_squares.specs.Extents.{IsExtent, IsPlaneExtent, IsBox}
 use Rattle.corner_squares.specs.Trees.{AreLeavesAt, nodes}
 use Rattle.corner_squares.proofs.Holding.{between_sides}
@@ -24,13 +24,13 @@ use Rattle.p_centres.specs.Covers.{IsPlaced, IsCover, IsRefuted}
 -- ---- squares
 
 -- what some squares hold, more squares hold
-pub held_by_more : (squares more : List Square) (p : PlanePoint) → IsHeld squares p → IsHeld (squares ++ more) p
+pub held_by_more : (squares more : List Square) (p : PlanePoint) → IsCovered squares p → IsCovered (squares ++ more) p
 held_by_more squares more p h = (h.0, h.1, longer h.2, get_or_append_left squares more h.1 h.0 h.2 ∙ h.3, h.4)
   where
     longer : {k : ℕ} → k < length squares → k < length (squares ++ more)
     longer l = let e = length-append squares more in omega (arith, l, e)
 
-held_by_last : (squares : List Square) (s : Square) (p : PlanePoint) → IsTrue (model.holds (square_of s) p) → IsHeld (squares ++ s ∷ []) p
+held_by_last : (squares : List Square) (s : Square) (p : PlanePoint) → IsTrue (model.holds (square_of s) p) → IsCovered (squares ++ s ∷ []) p
 held_by_last squares s p h = (length squares, s, inside, get_or_push squares s s (length squares) refl, h)
   where
     inside : length squares < length (squares ++ s ∷ [])
@@ -64,8 +64,8 @@ placed_more points side corner i squares placed_on pushed b s placed box h is =
 
 -- ---- a cover
 
-pub cover_now : (points : List PlanePoint) (side most : ℕ) (squares seen : List Square) → seen ≡ squares → length squares ≤ most → All (IsPlaced side) squares → All (IsHeld seen) points → IsCover points side most squares
-cover_now points side most squares seen is few placed held = record { few = few; placed = placed; held = subst (λ ss. All (IsHeld ss) points) is held }
+pub cover_now : (points : List PlanePoint) (side most : ℕ) (squares seen : List Square) → seen ≡ squares → length squares ≤ most → All (IsPlaced side) squares → All (IsCovered seen) points → IsCover points side most squares
+cover_now points side most squares seen is few placed held = record { few = few; placed = placed; held = subst (λ ss. All (IsCovered ss) points) is held }
 
 pub cover_by_more : (points : List PlanePoint) (side m n : ℕ) (squares : List Square) → m ≤ n → IsCover points side m squares → IsCover points side n squares
 cover_by_more points side m n squares more h = record { few = (let f = h.few in omega (arith, f, more)); placed = h.placed; held = h.held }
@@ -79,7 +79,7 @@ pub cover_with_one_more : (points : List PlanePoint) (side : ℕ) (squares pushe
 cover_with_one_more points side squares pushed b s placed box h is = subst (IsCover points side (length squares + 1)) (sym is) (record {
   few = (let e = length_push squares s in omega (arith, e));
   placed = placed_more points side 0 (length points) squares squares (squares ++ s ∷ []) b s placed box.0 h refl;
-  held = λ k d below. subst (IsHeld (squares ++ s ∷ [])) (get_or_default points k origin d below) (elim (box.0.across.inside k below) [
+  held = λ k d below. subst (IsCovered (squares ++ s ∷ [])) (get_or_default points k origin d below) (elim (box.0.across.inside k below) [
     | inl held ↦ held_by_more squares (s ∷ []) (point_at points k) held
     | inr in_x ↦ elim (box.0.up.inside k below) [
       | inl held ↦ held_by_more squares (s ∷ []) (point_at points k) held

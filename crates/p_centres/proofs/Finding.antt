@@ -10,7 +10,7 @@ use Rattle.answers.specs.declared.centres.Leaf.{Leaf}
 use Rattle.corner_squares.specs.declared.square.Square.{Square}
 use Rattle.corner_squares.specs.declared.extent.Extent.{Extent}
 use Rattle.corner_squares.specs.declared.bounds.Bounds.{Bounds}
-use Rattle.corner_squares.specs.Squares.{IsHeld}
+use Rattle.corner_squares.specs.Squares.{IsCovered}
 use Rattle.corner_squares.specs.Extents as boxes
 use Rattle.corner_squares.specs.Extents.{HasAt, IsExtent, IsBox}
 use Rattle.corner_squares.proofs.Boxes as same
@@ -23,7 +23,7 @@ found points squares limit i (Some b) h = h.0
 
 -- nothing new where a square holds the point
 pub found_same : (points : List PlanePoint) (squares : List Square) (limit i : ℕ) (p : PlanePoint) (b : Option Bounds)
-    → slice_get points i ≡ Some p → IsHeld squares p → IsFound points squares limit i b → IsFound points squares limit (i + 1) b
+    → slice_get points i ≡ Some p → IsCovered squares p → IsFound points squares limit i b → IsFound points squares limit (i + 1) b
 found_same points squares limit i p None there held was = same.found_same points squares i p None there held was
 found_same points squares limit i p (Some b) there held was = (same.found_same points squares i p (Some b) there held was.0, was.1)
 
@@ -50,8 +50,8 @@ far_pair points squares i limit b leaf box (inr ends) =
     record { first = far.0.below; second = far.1.below; first_free = far.0.free; second_free = far.1.free; far = inr far.2; short = far.3 }
 
 -- all points are seen
-pub all_held : (points : List PlanePoint) (squares : List Square) (i : ℕ) → length points ≤ i → ((k : ℕ) → k < i → IsHeld squares (point_at points k)) → All (IsHeld squares) points
-all_held points squares i all h = λ k d below. subst (IsHeld squares) (get_or_default points k origin d below) (h k (seen below))
+pub all_held : (points : List PlanePoint) (squares : List Square) (i : ℕ) → length points ≤ i → ((k : ℕ) → k < i → IsCovered squares (point_at points k)) → All (IsCovered squares) points
+all_held points squares i all h = λ k d below. subst (IsCovered squares) (get_or_default points k origin d below) (h k (seen below))
   where
     seen : {k : ℕ} → k < length points → k < i
     seen l = omega arith
@@ -71,5 +71,5 @@ found_all points squares limit i found b all is h =
     let some = subst (IsFound points squares limit i) is h in
     (box_up_to points squares i (length points) b all some.0, some.1)
 
-pub found_none : (points : List PlanePoint) (squares : List Square) (limit i : ℕ) (found : Option Bounds) → length points ≤ i → found ≡ None → IsFound points squares limit i found → All (IsHeld squares) points
+pub found_none : (points : List PlanePoint) (squares : List Square) (limit i : ℕ) (found : Option Bounds) → length points ≤ i → found ≡ None → IsFound points squares limit i found → All (IsCovered squares) points
 found_none points squares limit i found all is h = all_held points squares i all (subst (IsFound points squares limit i) is h)

@@ -9,7 +9,7 @@ use Rattle.answers.specs.Answers.{leaf_of}
 use Rattle.corner_squares.specs.declared.square.Square.{Square}
 use Rattle.corner_squares.specs.declared.bounds.Bounds.{Bounds}
 use Rattle.corner_squares.specs.Extents.{IsBox}
-use Rattle.corner_squares.specs.Squares.{IsHeld, left_over}
+use Rattle.corner_squares.specs.Squares.{IsCovered, left_over}
 use Rattle.corner_squares.specs.Trees.{NamesPoints, AreLeavesAt, nodes}
 use Rattle.corner_squares.proofs.LeftOver.{none_held}
 use Rattle.corner_squares.proofs.Trees.{tree_leaves}
@@ -47,7 +47,7 @@ pub steps_in_all : (n first now low high : ℕ) → HasTries n first now low hig
 steps_in_all n first now low high h = let s = h.steps in omega (arith, s)
 
 -- some point is not held by no squares
-pub not_all_held : (points : List PlanePoint) → 1 ≤ length points → All (IsHeld []) points → ⊥
+pub not_all_held : (points : List PlanePoint) → 1 ≤ length points → All (IsCovered []) points → ⊥
 not_all_held points some h = none_held _ (h 0 origin (omega (arith, some)))
 
 -- ---- brackets

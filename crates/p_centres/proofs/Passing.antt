@@ -14,7 +14,7 @@ use Rattle.bounds_model.specs.CentresAnswer as model
 use Rattle.answers.specs.declared.centres.Leaf.{Leaf}
 use Rattle.answers.specs.Answers.{leaf_of}
 use Rattle.corner_squares.specs.declared.square.Square.{Square}
-use Rattle.corner_squares.specs.Squares.{square_of, IsHeld}
+use Rattle.corner_squares.specs.Squares.{square_of, IsCovered}
 use Rattle.corner_squares.specs.Trees.{NamesPoints}
 use Rattle.corner_squares.proofs.Holding.{between_sides}
 use Rattle.p_centres.specs.declared.sides.Bracket.{Bracket}
@@ -55,7 +55,7 @@ near_its_centre side s p wide held =
     positive : pos 0 ≤ℤ (half_of side).d
     positive = let h = (IsLowest-half side).not_negative.denominator in omega (arith, ints, h)
 
-near_some : (side : ℕ) (squares : List Square) (p : PlanePoint) → All (IsPlaced side) squares → IsHeld squares p → Any (IsNear (half_of side) p) (map (λ s. centre_of s (half_of side)) squares)
+near_some : (side : ℕ) (squares : List Square) (p : PlanePoint) → All (IsPlaced side) squares → IsCovered squares p → Any (IsNear (half_of side) p) (map (λ s. centre_of s (half_of side)) squares)
 near_some side squares p placed (k, s, below, is, held) =
     let wide : s.side ≡ side = subst (λ t. t.side ≡ side) is (placed k s below).wide in (
       k,
@@ -71,7 +71,7 @@ pub filled_cover : (points : List PlanePoint) (side count : ℕ) (old new : List
 filled_cover points side count old new h filled = record {
   few = (let e = filled.as_many in omega (arith, e));
   placed = subst (All (IsPlaced side)) (sym filled.appended) (All-append (IsPlaced side) old filled.again h.placed (λ k d below. All-contains (IsPlaced side) old (get_or filled.again k d) h.placed (filled.old_ones k d below)));
-  held = λ k d below. subst (λ ss. IsHeld ss (get_or points k d)) (sym filled.appended) (held_by_more old filled.again (get_or points k d) (h.held k d below));
+  held = λ k d below. subst (λ ss. IsCovered ss (get_or points k d)) (sym filled.appended) (held_by_more old filled.again (get_or points k d) (h.held k d below));
 }
 
 -- some square covers a point
@@ -99,7 +99,7 @@ answer_passes points count b squares some few most h least cover as_many = recor
   numbers = λ k d below. let names = h.names k d below in (names.first, names.second);
   halves = half-denominator b.high;
   size_limit = let n = (half-numbers b.high h.limit).0.high in omega (arith, ints, n);
-  centres = All-map model.IsNearCentre (λ s. centre_of s (half_of b.high)) squares (λ k d below. centre_near b.high (get_or squares k d) (cover.placed k d below) h.limit);
+  centres = All-map model.IsCentreWithinLimits (λ s. centre_of s (half_of b.high)) squares (λ k d below. centre_near b.high (get_or squares k d) (cover.placed k d below) h.limit);
   covers = record {
     as_many = count_is;
     denominators = All-map (λ c. pos 1 ≤ℤ c.w) (λ s. centre_of s (half_of b.high)) squares (λ k d below. (centre_place b.high (get_or squares k d) (cover.placed k d below) h.limit).denominator);

@@ -8,7 +8,7 @@ use Rattle.bounds_model.specs.Fractions.{Fraction}
 use Rattle.bounds_model.specs.Numbers.{IsWithin}
 use Rattle.bounds_model.specs.Plane.{PlaneRatio}
 use Rattle.bounds_model.specs.Places.{IsFraction, IsPlaneRatio}
-use Rattle.bounds_model.specs.CentresAnswer.{IsNearCentre}
+use Rattle.bounds_model.specs.CentresAnswer.{IsCentreWithinLimits}
 use Rattle.corner_squares.specs.declared.square.Square.{Square}
 use Rattle.p_centres.specs.Covers.{IsPlaced}
 use Rattle.p_centres.specs.Squares.{half_of, centre_of}
@@ -33,11 +33,11 @@ half_middle : (low : ℤ) (side : ℕ) → low ≤ℤ pos 200000 → neg_ℤ (po
 half_middle low side below above most = record { low = omega (arith, ints, below, above, most); high = omega (arith, ints, below, above, most) }
 
 -- the centre of the square is near, and in lowest terms
-centre_good : (side : ℕ) (square : Square) → IsPlaced side square → side ≤ 400000 → IsNearCentre (centre_of square (half_of side)) × IsPlaneRatio (centre_of square (half_of side))
+centre_good : (side : ℕ) (square : Square) → IsPlaced side square → side ≤ 400000 → IsCentreWithinLimits (centre_of square (half_of side)) × IsPlaneRatio (centre_of square (half_of side))
 centre_good side square placed most = by_parity (side % 2 == 0) refl
   where
     by_parity : (b : Bool) → (side % 2 == 0) ≡ b
-        → let centre : PlaneRatio = centre_of square (if b then record { n = pos (side / 2); d = pos 1 } else record { n = pos side; d = pos 2 }) in IsNearCentre centre × IsPlaneRatio centre
+        → let centre : PlaneRatio = centre_of square (if b then record { n = pos (side / 2); d = pos 1 } else record { n = pos side; d = pos 2 }) in IsCentreWithinLimits centre × IsPlaneRatio centre
     by_parity true e =
         let x = whole_middle square.left side placed.left placed.right most in
         let y = whole_middle square.bottom side placed.bottom placed.top most in (
@@ -65,7 +65,7 @@ centre_good side square placed most = by_parity (side % 2 == 0) refl
         )
 
 -- it is near
-pub centre_near : (side : ℕ) (square : Square) → IsPlaced side square → side ≤ 400000 → IsNearCentre (centre_of square (half_of side))
+pub centre_near : (side : ℕ) (square : Square) → IsPlaced side square → side ≤ 400000 → IsCentreWithinLimits (centre_of square (half_of side))
 centre_near side square placed most = (centre_good side square placed most).0
 
 -- it is in its place

@@ -4,7 +4,7 @@ use Rattle.bounds_model.specs.Plane.{PlanePoint}
 use Rattle.answers.specs.declared.centres.Leaf.{Leaf}
 use Rattle.answers.specs.Answers.{leaf_of}
 use Rattle.corner_squares.specs.declared.square.Square.{Square}
-use Rattle.corner_squares.specs.Squares.{IsHeld, left_over}
+use Rattle.corner_squares.specs.Squares.{IsCovered, left_over}
 use Rattle.corner_squares.specs.Trees.{AreLeavesAt}
 
 -- a square of this side that reaches into the bounds of points
@@ -19,7 +19,7 @@ pub record IsPlaced (side : ℕ) (s : Square) : Type 0 where
 pub record IsCover (points : List PlanePoint) (side most : ℕ) (squares : List Square) : Type 0 where
   pub few : length squares ≤ most
   pub placed : All (IsPlaced side) squares
-  pub held : All (IsHeld squares) points
+  pub held : All (IsCovered squares) points
 
 -- the leaves below the placed squares are appended, and the squares stay as they are
 pub record IsRefuted (points : List PlanePoint) (side depth : ℕ) (placed placed_then : List Square) (leaves leaves_then : List Leaf) : Type 0 where

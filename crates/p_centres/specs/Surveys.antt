@@ -7,7 +7,7 @@ use Rattle.answers.specs.declared.centres.Leaf.{Leaf}
 use Rattle.corner_squares.specs.declared.square.Square.{Square}
 use Rattle.corner_squares.specs.declared.extent.Extent.{Extent}
 use Rattle.corner_squares.specs.declared.bounds.Bounds.{Bounds}
-use Rattle.corner_squares.specs.Squares.{IsHeld}
+use Rattle.corner_squares.specs.Squares.{IsCovered}
 use Rattle.corner_squares.specs.Extents.{Sees, IsBox}
 use Rattle.p_centres.specs.declared.surveys.Finding.{Finding}
 use Rattle.p_centres.specs.declared.surveys.Finding.TheVariants.{Nothing, Around, Far}
@@ -30,25 +30,25 @@ IsFarOrNear b limit (Some leaf) = AreEnds limit b.across leaf ⊎ AreEnds limit 
 
 -- the first i points are all held, or the box is that of the others
 abbrev pub IsFound : List PlanePoint → List Square → ℕ → ℕ → Option Bounds → Type 0
-IsFound points squares limit i None = (k : ℕ) → k < i → IsHeld squares (point_at points k)
+IsFound points squares limit i None = (k : ℕ) → k < i → IsCovered squares (point_at points k)
 IsFound points squares limit i (Some b) = IsBox points squares i b × IsNoLonger limit b
 
 -- two points that no square holds and that are far apart: they are points, so the limit is less than what they can be apart
 pub record IsFarPair (points : List PlanePoint) (squares : List Square) (limit : ℕ) (leaf : Leaf) : Type 0 where
   pub first : leaf.first < length points
   pub second : leaf.second < length points
-  pub first_free : ¬ IsHeld squares (point_at points leaf.first)
-  pub second_free : ¬ IsHeld squares (point_at points leaf.second)
+  pub first_free : ¬ IsCovered squares (point_at points leaf.first)
+  pub second_free : ¬ IsCovered squares (point_at points leaf.second)
   pub far : AreFar limit (point_at points leaf.first) (point_at points leaf.second)
   pub short : limit < 400000
 
 -- what is left over
 abbrev pub IsSurvey : List PlanePoint → List Square → ℕ → Finding → Type 0
-IsSurvey points squares limit Nothing = All (IsHeld squares) points
+IsSurvey points squares limit Nothing = All (IsCovered squares) points
 IsSurvey points squares limit (Around b) = IsBox points squares (length points) b × IsNoLonger limit b
 IsSurvey points squares limit (Far leaf) = IsFarPair points squares limit leaf
 
 -- the bounding box of what is left over, where there is something
 abbrev pub IsWhole : List PlanePoint → List Square → Option Bounds → Type 0
-IsWhole points squares None = All (IsHeld squares) points
+IsWhole points squares None = All (IsCovered squares) points
 IsWhole points squares (Some b) = IsBox points squares (length points) b

@@ -1,7 +1,7 @@
 use Rattle.std.proofs.Common.{rules, ◌≡◌, sym, subst, ◌∙◌, ◌+◌, ◌≤◌, length, ℕ, true, false, arith}
 use Rattle.bounded_coords.specs.Clouds.{counted_points}
 use Rattle.corner_squares.specs.Extents.{IsBox}
-use Rattle.corner_squares.specs.Squares.{IsHeld}
+use Rattle.corner_squares.specs.Squares.{IsCovered}
 use Rattle.p_centres.specs.Surveys.{IsFound, IsNoLonger}
 use Rattle.corner_squares.proofs.Boxes.{box_more}
 use Rattle.p_centres.proofs.Finding.{found, found_same, far_pair, found_all, found_none}
