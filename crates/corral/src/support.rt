@@ -1,6 +1,6 @@
 //! Weighted items.
 ghost use Rattle.std.specs.Prelude.{◌≡◌, ◌+◌, ◌<◌, ◌≤◌, length, map, slice_get, Some, IsSomeAnd};
-ghost use Rattle.corral.specs.Held.{AreHeld, AreHeld-prop};
+ghost use Rattle.corral.specs.WeightedItems.{AreSupportItems, AreSupportItems-prop};
 
 use crate::items::{Id, Items};
 use arrayvec::ArrayVec;
@@ -8,7 +8,7 @@ use kernel_laws::Kernel;
 
 /// An item and its weight.
 #[derive(Clone, Copy, Debug, Default, PartialEq, Eq)]
-pub(crate) struct Held {
+pub(crate) struct WeightedItem {
     pub(crate) id: Id,
     pub(crate) weight: u128,
 }
@@ -17,8 +17,8 @@ pub(crate) struct Held {
 #[derive(Drop)]
 pub struct Support<'a, K: Kernel> {
     items: Items<'a, K>,
-    held: ArrayVec<Held, 4>,
-    ghost are_held: { AreHeld K.DIM items held.items } by { AreHeld-prop K.DIM items held.items },
+    held: ArrayVec<WeightedItem, 4>,
+    ghost are_held: { AreSupportItems K.DIM items held.items } by { AreSupportItems-prop K.DIM items held.items },
 }
 
 impl<'a, K: Kernel> Support<'a, K> {
@@ -26,8 +26,8 @@ impl<'a, K: Kernel> Support<'a, K> {
     ghost use Rattle.corral.specs.Supported.{items_of, supports_of};
 
     /// Supports among these items.
-    pub(crate) fn new(items: Items<'a, K>, held: ArrayVec<Held, 4>) -> Self
-        requires { AreHeld K.DIM items held.items }
+    pub(crate) fn new(items: Items<'a, K>, held: ArrayVec<WeightedItem, 4>) -> Self
+        requires { AreSupportItems K.DIM items held.items }
         ensures items { items_of result ≡ items.entry }
         ensures supports { supports_of result ≡ held.items }
     {

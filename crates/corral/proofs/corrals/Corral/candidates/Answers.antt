@@ -1,16 +1,16 @@
 use Rattle.std.proofs.Common.{◌∙◌, ap, subst, sym, inl, inr, ◌++◌, ◌∷◌, [], length, arith}
 use Rattle.std.specs.Prelude.{All}
 use Rattle.std.proofs.lemmas.List.Elements.{All-get_or}
-use Rattle.corral.specs.declared.holding.Held.{Held}
+use Rattle.corral.specs.declared.support.WeightedItem.{WeightedItem}
 use Rattle.corral.specs.declared.search.Candidate.{Candidate}
 use Rattle.corral.specs.Items.{IsItem}
-use Rattle.corral.specs.Held.{names}
+use Rattle.corral.specs.WeightedItems.{names}
 use Rattle.corral.specs.Balances.{IsNear}
 use Rattle.corral.proofs.Blanks.{blank_support}
 use Rattle.corral.proofs.Filling.{filled_first, filled_more}
 use Rattle.corral.proofs.Mapped.{take_whole}
 use Rattle.corral.proofs.Nearness.{candidates_are_items}
-use Rattle.corral.proofs.exchanges.Corral.candidates.Goals as goal
+use Rattle.corral.proofs.corrals.Corral.candidates.Goals as goal
 
 pub fill-init : goal.fill-init
 fill-init g c =
@@ -27,10 +27,10 @@ push-requires-in-fill g c =
 pub fill-preserved : goal.fill-preserved
 fill-preserved g c =
     let within = c.fill-test.true in
-    let listed = subst (All (λ (s : Held). IsItem c.args.self.now.items s.id)) (sym c.as_slice-support-items.ensures.value) c.args.self.now.held.listed in
+    let listed = subst (All (λ (s : WeightedItem). IsItem c.args.self.now.items s.id)) (sym c.as_slice-support-items.ensures.value) c.args.self.now.held.listed in
     filled_more {K = g.row.K.Denot} g.K.Kernel.DIM g.K.Kernel.place c.args.self.now.items c.args.id c.fill.all.items c.push-in-fill.new.self.items c.candidate-in-fill.result c.as_slice-support-items.result.now c.fill.support-index blank_support c.fill.invariant within
     c.push-in-fill.ensures.items c.candidate-in-fill.ensures.id c.candidate-in-fill.ensures.vector c.candidate-in-fill.ensures.difference
-    (All-get_or (λ (s : Held). IsItem c.args.self.now.items s.id) c.as_slice-support-items.result.now c.fill.support-index blank_support within listed)
+    (All-get_or (λ (s : WeightedItem). IsItem c.args.self.now.items s.id) c.as_slice-support-items.result.now c.fill.support-index blank_support within listed)
 
 pub returns-clause-names : goal.returns-clause-names
 returns-clause-names g c =

@@ -3,12 +3,12 @@ use Rattle.std.proofs.lemmas.List.Elements.{All-nil, All-cons}
 use mir.Syntax.{w128}
 use Rattle.kernel_laws.specs.Vectors.{vector_of}
 use Rattle.corral.specs.declared.items.Id.{Id}
-use Rattle.corral.specs.declared.holding.Held.{Held}
+use Rattle.corral.specs.declared.support.WeightedItem.{WeightedItem}
 use Rattle.corral.specs.Items.{IsItem}
-use Rattle.corral.specs.Held.{AreHeld, weighted_items}
+use Rattle.corral.specs.WeightedItems.{AreSupportItems, weighted_items}
 use Rattle.corral.specs.Balances.{IsBalance}
 use Rattle.corral.proofs.Balancing.{one_within, sums_of_one, balance_of_one}
-use Rattle.corral.proofs.exchanges.Corral.start.Goals as goal
+use Rattle.corral.proofs.corrals.Corral.start.Goals as goal
 
 pub potential-level-requires-clause-within : goal.potential-level-requires-clause-within
 potential-level-requires-clause-within g c =
@@ -16,7 +16,7 @@ potential-level-requires-clause-within g c =
     (sums_of_one (vector_of c.vector-vector.result) c.none.result c.with-moments.result c.none.ensures.mass c.none.ensures.sum c.with-moments.ensures.mass c.with-moments.ensures.sum)
 
 -- the one support
-abbrev one : Id → Held
+abbrev one : Id → WeightedItem
 one id = record { id = id; weight = 1 }
 
 pub invariant_of-result : goal.invariant_of-result
@@ -27,9 +27,9 @@ invariant_of-result g c =
     let level = to_z-of_z fits ∙ c.potential-level.ensures in
     record {
       suited = c.requires.suited;
-      held = subst (λ held. AreHeld {K = g.row.K.Denot} g.K.Kernel.DIM c.args.items held) (sym whole) (record {
+      held = subst (λ held. AreSupportItems {K = g.row.K.Denot} g.K.Kernel.DIM c.args.items held) (sym whole) (record {
         count = record { at_least = omega arith; at_most = omega arith };
-        listed = All-cons (λ (s : Held). IsItem c.args.items s.id) (one c.args.id) [] c.requires.item (All-nil (λ (s : Held). IsItem c.args.items s.id));
+        listed = All-cons (λ (s : WeightedItem). IsItem c.args.items s.id) (one c.args.id) [] c.requires.item (All-nil (λ (s : WeightedItem). IsItem c.args.items s.id));
       });
       balanced = subst (λ held. IsBalance g.K.Kernel.DIM g.T.Potential.SQUARE (weighted_items g.K.Kernel.place c.args.items held) (record { held = c.push.new.self; moments = c.with-moments.result; level = to_z w128 (of_z w128 c.potential-level.result) })) (sym whole)
           (subst (λ u. IsBalance g.K.Kernel.DIM g.T.Potential.SQUARE (record { weight = pos 1; vector = u } ∷ []) (record { held = c.push.new.self; moments = c.with-moments.result; level = to_z w128 (of_z w128 c.potential-level.result) })) c.vector-vector.ensures.value

@@ -3,13 +3,13 @@ ghost use Rattle.std.specs.Prelude.{◌≡◌, ◌≤ℤ◌, pos};
 ghost use Rattle.bounds_model.specs.Potentials.{mass, IsLow};
 ghost use Rattle.kernel_laws.specs.Solutions.{weight_limit};
 ghost use Rattle.corral.specs.Items.{IsItem, item, square_of};
-ghost use Rattle.corral.specs.Held.{AreHeld, weighted_items};
+ghost use Rattle.corral.specs.WeightedItems.{AreSupportItems, weighted_items};
 ghost use Rattle.corral.specs.Supports.{AreSupports};
 ghost use Rattle.corral.specs.Supported.{items_of, supports_of};
 
-use crate::exchanges::Corral;
-use crate::holding::Support;
+use crate::corrals::Corral;
 use crate::items::{Id, Items};
+use crate::support::Support;
 use kernel_laws::{Kernel, Potential};
 
 /// Supports under which no item is low. It begins with an item that is lowest under the first one, so that the first exchange
@@ -17,7 +17,7 @@ use kernel_laws::{Kernel, Potential};
 pub fn settle<'a, K: Kernel, T: Potential>(kernel: K, items: Items<'a, K>) -> Support<'a, K>
     requires { T.SQUARE ≡ square_of items }
     ensures items { items_of result ≡ items.entry }
-    ensures held { AreHeld K.DIM items.entry (supports_of result) }
+    ensures held { AreSupportItems K.DIM items.entry (supports_of result) }
     ensures supports { AreSupports T.SQUARE (weighted_items K.place items.entry (supports_of result)) }
     ensures limit { mass (weighted_items K.place items.entry (supports_of result)) ≤ℤ pos (weight_limit T.SQUARE K.DIM) }
     ensures none_low { (id : _) → IsItem items.entry id → ¬ IsLow T.SQUARE (weighted_items K.place items.entry (supports_of result)) (item K.place items.entry id) }

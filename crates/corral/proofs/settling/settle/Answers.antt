@@ -3,12 +3,12 @@ use Rattle.bounds_model.specs.Potentials.{mass, IsLow}
 use Rattle.kernel_laws.specs.Solutions.{weight_limit}
 use Rattle.corral.specs.declared.items.Id.{Id}
 use Rattle.corral.specs.Items.{IsItem, item}
-use Rattle.corral.specs.Held.{AreHeld, weighted_items}
+use Rattle.corral.specs.WeightedItems.{AreSupportItems, weighted_items}
 use Rattle.corral.specs.Supports.{AreSupports}
 use Rattle.corral.specs.Corrals.{all_items, held_in, supports_in}
 use Rattle.corral.proofs.Outcomes.{one_outcome}
 use Rattle.corral.proofs.Nearer.{nearer, none_lower}
-use Rattle.corral.proofs.rounds.settle.Goals as goal
+use Rattle.corral.proofs.settling.settle.Goals as goal
 
 pub exchange-smaller : goal.exchange-smaller
 exchange-smaller g c =
@@ -20,8 +20,8 @@ returns-then-not-is_low-clause-items g c = c.into_support.ensures.items ∙ c.ex
 
 pub returns-then-not-is_low-clause-held : goal.returns-then-not-is_low-clause-held
 returns-then-not-is_low-clause-held g c =
-    subst (λ held. AreHeld {K = g.row.K.Denot} g.K.Kernel.DIM c.args.items held) (sym c.into_support.ensures.supports)
-    (subst (λ xs. AreHeld {K = g.row.K.Denot} g.K.Kernel.DIM xs (held_in c.exchange.corral)) c.exchange.invariant c.exchange.corral.held)
+    subst (λ held. AreSupportItems {K = g.row.K.Denot} g.K.Kernel.DIM c.args.items held) (sym c.into_support.ensures.supports)
+    (subst (λ xs. AreSupportItems {K = g.row.K.Denot} g.K.Kernel.DIM xs (held_in c.exchange.corral)) c.exchange.invariant c.exchange.corral.held)
 
 pub returns-then-not-is_low-clause-supports : goal.returns-then-not-is_low-clause-supports
 returns-then-not-is_low-clause-supports g c =

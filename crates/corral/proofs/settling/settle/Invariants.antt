@@ -3,7 +3,7 @@ use Rattle.kernel_laws.specs.Limits.{reach}
 use Rattle.kernel_laws.specs.Solutions.{weight_limit}
 use Rattle.corral.specs.Corrals.{all_items, supports_in}
 use Rattle.corral.specs.Rise.{measure}
-use Rattle.corral.proofs.rounds.settle.Given as goal
+use Rattle.corral.proofs.settling.settle.Given as goal
 
 abbrev pub invariant-exchange : goal.invariant-exchange
 invariant-exchange g l = all_items l.corral ≡ l.fn.items

@@ -7,14 +7,14 @@ ghost use Rattle.kernel_laws.specs.Limits.{IsDifference};
 ghost use Rattle.kernel_laws.specs.Solutions.{AreItems};
 ghost use Rattle.corral.specs.Parts.{IsPart};
 ghost use Rattle.corral.specs.Items.{IsItem, item, square_of};
-ghost use Rattle.corral.specs.Held.{AreHeld, AreHeld-prop, names, weighted_items};
+ghost use Rattle.corral.specs.WeightedItems.{AreSupportItems, AreSupportItems-prop, names, weighted_items};
 ghost use Rattle.corral.specs.Balances.{IsBalance, vectors, candidate_names, AreCandidates, IsNear};
 
-use crate::holding::{Held, Support};
 use crate::items::{Id, Items};
 use crate::lowest::{lowest_difference, lowest_point};
 use crate::search::{Balance, Candidate, search};
 use crate::sums::Moments;
+use crate::support::{Support, WeightedItem};
 use arrayvec::ArrayVec;
 use kernel_laws::{Kernel, Potential};
 use std::marker::PhantomData;
@@ -28,7 +28,7 @@ pub struct Corral<'a, K: Kernel, T: Potential> {
     balance: Balance,
     potential: PhantomData<T>,
     ghost suited: { T.SQUARE ≡ square_of items },
-    ghost held: { AreHeld K.DIM items balance.held.items } by { AreHeld-prop K.DIM items balance.held.items },
+    ghost held: { AreSupportItems K.DIM items balance.held.items } by { AreSupportItems-prop K.DIM items balance.held.items },
     ghost balanced: { IsBalance K.DIM T.SQUARE (weighted_items K.place items balance.held.items) balance },
 }
 
@@ -48,7 +48,7 @@ impl<'a, K: Kernel, T: Potential> Corral<'a, K, T> {
         let moments = Moments::none().with(1, vector);
         let level = moments.potential::<K, T>(&kernel, vector);
         let mut held = ArrayVec::new();
-        held.push(Held { id, weight: 1 });
+        held.push(WeightedItem { id, weight: 1 });
         Corral {
             kernel,
             items,
