@@ -23,7 +23,7 @@ nearer D H from to p q turns arc first zero high last i low below = subst (λ k.
 nearer D H from to p q turns arc first (suc j) high last i low below = elim (below_or_same i j below) [
   | inl less ↦ nearer D H from to p q turns arc first j (omega arith)
       (between (D from) (D j) (D (j + 1)) p q (arc.left j (omega arith) (omega arith)) (not_right D H from to j arc (omega arith) (omega arith))
-       (nonneg_from_positive (turns j (omega arith))) first (subst (λ k. dot (D k) p ≤ℤ dot (D k) q) (sym (add-one j)) last))
+      (nonneg_from_positive (turns j (omega arith))) first (subst (λ k. dot (D k) p ≤ℤ dot (D k) q) (sym (add-one j)) last))
       i low less
   | inr same ↦ subst (λ k. dot (D k) p ≤ℤ dot (D k) q) (sym same) last
 ]
@@ -33,11 +33,11 @@ on_arc : (D H : ℕ → PlanePoint) (from to k : ℕ) → Turns D to → IsArc D
 on_arc D H from to k turns arc low high =
     of_parts D H from to (H (k + 1)) (falls D H from to arc from (k + 1) (omega arith) (omega arith) high)
     (inner D H from to (H (k + 1)) k turns arc (record {
-       after = low;
-       before = high;
-       begin = inr (arc.edges k low high).falling;
-       end = inr (le_of_same refl);
-     }) (le_of_same refl))
+      after = low;
+      before = high;
+      begin = inr (arc.edges k low high).falling;
+      end = inr (le_of_same refl);
+    }) (le_of_same refl))
 
 -- what one of them dominates is below the arc
 dominated_by : (D H : ℕ → PlanePoint) (from to k m : ℕ) (p : PlanePoint) → m ≡ k + 1 → Turns D to → IsArc D H from to → from ≤ k → k + 1 < to

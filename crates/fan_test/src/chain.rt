@@ -261,7 +261,15 @@ fn is_dominated(first: Direction, along: i64, last: Direction, across: i64, p: P
 }
 
 /// The place in an arc whose edge a point is below, or None where it is not below the arc.
-fn place_below<C: Chain>(chain: &C, from: u32, to: u32, first: Direction, top: i64, start: u32, p: Point2) -> Option<u32>
+fn place_below<C: Chain>(
+    chain: &C,
+    from: u32,
+    to: u32,
+    first: Direction,
+    top: i64,
+    start: u32,
+    p: Point2,
+) -> Option<u32>
     requires turns { Turns (C.directions chain.now) (C.cones chain.now) }
     requires limit { to ≤ C.cones chain.now }
     requires arc { IsArc (C.directions chain.now) (C.points chain.now) from to }
@@ -294,7 +302,14 @@ fn is_within<C: Chain>(chain: &C, i: u32, k: u32, p: Point2) -> bool
 }
 
 /// The place in an arc whose edge decides for a point, searched from a place that may be near.
-fn place_for<C: Chain>(chain: &C, from: u32, to: u32, first: Direction, start: u32, p: Point2) -> u32
+fn place_for<C: Chain>(
+    chain: &C,
+    from: u32,
+    to: u32,
+    first: Direction,
+    start: u32,
+    p: Point2,
+) -> u32
     requires limit { to ≤ C.cones chain.now }
     requires arc { IsArc (C.directions chain.now) (C.points chain.now) from to }
     requires first { direction_of first ≡ C.directions chain.now from }
@@ -317,7 +332,14 @@ struct Places {
 }
 
 /// Places around a start among which is that of a point, from how far along it is.
-fn places_near<C: Chain>(chain: &C, from: u32, to: u32, first: Direction, along: i64, start: u32) -> Places
+fn places_near<C: Chain>(
+    chain: &C,
+    from: u32,
+    to: u32,
+    first: Direction,
+    along: i64,
+    start: u32,
+) -> Places
     requires limit { to ≤ C.cones chain.now }
     requires first { direction_of first ≡ C.directions chain.now from }
     requires short { IsShort (direction_of first) }
@@ -333,7 +355,14 @@ fn places_near<C: Chain>(chain: &C, from: u32, to: u32, first: Direction, along:
 }
 
 /// Places from a start on among which is that of a point. Their number doubles with each step, so that a place that is near is found soon.
-fn places_after<C: Chain>(chain: &C, from: u32, to: u32, first: Direction, along: i64, start: u32) -> Places
+fn places_after<C: Chain>(
+    chain: &C,
+    from: u32,
+    to: u32,
+    first: Direction,
+    along: i64,
+    start: u32,
+) -> Places
     requires limit { to ≤ C.cones chain.now }
     requires first { direction_of first ≡ C.directions chain.now from }
     requires short { IsShort (direction_of first) }
@@ -359,7 +388,14 @@ fn places_after<C: Chain>(chain: &C, from: u32, to: u32, first: Direction, along
 }
 
 /// Places before a start among which is that of a point.
-fn places_before<C: Chain>(chain: &C, from: u32, to: u32, first: Direction, along: i64, start: u32) -> Places
+fn places_before<C: Chain>(
+    chain: &C,
+    from: u32,
+    to: u32,
+    first: Direction,
+    along: i64,
+    start: u32,
+) -> Places
     requires limit { to ≤ C.cones chain.now }
     requires first { direction_of first ≡ C.directions chain.now from }
     requires short { IsShort (direction_of first) }
@@ -387,7 +423,14 @@ fn places_before<C: Chain>(chain: &C, from: u32, to: u32, first: Direction, alon
 }
 
 /// The place of a point among others, from how far along it is.
-fn halved<C: Chain>(chain: &C, from: u32, to: u32, first: Direction, along: i64, near: Places) -> u32
+fn halved<C: Chain>(
+    chain: &C,
+    from: u32,
+    to: u32,
+    first: Direction,
+    along: i64,
+    near: Places,
+) -> u32
     requires limit { to ≤ C.cones chain.now }
     requires arc { IsArc (C.directions chain.now) (C.points chain.now) from to }
     requires first { direction_of first ≡ C.directions chain.now from }
