@@ -1,8 +1,8 @@
 -- What is no further out than a point of an arc in the arc's first and last direction is below the arc.
-use Rattle.std.proofs.Common.{◌≡◌, refl, sym, subst, inl, inr, ◌⊎◌, ℕ, zero, suc, ◌+◌, ◌-◌, ◌<◌, ◌≤◌, pos, ◌≤ℤ◌, arith, add-one}
+use Rattle.std.proofs.Common.{◌≡◌, refl, sym, subst, inl, inr, ℕ, zero, suc, ◌+◌, ◌-◌, ◌<◌, ◌≤◌, pos, ◌≤ℤ◌, arith, add-one}
 use Rattle.integers.proofs.Order.{nonneg_from_positive, le_trans_ℤ, le_of_same}
 use Rattle.bounds_model.specs.Plane.{PlanePoint, dot, cross}
-use Rattle.fan_test.specs.Chains.{Turns, IsWithin, IsWithinEach, IsArc}
+use Rattle.fan_test.specs.Chains.{Turns, IsWithinEach, IsArc}
 use Rattle.fan_test.proofs.Arcs.{between, below_or_same, falls, inner, of_parts}
 use Rattle.fan_test.proofs.Steps.{beside}
 
@@ -46,7 +46,17 @@ dominated_by D H from to k m p is turns arc low high first last i above below =
     le_trans_ℤ (nearer D H from to p (H m) turns arc first (to - 1) (omega arith) last i above (omega arith))
     (subst (λ j. dot (D i) (H j) ≤ℤ dot (D i) (H i)) (sym is) (on_arc D H from to k turns arc low high i above below))
 
-pub dominated : (D H : ℕ → PlanePoint) (from to m : ℕ) (p : PlanePoint) → Turns D to → IsArc D H from to → from < m → m < to
+dominated : (D H : ℕ → PlanePoint) (from to m : ℕ) (p : PlanePoint) → Turns D to → IsArc D H from to → from < m → m < to
     → dot (D from) p ≤ℤ dot (D from) (H m) → dot (D (to - 1)) p ≤ℤ dot (D (to - 1)) (H m) → IsWithinEach D H from to p
 dominated D H from to m p turns arc low high first last =
     dominated_by D H from to (m - 1) m p (omega arith) turns arc (omega arith) (omega arith) first last
+
+-- a direction and a point under other names
+no_further : (d e p q r : PlanePoint) → d ≡ e → q ≡ r → dot d p ≤ℤ dot d q → dot e p ≤ℤ dot e r
+no_further d e p q r same is h = subst (λ z. dot e p ≤ℤ dot e z) is (subst (λ z. dot z p ≤ℤ dot z q) same h)
+
+-- what a point of the arc dominates in its first and its last direction is below the arc
+pub dominated_at : (D H : ℕ → PlanePoint) (from to m : ℕ) (first last q p : PlanePoint) → Turns D to → IsArc D H from to → from < m → m < to
+    → first ≡ D from → last ≡ D (to - 1) → q ≡ H m → (dot first p ≤ℤ dot first q) × (dot last p ≤ℤ dot last q) → IsWithinEach D H from to p
+dominated_at D H from to m first last q p turns arc low high is_first is_last is_q both =
+    dominated D H from to m p turns arc low high (no_further first (D from) p q (H m) is_first is_q both.0) (no_further last (D (to - 1)) p q (H m) is_last is_q both.1)

@@ -1,5 +1,5 @@
 -- The search for the place in an arc that decides for a point.
-use Rattle.std.proofs.Common.{◌≡◌, subst, ◌⊎◌, inl, inr, ℕ, ◌+◌, ◌-◌, ◌<◌, ◌≤◌, ℤ, ◌≤ℤ◌, arith}
+use Rattle.std.proofs.Common.{◌≡◌, subst, inl, inr, ℕ, ◌+◌, ◌-◌, ◌<◌, ◌≤◌, ℤ, ◌≤ℤ◌, arith}
 use Rattle.integers.proofs.Order.{le_trans_ℤ}
 use Rattle.bounds_model.specs.Plane.{PlanePoint, dot}
 use Rattle.fan_test.specs.Chains.{IsArc, IsPlaceFor, IsNear}

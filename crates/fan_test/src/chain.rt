@@ -223,7 +223,7 @@ fn reaches_at_most(direction: Direction, limit: i64, p: Point2) -> bool
 /// Whether all points are below an arc of more than one cone, in one pass.
 ///
 /// Each direction of an arc is a sum of its first and its last one, times numbers of at least 0. So what is no further out in these
-/// two than a point of the arc is below the arc too: that point dominates it.
+/// two than a point of the arc is below the arc too: that point dominates it. Three points of the arc dominate most of a cloud.
 fn are_below_arc<C: Chain>(chain: &C, from: u32, to: u32, cloud: Cloud2<'_>) -> bool
     requires turns { Turns (C.directions chain.now) (C.cones chain.now) }
     requires inner { from + 1 < to }
@@ -233,14 +233,21 @@ fn are_below_arc<C: Chain>(chain: &C, from: u32, to: u32, cloud: Cloud2<'_>) -> 
 {
     let first = chain.direction(from);
     let last = chain.direction(to - 1);
+    let quarter = (to - from - 1) / 4 + 1;
+    let early = chain.point(from + quarter);
     let middle = chain.point(from + (to - from) / 2);
-    let along = first.dot(middle);
-    let across = last.dot(middle);
+    let late = chain.point(to - quarter);
     let top = first.dot(chain.point(from));
     let mut place = from;
     'points: for i in 0..cloud.len() {
         let p = *cloud.at(i);
-        if is_dominated(first, along, last, across, p) {
+        if is_dominated(first, last, middle, p) {
+            continue;
+        }
+        if is_dominated(first, last, early, p) {
+            continue;
+        }
+        if is_dominated(first, last, late, p) {
             continue;
         }
         match place_below(chain, from, to, first, top, place, p) {
@@ -251,13 +258,21 @@ fn are_below_arc<C: Chain>(chain: &C, from: u32, to: u32, cloud: Cloud2<'_>) -> 
     true
 }
 
-/// Whether a point is no further out than the limits of two directions.
-fn is_dominated(first: Direction, along: i64, last: Direction, across: i64, p: Point2) -> bool
+/// Whether a point is no further out than another one in either of two directions.
+fn is_dominated(first: Direction, last: Direction, q: Point2, p: Point2) -> bool
     requires first { IsShort (direction_of first) }
     requires last { IsShort (direction_of last) }
-    ensures { IsTrue result ↔ ((product (direction_of first) p ≤ℤ along) × (product (direction_of last) p ≤ℤ across)) }
+    ensures { IsTrue result ↔ ((product (direction_of first) p ≤ℤ product (direction_of first) q) × (product (direction_of last) p ≤ℤ product (direction_of last) q)) }
 {
-    reaches_at_most(first, along, p) && reaches_at_most(last, across, p)
+    is_no_further(first, q, p) && is_no_further(last, q, p)
+}
+
+/// Whether a point is no further out than another one.
+fn is_no_further(direction: Direction, q: Point2, p: Point2) -> bool
+    requires { IsShort (direction_of direction) }
+    ensures { IsTrue result ↔ (product (direction_of direction) p ≤ℤ product (direction_of direction) q) }
+{
+    direction.dot(p) <= direction.dot(q)
 }
 
 /// The place in an arc whose edge a point is below, or None where it is not below the arc.

@@ -1,4 +1,4 @@
-use Rattle.std.proofs.Common.{◌≡◌, refl, ◌∙◌, ap, ap₂, subst, ℕ, ◌+◌, ◌-◌, ◌≤ℤ◌, arith}
+use Rattle.std.proofs.Common.{◌≡◌, ◌∙◌, ap, ap₂, subst, ℕ, ◌+◌, ◌-◌, ◌≤ℤ◌, arith}
 use Rattle.bounds_model.specs.Plane.{cross, dot}
 use Rattle.fan_test.specs.Chains.{IsArc}
 use Rattle.fan_test.proofs.Comparisons.{kept, tested_positive, tested_ge, tested_above}

@@ -1,17 +1,9 @@
-use Rattle.std.proofs.Common.{◌≡◌, ◌∙◌, refl, subst, ap₂, ℤ, ◌+◌, ◌-◌, ◌/◌, ◌<◌, ◌≤ℤ◌, w64, to_z, of_z, arith}
-use lib.Signed.{mag}
+use Rattle.std.proofs.Common.{refl, ◌+◌, ◌-◌, ◌/◌, arith}
 use Rattle.integers.proofs.Lists.{clash, each_more, at_point}
-use Rattle.bounds_model.specs.Plane.{PlanePoint, dot}
 use Rattle.bounded_coords.specs.Clouds.{points_of}
 use Rattle.fan_test.specs.Chains.{IsWithinEach}
-use Rattle.fan_test.proofs.Comparisons.{kept}
-use Rattle.fan_test.proofs.Domination.{dominated}
+use Rattle.fan_test.proofs.Domination.{dominated_at}
 use Rattle.fan_test.proofs.chain.are_below_arc.Goals as goal
-
--- a limit is the product with the arc's point
-within_limit : {r : ℤ} (u d q h p : PlanePoint) → mag r < 9223372036854775808 → r ≡ dot u q → u ≡ d → q ≡ h → dot u p ≤ℤ to_z w64 (of_z w64 r) → dot d p ≤ℤ dot d h
-within_limit {r} u d q h p small is is_d is_h below =
-    subst (λ z. dot d p ≤ℤ z) (kept small is ∙ ap₂ dot is_d is_h) (subst (λ v. dot v p ≤ℤ to_z w64 (of_z w64 r)) is_d below)
 
 pub points-preserved-then-is_dominated : goal.points-preserved-then-is_dominated
 points-preserved-then-is_dominated g c =
@@ -19,16 +11,43 @@ points-preserved-then-is_dominated g c =
     let H = g.C.Chain.points c.args.chain.now in
     let from = c.args.from in
     let to = c.args.to in
-    let middle = from + (to - from) / 2 in
     let p = c.at-p.result.now in
-    let both = c.is_dominated.ensures.0 c.if-is_dominated.true in
-    let first = within_limit _ (D from) _ (H middle) p c.dot-along.type_inv c.dot-along.ensures c.direction-first.ensures.value c.point-middle.ensures both.0 in
-    let last = within_limit _ (D (to - 1)) _ (H middle) p c.dot-across.type_inv c.dot-across.ensures c.direction-last.ensures.value c.point-middle.ensures both.1 in
+    let below = dominated_at D H from to (from + (to - from) / 2) _ _ _ p (λ i less. c.requires.turns i (omega arith)) c.requires.arc (omega arith) (omega arith)
+    c.direction-first.ensures.value c.direction-last.ensures.value c.point-middle.ensures (c.is_dominated.ensures.0 c.if-is_dominated.true) in
     record {
       after = c.points.invariant.after;
       before = c.points.invariant.before;
-      below = each_more (IsWithinEach D H from to) (points_of c.args.cloud) c.points.i p c.at-p.ensures c.points.invariant.below
-          (dominated D H from to middle p (λ i less. c.requires.turns i (omega arith)) c.requires.arc (omega arith) (omega arith) first last);
+      below = each_more (IsWithinEach D H from to) (points_of c.args.cloud) c.points.i p c.at-p.ensures c.points.invariant.below below;
+    }
+
+pub points-preserved-then-is_dominated-2 : goal.points-preserved-then-is_dominated-2
+points-preserved-then-is_dominated-2 g c =
+    let D = g.C.Chain.directions c.args.chain.now in
+    let H = g.C.Chain.points c.args.chain.now in
+    let from = c.args.from in
+    let to = c.args.to in
+    let p = c.at-p.result.now in
+    let below = dominated_at D H from to (from + ((to - from - 1) / 4 + 1)) _ _ _ p (λ i less. c.requires.turns i (omega arith)) c.requires.arc (omega arith) (omega arith)
+    c.direction-first.ensures.value c.direction-last.ensures.value c.point-early.ensures (c.is_dominated-in-points.ensures.0 c.if-is_dominated-2.true) in
+    record {
+      after = c.points.invariant.after;
+      before = c.points.invariant.before;
+      below = each_more (IsWithinEach D H from to) (points_of c.args.cloud) c.points.i p c.at-p.ensures c.points.invariant.below below;
+    }
+
+pub points-preserved-then-is_dominated-3 : goal.points-preserved-then-is_dominated-3
+points-preserved-then-is_dominated-3 g c =
+    let D = g.C.Chain.directions c.args.chain.now in
+    let H = g.C.Chain.points c.args.chain.now in
+    let from = c.args.from in
+    let to = c.args.to in
+    let p = c.at-p.result.now in
+    let below = dominated_at D H from to (to - ((to - from - 1) / 4 + 1)) _ _ _ p (λ i less. c.requires.turns i (omega arith)) c.requires.arc (omega arith) (omega arith)
+    c.direction-first.ensures.value c.direction-last.ensures.value c.point-late.ensures (c.is_dominated-in-points-2.ensures.0 c.if-is_dominated-3.true) in
+    record {
+      after = c.points.invariant.after;
+      before = c.points.invariant.before;
+      below = each_more (IsWithinEach D H from to) (points_of c.args.cloud) c.points.i p c.at-p.ensures c.points.invariant.below below;
     }
 
 pub returns-in-None : goal.returns-in-None

@@ -1,18 +1,14 @@
 use Rattle.integers.proofs.Lists.{clash}
-use Rattle.fan_test.proofs.Comparisons.{at_limit}
 use Rattle.fan_test.proofs.chain.is_dominated.Goals as goal
 
-pub returns-then-reaches_at_most : goal.returns-then-reaches_at_most
-returns-then-reaches_at_most c =
-    let along = at_limit c.ranges.along.sfits c.reaches_at_most.ensures in
-    let across = at_limit c.ranges.across.sfits c.reaches_at_most-then-reaches_at_most.ensures in (
-      λ yes. (along.0 c.if-reaches_at_most.true, across.0 yes),
-      λ both. across.1 both.1,
-    )
+pub returns-then-is_no_further : goal.returns-then-is_no_further
+returns-then-is_no_further c = (
+  λ yes. (c.is_no_further.ensures.0 c.if-is_no_further.true, c.is_no_further-then-is_no_further.ensures.0 yes),
+  λ both. c.is_no_further-then-is_no_further.ensures.1 both.1,
+)
 
-pub returns-else-reaches_at_most : goal.returns-else-reaches_at_most
-returns-else-reaches_at_most c =
-    let along = at_limit c.ranges.along.sfits c.reaches_at_most.ensures in (
-      λ yes. absurd (clash yes c.if-reaches_at_most.false),
-      λ both. absurd (clash (along.1 both.0) c.if-reaches_at_most.false),
-    )
+pub returns-else-is_no_further : goal.returns-else-is_no_further
+returns-else-is_no_further c = (
+  λ yes. absurd (clash yes c.if-is_no_further.false),
+  λ both. absurd (clash (c.is_no_further.ensures.1 both.0) c.if-is_no_further.false),
+)
