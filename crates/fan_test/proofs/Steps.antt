@@ -20,7 +20,7 @@ before_or_at : (i j : ℕ) → i < j + 1 → (i < j) ⊎ (i ≡ j)
 before_or_at i j h = grind arith
 
 -- the direction before the end of an arc is not to the right of the first
-beside : (D H : ℕ → PlanePoint) (from to k : ℕ) → to ≡ k + 1 → from < to → IsArc D H from to → pos 0 ≤ℤ cross (D from) (D k)
+pub beside : (D H : ℕ → PlanePoint) (from to k : ℕ) → to ≡ k + 1 → from < to → IsArc D H from to → pos 0 ≤ℤ cross (D from) (D k)
 beside D H from to k is some arc = elim (first_or_later k is) [
   | inl same ↦ subst (λ j. pos 0 ≤ℤ cross (D from) (D j)) same (le_of_same (sym (aside (D from))))
   | inr later ↦ subst (λ j. pos 0 ≤ℤ cross (D from) (D j)) later.1.1 (nonneg_from_positive (arc.left later.0 later.1.0 (omega (arith, later.1.1))))

@@ -1,5 +1,5 @@
-use Rattle.fan_test.proofs.Halving.{IsNear}
-use Rattle.fan_test.proofs.chain.place_for.Given as goal
+use Rattle.fan_test.specs.Chains.{IsNear}
+use Rattle.fan_test.proofs.chain.halved.Given as goal
 
 abbrev pub invariant-halves : goal.invariant-halves
 invariant-halves g l = IsNear (g.C.Chain.directions l.chain) (g.C.Chain.points l.chain) l.from l.to l.along l.low l.size
