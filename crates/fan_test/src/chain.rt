@@ -4,7 +4,8 @@ ghost use Rattle.bounds_model.specs.Plane.{PlanePoint, dot as product};
 ghost use Rattle.bounds_model.specs.Fans.{IsShort};
 ghost use Rattle.bounded_coords.specs.Clouds.{points_of};
 ghost use Rattle.fan_test.specs.Directions.{direction_of};
-ghost use Rattle.fan_test.specs.Chains.{Turns, Leads, AreListed, Encloses, AreJoined, IsWithinEach, IsWithin, IsArc, AreEdges, IsPlaceFor, IsNear};
+ghost use Rattle.fan_test.specs.Chains.{Turns, Leads, AreListed, Encloses, AreJoined, IsWithin, IsWithinEach};
+ghost use Rattle.fan_test.specs.Chains.{IsArc, AreEdges, IsPlaceFor, IsNear, IsNoFurther};
 
 use crate::direction::Direction;
 use bounded_coords::{Cloud2, Point2};
@@ -263,7 +264,7 @@ fn are_below_arc<C: Chain>(chain: &C, from: u32, to: u32, cloud: Cloud2<'_>) -> 
 fn is_dominated(first: Direction, last: Direction, q: Point2, p: Point2) -> bool
     requires first { IsShort (direction_of first) }
     requires last { IsShort (direction_of last) }
-    ensures { IsTrue result ↔ ((product (direction_of first) p ≤ℤ product (direction_of first) q) × (product (direction_of last) p ≤ℤ product (direction_of last) q)) }
+    ensures { IsTrue result ↔ (IsNoFurther (direction_of first) q p × IsNoFurther (direction_of last) q p) }
 {
     is_no_further(first, q, p) && is_no_further(last, q, p)
 }
@@ -271,7 +272,7 @@ fn is_dominated(first: Direction, last: Direction, q: Point2, p: Point2) -> bool
 /// Whether a point is no further out than another one, in a direction.
 fn is_no_further(direction: Direction, q: Point2, p: Point2) -> bool
     requires { IsShort (direction_of direction) }
-    ensures { IsTrue result ↔ (product (direction_of direction) p ≤ℤ product (direction_of direction) q) }
+    ensures { IsTrue result ↔ IsNoFurther (direction_of direction) q p }
 {
     direction.dot(p) <= direction.dot(q)
 }
