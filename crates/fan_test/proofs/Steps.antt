@@ -1,13 +1,9 @@
 -- How arcs grow, one direction after another, and chains, one arc after another.
-use Rattle.std.proofs.Common.{◌≡◌, sym, subst, ◌⊎◌, inl, inr, ◌↔◌, ℕ, ◌+◌, ◌-◌, ◌<◌, ◌≤◌, pos, ◌*ℤ◌, ◌-ℤ◌, ◌≤ℤ◌, ◌<ℤ◌, ℤ, [], ◌∷◌, arith, IsTrue, Bool}
+use Rattle.std.proofs.Common.{◌≡◌, sym, subst, ◌⊎◌, inl, inr, ℕ, ◌+◌, ◌-◌, ◌<◌, ◌≤◌, pos, ◌*ℤ◌, ◌-ℤ◌, ◌≤ℤ◌, ◌<ℤ◌, ℤ, [], ◌∷◌, arith}
 use Rattle.integers.proofs.Identities.{den-ring, read, polys, lits}
 use Rattle.integers.proofs.Order.{nonneg_from_positive, le_of_same}
 use Rattle.bounds_model.specs.Plane.{PlanePoint, cross, dot}
-use Rattle.fan_test.specs.Chains.{Turns, AreJoined, IsWithin, IsLevel, IsArc, AreEdges}
-
--- a test of a point, for another that is the same
-pub same_within : {yes : Bool} {q r : PlanePoint} (D H : ℕ → PlanePoint) (i k : ℕ) → q ≡ r → (IsTrue yes ↔ IsWithin D H i k q) → IsTrue yes ↔ IsWithin D H i k r
-same_within {yes} D H i k e t = subst (λ p. IsTrue yes ↔ IsWithin D H i k p) e t
+use Rattle.fan_test.specs.Chains.{Turns, AreJoined, IsLevel, IsArc, AreEdges}
 
 -- no vector is to the left of itself
 aside : (u : PlanePoint) → cross u u ≡ pos 0

@@ -4,7 +4,8 @@ ghost use Rattle.bounds_model.specs.Plane.{PlanePoint, dot as product};
 ghost use Rattle.bounds_model.specs.Fans.{IsShort};
 ghost use Rattle.bounded_coords.specs.Clouds.{points_of};
 ghost use Rattle.fan_test.specs.Directions.{direction_of};
-ghost use Rattle.fan_test.specs.Chains.{Turns, Leads, AreListed, Encloses, AreJoined, IsWithinEach, IsWithin, IsArc, AreEdges, IsPlaceFor, IsNear};
+ghost use Rattle.fan_test.specs.Chains.{Turns, Leads, AreListed, Encloses, AreJoined, IsWithin, IsWithinEach};
+ghost use Rattle.fan_test.specs.Chains.{IsArc, AreEdges, IsPlaceFor, IsNear, IsNoFurther};
 
 use crate::direction::Direction;
 use bounded_coords::{Cloud2, Point2};
@@ -121,7 +122,7 @@ fn is_joint(direction: Direction, before: Point2, after: Point2) -> bool
 ///
 /// Directions within a right angle of the first of them are an arc. Along that first direction the points of an arc stand in
 /// order, joined by edges that the other directions are normals of. So a point is below all of them if it is below the
-/// edge that it stands above, which is searched from the edge of the point before: n points and m cones take at most about
+/// edge that it stands above, which is searched from that of the point before: n points and m cones take at most about
 /// n log m steps. A chain that winds around has an arc more for each right angle.
 fn are_within_each<C: Chain>(chain: &C, cloud: Cloud2<'_>) -> bool
     requires turns { Turns (C.directions chain.now) (C.cones chain.now) }
@@ -146,7 +147,7 @@ fn are_within_each<C: Chain>(chain: &C, cloud: Cloud2<'_>) -> bool
 
 /// The end of an arc that begins at a cone, or None where two of its points are not joined by an edge.
 ///
-/// The directions of an arc may be up to half a turn apart. It ends at a right angle, so that one of its points dominates most others.
+/// Up to half a turn would be an arc. It ends past a right angle, so that few of its points dominate most of a cloud.
 fn arc_end<C: Chain>(chain: &C, from: u32) -> Option<u32>
     requires cone { from < C.cones chain.now }
     requires joined { AreJoined (C.directions chain.now) (C.points chain.now) (C.cones chain.now) }
@@ -233,6 +234,7 @@ fn are_below_arc<C: Chain>(chain: &C, from: u32, to: u32, cloud: Cloud2<'_>) -> 
 {
     let first = chain.direction(from);
     let last = chain.direction(to - 1);
+    // Points of the arc at about a quarter, half and three quarters of it.
     let quarter = (to - from - 1) / 4 + 1;
     let early = chain.point(from + quarter);
     let middle = chain.point(from + (to - from) / 2);
@@ -258,24 +260,24 @@ fn are_below_arc<C: Chain>(chain: &C, from: u32, to: u32, cloud: Cloud2<'_>) -> 
     true
 }
 
-/// Whether a point is no further out than another one in either of two directions.
+/// Whether a point is no further out than another one, in both of two directions.
 fn is_dominated(first: Direction, last: Direction, q: Point2, p: Point2) -> bool
     requires first { IsShort (direction_of first) }
     requires last { IsShort (direction_of last) }
-    ensures { IsTrue result ↔ ((product (direction_of first) p ≤ℤ product (direction_of first) q) × (product (direction_of last) p ≤ℤ product (direction_of last) q)) }
+    ensures { IsTrue result ↔ (IsNoFurther (direction_of first) q p × IsNoFurther (direction_of last) q p) }
 {
     is_no_further(first, q, p) && is_no_further(last, q, p)
 }
 
-/// Whether a point is no further out than another one.
+/// Whether a point is no further out than another one, in a direction.
 fn is_no_further(direction: Direction, q: Point2, p: Point2) -> bool
     requires { IsShort (direction_of direction) }
-    ensures { IsTrue result ↔ (product (direction_of direction) p ≤ℤ product (direction_of direction) q) }
+    ensures { IsTrue result ↔ IsNoFurther (direction_of direction) q p }
 {
     direction.dot(p) <= direction.dot(q)
 }
 
-/// The place in an arc whose edge a point is below, or None where it is not below the arc.
+/// The place in an arc whose edge decides for a point, or None where the point is not below the arc.
 fn place_below<C: Chain>(
     chain: &C,
     from: u32,
@@ -293,7 +295,7 @@ fn place_below<C: Chain>(
     requires top { top ≡ product (C.directions chain.now from) (C.points chain.now from) }
     requires after { from ≤ start }
     requires before { start + 1 < to }
-    ensures place { IfSome result (λ i. (from ≤ i) × (i + 1 < to)) }
+    ensures place { IfSome result (λ i. IsPlaceFor (C.directions chain.now) (C.points chain.now) from to p i) }
     ensures below { IsSome result ↔ IsWithinEach (C.directions chain.now) (C.points chain.now) from to p }
 {
     if !reaches_at_most(first, top, p) {

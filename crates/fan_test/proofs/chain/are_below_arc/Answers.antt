@@ -63,8 +63,8 @@ points-preserved g c =
     let D = g.C.Chain.directions c.args.chain.now in
     let H = g.C.Chain.points c.args.chain.now in
     record {
-      after = c.in-Some.ensures.place.0;
-      before = c.in-Some.ensures.place.1;
+      after = c.in-Some.ensures.place.after;
+      before = c.in-Some.ensures.place.before;
       below = each_more (IsWithinEach D H c.args.from c.args.to) (points_of c.args.cloud) c.points.i c.at-p.result.now c.at-p.ensures c.points.invariant.below (c.in-Some.ensures.below.0 refl);
     }
 
