@@ -31,7 +31,7 @@ pub record CentresPlaces (a : CentresAnswer) : Type 0 where
   pub leaves : All (λ leaf. (leaf.first ≤ point_limit) × (leaf.second ≤ point_limit)) a.leaves
 
 -- the numbers of a square's centre are within the checker's limits: w is 1 or 2, x and y are at most a million in magnitude
-pub record IsNearCentre (c : PlaneRatio) : Type 0 where
+pub record IsCentreWithinLimits (c : PlaneRatio) : Type 0 where
   pub halves : (c.w ≡ pos 1) ⊎ (c.w ≡ pos 2)
   pub x : IsWithin 1000000 c.x
   pub y : IsWithin 1000000 c.y
@@ -94,6 +94,6 @@ pub record PassesCentres (count : ℕ) (points : List PlanePoint) (a : CentresAn
   pub numbers : All (λ leaf. (leaf.first < length points) × (leaf.second < length points)) a.leaves
   pub halves : (a.size.d ≡ pos 1) ⊎ (a.size.d ≡ pos 2)
   pub size_limit : a.size.n ≤ℤ pos 1000000
-  pub centres : All IsNearCentre a.squares
+  pub centres : All IsCentreWithinLimits a.squares
   pub covers : FitsCentres count points (cover_of a)
   pub leaves : AreLeaves (side a.size) count points a.leaves

@@ -65,13 +65,13 @@ pub record AreBlocked (frame : Box) (points : List PlanePoint) (a : EmptyAnswer)
   pub top : BlocksLevel points frame.top a.box.top a.box.left a.box.right a.top
 
 -- P holds of each height: the bottom and the top of the frame, and the y of each point strictly inside it
-pub record EachHeight (frame : Box) (points : List PlanePoint) (P : ℤ → Type 0) : Type 0 where
+pub record EachY (frame : Box) (points : List PlanePoint) (P : ℤ → Type 0) : Type 0 where
   pub bottom : P frame.bottom
   pub top : P frame.top
   pub inside : All (λ p. IsStrictlyInside frame p → P p.y) points
 
 -- P holds of each place along a band: its left and its right, and the x of each point strictly inside it
-pub record EachPlace (band : Box) (points : List PlanePoint) (P : ℤ → Type 0) : Type 0 where
+pub record EachX (band : Box) (points : List PlanePoint) (P : ℤ → Type 0) : Type 0 where
   pub left : P band.left
   pub right : P band.right
   pub inside : All (λ p. IsStrictlyInside band p → P p.x) points
@@ -86,11 +86,11 @@ IsNotLarger points size box = box.left <ℤ box.right → IsEmpty points box →
 
 -- in a band no box from one place to the next is larger than the size
 abbrev pub NoneLargerInBand : List PlanePoint → Fraction → Box → Type 0
-NoneLargerInBand points size band = EachPlace band points (λ left. EachPlace band points (λ right. IsNotLarger points size (record band { left = left; right = right })))
+NoneLargerInBand points size band = EachX band points (λ left. EachX band points (λ right. IsNotLarger points size (record band { left = left; right = right })))
 
 -- between every two heights no box from one place to the next is larger than the size
 abbrev pub NoneLarger : Box → List PlanePoint → Fraction → Type 0
-NoneLarger frame points size = EachHeight frame points (λ bottom. EachHeight frame points (λ top. bottom <ℤ top → NoneLargerInBand points size (record frame { bottom = bottom; top = top })))
+NoneLarger frame points size = EachY frame points (λ bottom. EachY frame points (λ top. bottom <ℤ top → NoneLargerInBand points size (record frame { bottom = bottom; top = top })))
 
 -- what a checker asks of an empty rectangle
 pub record PassesEmpty (frame : Box) (points : List PlanePoint) (a : EmptyAnswer) : Type 0 where

@@ -6,7 +6,7 @@ use Rattle.std.specs.Int.Signed.{≤ℤ_refl}
 use Rattle.bounds_model.specs.Plane.{PlanePoint, origin}
 use Rattle.bounds_model.specs.Fractions.{Fraction}
 use Rattle.bounds_model.specs.EmptyRectangle.{Box, IsFrame, IsStrictlyInside, area}
-use Rattle.bounds_model.specs.EmptyAnswer.{EachHeight, EachPlace, IsEmpty, IsNotLarger, NoneLargerInBand, NoneLarger}
+use Rattle.bounds_model.specs.EmptyAnswer.{EachY, EachX, IsEmpty, IsNotLarger, NoneLargerInBand, NoneLarger}
 use Rattle.empty_rectangle.specs.declared.obstacles.Obstacle.{Obstacle}
 use Rattle.empty_rectangle.specs.declared.obstacles.Extent.{Extent}
 use Rattle.empty_rectangle.specs.declared.rectangles.Edge.{Edge}
@@ -104,16 +104,16 @@ box_not_larger frame points extent obstacles most of each none left bottom right
         subst (λ z. (z *ℤ pos 1) ≤ℤ pos most) (sym is) (omega (arith, ints, most_is))
 
 -- what holds from the bottom to the top holds of each height
-each_height : (frame : Box) (points : List PlanePoint) (P : ℤ → Type 0) → frame.bottom ≤ℤ frame.top → ((y : ℤ) → frame.bottom ≤ℤ y → y ≤ℤ frame.top → P y) → EachHeight frame points P
-each_height frame points P high holds = record {
+each_y : (frame : Box) (points : List PlanePoint) (P : ℤ → Type 0) → frame.bottom ≤ℤ frame.top → ((y : ℤ) → frame.bottom ≤ℤ y → y ≤ℤ frame.top → P y) → EachY frame points P
+each_y frame points P high holds = record {
   bottom = holds frame.bottom (≤ℤ_refl frame.bottom) high;
   top = holds frame.top high (≤ℤ_refl frame.top);
   inside = λ k d below inside. holds (get_or points k d).y (omega (arith, ints, inside.above_bottom)) (omega (arith, ints, inside.below_top));
 }
 
 -- what holds from the left to the right holds of each place
-each_place : (band : Box) (points : List PlanePoint) (P : ℤ → Type 0) → band.left ≤ℤ band.right → ((x : ℤ) → x ≤ℤ band.right → P x) → EachPlace band points P
-each_place band points P wide holds = record {
+each_x : (band : Box) (points : List PlanePoint) (P : ℤ → Type 0) → band.left ≤ℤ band.right → ((x : ℤ) → x ≤ℤ band.right → P x) → EachX band points P
+each_x band points P wide holds = record {
   left = holds band.left wide;
   right = holds band.right (≤ℤ_refl band.right);
   inside = λ k d below inside. holds (get_or points k d).x (omega (arith, ints, inside.before_right));
@@ -122,22 +122,22 @@ each_place band points P wide holds = record {
 -- no box between two heights from one place to the next is larger
 pub NoneLarger-gaps : (frame : Box) (points : List PlanePoint) (extent : Extent) (obstacles : List Obstacle) (most : ℕ) → IsFrame frame → IsExtentOf frame extent → AreObstacles frame points points obstacles → NoneExceeds obstacles extent most → NoneLarger frame points (record { n = pos most; d = pos 1 })
 NoneLarger-gaps frame points extent obstacles most is of are none =
-    each_height frame points (λ bottom. EachHeight frame points (λ top. bottom <ℤ top → NoneLargerInBand points size (record frame { bottom = bottom; top = top }))) (omega (arith, ints, is.high)) (λ bottom from_bottom _.
-    each_height frame points (λ top. bottom <ℤ top → NoneLargerInBand points size (record frame { bottom = bottom; top = top })) (omega (arith, ints, is.high)) (λ top _ to_top high. in_band bottom top from_bottom to_top high))
+    each_y frame points (λ bottom. EachY frame points (λ top. bottom <ℤ top → NoneLargerInBand points size (record frame { bottom = bottom; top = top }))) (omega (arith, ints, is.high)) (λ bottom from_bottom _.
+    each_y frame points (λ top. bottom <ℤ top → NoneLargerInBand points size (record frame { bottom = bottom; top = top })) (omega (arith, ints, is.high)) (λ top _ to_top high. in_band bottom top from_bottom to_top high))
   where
     size : Fraction
     size = record { n = pos most; d = pos 1 }
 
     to_places : (bottom top left : ℤ) → frame.bottom ≤ℤ bottom → top ≤ℤ frame.top → bottom <ℤ top → frame.left ≤ℤ left → LeftPlace frame obstacles left bottom top
-        → EachPlace (record frame { bottom = bottom; top = top }) points (λ right. IsNotLarger points size (record { left = left; bottom = bottom; right = right; top = top }))
+        → EachX (record frame { bottom = bottom; top = top }) points (λ right. IsNotLarger points size (record { left = left; bottom = bottom; right = right; top = top }))
     to_places bottom top left from_bottom to_top high from_left place =
-        each_place (record frame { bottom = bottom; top = top }) points (λ right. IsNotLarger points size (record { left = left; bottom = bottom; right = right; top = top })) (omega (arith, ints, is.wide))
+        each_x (record frame { bottom = bottom; top = top }) points (λ right. IsNotLarger points size (record { left = left; bottom = bottom; right = right; top = top })) (omega (arith, ints, is.wide))
         (λ right to_right. box_not_larger frame points extent obstacles most of are.each none left bottom right top from_left to_right from_bottom to_top high place)
 
     in_band : (bottom top : ℤ) → frame.bottom ≤ℤ bottom → top ≤ℤ frame.top → bottom <ℤ top → NoneLargerInBand points size (record frame { bottom = bottom; top = top })
     in_band bottom top from_bottom to_top high = record {
       left = to_places bottom top frame.left from_bottom to_top high (≤ℤ_refl frame.left) (inl refl);
-      right = each_place (record frame { bottom = bottom; top = top }) points (λ right. IsNotLarger points size (record { left = frame.right; bottom = bottom; right = right; top = top })) (omega (arith, ints, is.wide))
+      right = each_x (record frame { bottom = bottom; top = top }) points (λ right. IsNotLarger points size (record { left = frame.right; bottom = bottom; right = right; top = top })) (omega (arith, ints, is.wide))
           (λ right to_right wide. absurd (omega (arith, ints, to_right, wide)));
       inside = λ k d below inside.
           let in_frame : IsStrictlyInside frame (get_or points k d) = record { after_left = inside.after_left; before_right = inside.before_right; above_bottom = omega (arith, ints, inside.above_bottom); below_top = omega (arith, ints, inside.below_top) } in
@@ -183,9 +183,9 @@ restricted_not_larger frame points extent obstacles most h of are restricted non
     size : Fraction
     size = record { n = pos most; d = pos 1 }
 
-    from_bottom : EachHeight frame points (λ t. (frame.bottom +ℤ pos h.bottom.at) <ℤ t → NoneLargerInBand points size (record frame { bottom = frame.bottom +ℤ pos h.bottom.at; top = t }))
+    from_bottom : EachY frame points (λ t. (frame.bottom +ℤ pos h.bottom.at) <ℤ t → NoneLargerInBand points size (record frame { bottom = frame.bottom +ℤ pos h.bottom.at; top = t }))
     from_bottom =
-        let P = λ (b : ℤ). EachHeight frame points (λ t. b <ℤ t → NoneLargerInBand points size (record frame { bottom = b; top = t })) in
+        let P = λ (b : ℤ). EachY frame points (λ t. b <ℤ t → NoneLargerInBand points size (record frame { bottom = b; top = t })) in
         height_of frame points obstacles h.left.at h.right.at 0 h.bottom P are.each restricted.bottom (subst P (plus_none frame.bottom) none.bottom) none.inside
 
     in_band : NoneLargerInBand points size (record frame { bottom = frame.bottom +ℤ pos h.bottom.at; top = frame.bottom +ℤ pos h.top.at })
@@ -193,9 +193,9 @@ restricted_not_larger frame points extent obstacles most h of are restricted non
         let P = λ (t : ℤ). (frame.bottom +ℤ pos h.bottom.at) <ℤ t → NoneLargerInBand points size (record frame { bottom = frame.bottom +ℤ pos h.bottom.at; top = t }) in
         height_of frame points obstacles h.left.at h.right.at extent.height h.top P are.each restricted.top (subst P of.height from_bottom.top) from_bottom.inside (omega (arith, ints, restricted.high))
 
-    from_left : EachPlace (record frame { bottom = frame.bottom +ℤ pos h.bottom.at; top = frame.bottom +ℤ pos h.top.at }) points (λ right. IsNotLarger points size (record (box_of frame h) { right = right }))
+    from_left : EachX (record frame { bottom = frame.bottom +ℤ pos h.bottom.at; top = frame.bottom +ℤ pos h.top.at }) points (λ right. IsNotLarger points size (record (box_of frame h) { right = right }))
     from_left =
-        let P = λ (left : ℤ). EachPlace (record frame { bottom = frame.bottom +ℤ pos h.bottom.at; top = frame.bottom +ℤ pos h.top.at }) points (λ right. IsNotLarger points size (record (box_of frame h) { left = left; right = right })) in
+        let P = λ (left : ℤ). EachX (record frame { bottom = frame.bottom +ℤ pos h.bottom.at; top = frame.bottom +ℤ pos h.top.at }) points (λ right. IsNotLarger points size (record (box_of frame h) { left = left; right = right })) in
         place_of frame points obstacles h.bottom.at h.top.at 0 h.left P are.each restricted.left (subst P (plus_none frame.left) in_band.left) in_band.inside
 
     in_box : IsNotLarger points size (box_of frame h)

@@ -5,7 +5,7 @@ use Rattle.bounds_model.specs.Plane.{PlanePoint, PlaneRatio, point_at}
 use Rattle.bounds_model.specs.Fractions.{Fraction}
 use Rattle.bounds_model.specs.Centres.{IsNear, Cover, FitsCentres}
 use Rattle.bounds_model.specs.Places.{point_limit}
-use Rattle.bounds_model.specs.CentresAnswer.{Leaf, CentresAnswer, CentresPlaces, IsNearCentre, digits, outside, corner_square, IsLeftOver, AreFar, IsLeaf, AreLeaves, PassesCentres, cover_of}
+use Rattle.bounds_model.specs.CentresAnswer.{Leaf, CentresAnswer, CentresPlaces, IsCentreWithinLimits, digits, outside, corner_square, IsLeftOver, AreFar, IsLeaf, AreLeaves, PassesCentres, cover_of}
 use Rattle.bounds_model.specs.CentresAnswer
 use Rattle.model_laws.proofs.Decisions.{Decision, like, both, either, all, any, all_numbered, contains, is_nil, most_ℕ, less_ℕ, equal_ℕ, equal_ℤ, most_ℤ}
 use Rattle.model_laws.proofs.DecideParts.{same_point, within, counted, not_negative, fraction_placed, plane_ratio_placed}
@@ -35,8 +35,8 @@ abbrev pub leaves_hold : (side count : ℕ) (points : List PlanePoint) (leaves :
 leaves_hold zero count points leaves = is_nil leaves
 leaves_hold (suc side) count points leaves = both (equal_ℕ (length leaves) (4 ^ (count - 1))) (all_numbered {P = IsLeaf side count points} (leaf_holds side count points) leaves)
 
-abbrev pub near_centre : (c : PlaneRatio) → Decision (IsNearCentre c)
-near_centre c =
+abbrev pub centre_within_limits : (c : PlaneRatio) → Decision (IsCentreWithinLimits c)
+centre_within_limits c =
     like (both (either (equal_ℤ c.w (pos 1)) (equal_ℤ c.w (pos 2))) (both (within 1000000 c.x) (within 1000000 c.y)))
     (λ h. record { halves = h.0; x = h.1.0; y = h.1.1 }) (λ h. (h.halves, (h.x, h.y)))
 
@@ -52,7 +52,7 @@ centres_passes count points a =
     (both (all (λ leaf. both (less_ℕ leaf.first (length points)) (less_ℕ leaf.second (length points))) a.leaves)
     (both (either (equal_ℤ a.size.d (pos 1)) (equal_ℤ a.size.d (pos 2)))
     (both (most_ℤ a.size.n (pos 1000000))
-    (both (all near_centre a.squares)
+    (both (all centre_within_limits a.squares)
     (both (covers count points (cover_of a))
     (leaves_hold (CentresAnswer.side a.size) count points a.leaves)))))))
     (λ h. record { places = h.0; numbers = h.1.0; halves = h.1.1.0; size_limit = h.1.1.1.0; centres = h.1.1.1.1.0; covers = h.1.1.1.1.1.0; leaves = h.1.1.1.1.1.1 })

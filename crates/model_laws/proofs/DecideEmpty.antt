@@ -4,7 +4,7 @@ use Rattle.bounds_model.specs.Plane.{PlanePoint, point_at}
 use Rattle.bounds_model.specs.Fractions.{Fraction}
 use Rattle.bounds_model.specs.EmptyRectangle.{Box, IsStrictlyInside, area, empty_size}
 use Rattle.bounds_model.specs.Places.{number_limit}
-use Rattle.bounds_model.specs.EmptyAnswer.{Blocker, EmptyAnswer, EmptyPlaces, IsBlockerBelow, NamesBlockers, BlocksUpright, BlocksLevel, AreBlocked, EachHeight, EachPlace, IsEmpty, IsNotLarger, NoneLargerInBand, NoneLarger, PassesEmpty, empty_of}
+use Rattle.bounds_model.specs.EmptyAnswer.{Blocker, EmptyAnswer, EmptyPlaces, IsBlockerBelow, NamesBlockers, BlocksUpright, BlocksLevel, AreBlocked, EachY, EachX, IsEmpty, IsNotLarger, NoneLargerInBand, NoneLarger, PassesEmpty, empty_of}
 use Rattle.bounds_model.specs.EmptyAnswer.Blocker.{side, point}
 use Rattle.model_laws.proofs.Decisions.{Decision, like, both, three, negated, implies, all, sure, less_ℕ, equal_ℤ, most_ℤ, less_ℤ}
 use Rattle.model_laws.proofs.DecideParts.{within, same_value, fraction_placed}
@@ -42,13 +42,13 @@ are_blocked frame points a =
     like (both (blocks_upright points frame.left a.box.left a.box.bottom a.box.top a.left) (both (blocks_level points frame.bottom a.box.bottom a.box.left a.box.right a.bottom) (both (blocks_upright points frame.right a.box.right a.box.bottom a.box.top a.right) (blocks_level points frame.top a.box.top a.box.left a.box.right a.top))))
     (λ h. record { left = h.0; bottom = h.1.0; right = h.1.1.0; top = h.1.1.1 }) (λ h. (h.left, (h.bottom, (h.right, h.top))))
 
-abbrev pub each_height : (frame : Box) (points : List PlanePoint) {P : ℤ → Type 0} → ((y : ℤ) → Decision (P y)) → Decision (EachHeight frame points P)
-each_height frame points {P} each =
+abbrev pub each_y : (frame : Box) (points : List PlanePoint) {P : ℤ → Type 0} → ((y : ℤ) → Decision (P y)) → Decision (EachY frame points P)
+each_y frame points {P} each =
     like (both (each frame.bottom) (both (each frame.top) (all {P = λ p. IsStrictlyInside frame p → P p.y} (λ p. implies (strictly_inside frame p) (each p.y)) points)))
     (λ h. record { bottom = h.0; top = h.1.0; inside = h.1.1 }) (λ h. (h.bottom, (h.top, h.inside)))
 
-abbrev pub each_place : (band : Box) (points : List PlanePoint) {P : ℤ → Type 0} → ((x : ℤ) → Decision (P x)) → Decision (EachPlace band points P)
-each_place band points {P} each =
+abbrev pub each_x : (band : Box) (points : List PlanePoint) {P : ℤ → Type 0} → ((x : ℤ) → Decision (P x)) → Decision (EachX band points P)
+each_x band points {P} each =
     like (both (each band.left) (both (each band.right) (all {P = λ p. IsStrictlyInside band p → P p.x} (λ p. implies (strictly_inside band p) (each p.x)) points)))
     (λ h. record { left = h.0; right = h.1.0; inside = h.1.1 }) (λ h. (h.left, (h.right, h.inside)))
 
@@ -59,10 +59,10 @@ abbrev pub not_larger : (points : List PlanePoint) (size : Fraction) (box : Box)
 not_larger points size box = implies (less_ℤ box.left box.right) (implies (is_empty points box) (most_ℤ (area box *ℤ size.d) size.n))
 
 abbrev pub none_larger_in_band : (points : List PlanePoint) (size : Fraction) (band : Box) → Decision (NoneLargerInBand points size band)
-none_larger_in_band points size band = each_place band points (λ left. each_place band points (λ right. not_larger points size (record band { left = left; right = right })))
+none_larger_in_band points size band = each_x band points (λ left. each_x band points (λ right. not_larger points size (record band { left = left; right = right })))
 
 abbrev pub none_larger : (frame : Box) (points : List PlanePoint) (size : Fraction) → Decision (NoneLarger frame points size)
-none_larger frame points size = each_height frame points (λ bottom. each_height frame points (λ top. implies (less_ℤ bottom top) (none_larger_in_band points size (record frame { bottom = bottom; top = top }))))
+none_larger frame points size = each_y frame points (λ bottom. each_y frame points (λ top. implies (less_ℤ bottom top) (none_larger_in_band points size (record frame { bottom = bottom; top = top }))))
 
 abbrev pub empty_passes : (frame : Box) (points : List PlanePoint) (a : EmptyAnswer) → Decision (PassesEmpty frame points a)
 empty_passes frame points a =

@@ -8,7 +8,7 @@ use Rattle.integers.proofs.Order.{nonneg_mul, nonneg_add, square_nonneg, positiv
 use Rattle.bounds_model.specs.Plane.{PlanePoint, times}
 use Rattle.bounds_model.specs.Fractions.{Fraction, IsAtMost}
 use Rattle.bounds_model.specs.EmptyRectangle.{Box, EmptyRectangle, IsStrictlyInside, FitsEmpty, area, empty_size}
-use Rattle.bounds_model.specs.EmptyAnswer.{EmptyAnswer, EachHeight, EachPlace, IsEmpty, IsNotLarger, NoneLargerInBand, NoneLarger, PassesEmpty, empty_of}
+use Rattle.bounds_model.specs.EmptyAnswer.{EmptyAnswer, EachY, EachX, IsEmpty, IsNotLarger, NoneLargerInBand, NoneLarger, PassesEmpty, empty_of}
 use Rattle.model_laws.proofs.DecideEmpty.{strictly_inside}
 use Rattle.model_laws.proofs.SizeDenominators.{empty_denominator}
 use Rattle.optimality.specs.Laws.{PassingEmptyRectanglesAreBest}
@@ -69,10 +69,10 @@ gap_not_larger : (frame : Box) (points : List PlanePoint) (size : Fraction) → 
 gap_not_larger frame points size none other gap rises =
     let band = band_of frame gap in
     let In_band = λ (bottom top : ℤ). bottom <ℤ top → NoneLargerInBand points size (record frame { bottom = bottom; top = top }) in
-    let from_bottom = value_has points (IsStrictlyInside frame) (λ p. p.y) frame.bottom gap.bottom.value (λ bottom. EachHeight frame points (In_band bottom)) gap.bottom.source none.bottom none.inside in
+    let from_bottom = value_has points (IsStrictlyInside frame) (λ p. p.y) frame.bottom gap.bottom.value (λ bottom. EachY frame points (In_band bottom)) gap.bottom.source none.bottom none.inside in
     let in_band = value_has points (IsStrictlyInside frame) (λ p. p.y) frame.top gap.top.value (In_band gap.bottom.value) gap.top.source from_bottom.top from_bottom.inside rises in
     let In_box = λ (left right : ℤ). IsNotLarger points size (record band { left = left; right = right }) in
-    let from_left = value_has points (IsStrictlyInside band) (λ p. p.x) frame.left gap.left.value (λ left. EachPlace band points (In_box left)) gap.left.source in_band.left in_band.inside in
+    let from_left = value_has points (IsStrictlyInside band) (λ p. p.x) frame.left gap.left.value (λ left. EachX band points (In_box left)) gap.left.source in_band.left in_band.inside in
     value_has points (IsStrictlyInside band) (λ p. p.x) frame.right gap.right.value (In_box gap.left.value) gap.right.source from_left.right from_left.inside
 
 -- a box inside another, w times, has at most its area, w² times
