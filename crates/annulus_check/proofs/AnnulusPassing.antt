@@ -13,7 +13,7 @@ use Rattle.answers.specs.Answers.{pair_of}
 use Rattle.annulus_check.specs.declared.annulus.PairSums.{PairSums}
 use Rattle.annulus_check.specs.declared.annulus.Heights.{Heights}
 use Rattle.annulus_check.proofs.AnnulusPairs.{small_pairs}
-use Rattle.annulus_check.specs.HeldAnnuli.{IsSmallCentre, IsSmallPair, ArePairSums, AreHeights, IsHeld}
+use Rattle.annulus_check.specs.HeldAnnuli.{IsSmallCentre, IsSmallPair, ArePairSums, AreHeights, MeetsRest}
 
 -- ---- what passes
 
@@ -33,7 +33,7 @@ in_place count few pair small = (number few small.0, number few small.1, record 
 -- the annulus by the numbers of the answer's parts
 pub held_passes : (points : List PlanePoint) (pairs : List WeightedPair) (size inner outer : Fraction) (c : PlaneRatio) (h : Heights) (s : PairSums) → length points ≤ 10000 → 1 ≤ length pairs → length pairs ≤ 3
     → IsSmallCentre c → All (IsSmallPair (length points)) pairs → s.weight ≤ 2 ^ 42 → ArePairSums points (map pair_of pairs) s → AreHeights c points h
-    → IsHeld (record { size = size; centre = c; inner = inner; outer = outer; pairs = map pair_of pairs }) c h s
+    → MeetsRest (record { size = size; centre = c; inner = inner; outer = outer; pairs = map pair_of pairs }) c h s
     → PassesAnnulus points (record { size = size; centre = c; inner = inner; outer = outer; pairs = map pair_of pairs })
 held_passes points pairs size inner outer c h s few some three centre small light sums heights held = record {
   places = record {
@@ -68,7 +68,7 @@ held_passes points pairs size inner outer c h s few some three centre small ligh
     natural h = omega (arith, ints)
 
 -- and back
-pub passing_held : (points : List PlanePoint) (a : AnnulusAnswer) (h : Heights) (s : PairSums) → ArePairSums points a.pairs s → AreHeights a.centre points h → PassesAnnulus points a → IsHeld a a.centre h s
+pub passing_held : (points : List PlanePoint) (a : AnnulusAnswer) (h : Heights) (s : PairSums) → ArePairSums points a.pairs s → AreHeights a.centre points h → PassesAnnulus points a → MeetsRest a a.centre h s
 passing_held points a h s sums heights p = record {
   size = (p.places.size, subst (λ z. SameValue a.size (record { n = z; d = a.centre.w })) (sym (ap₂ (λ g l. g -ℤ l) heights.greatest heights.least)) p.size);
   mean = (
@@ -91,13 +91,13 @@ small_centre points a p = record { place = p.places.centre; limits = record { w 
 -- the test of what is left decides, with the answer's pairs as a slice and its centre in 64 bits
 pub annulus_decided : {yes : Bool} (points : List PlanePoint) (pairs items : List WeightedPair) (size inner outer : Fraction) (centre c : PlaneRatio) (h : Heights) (s : PairSums) → pairs ≡ items → c ≡ centre → length points ≤ 10000
     → 1 ≤ length pairs → length pairs ≤ 3 → IsSmallCentre centre → All (IsSmallPair (length points)) pairs → s.weight ≤ 2 ^ 42 → ArePairSums points (map pair_of pairs) s → AreHeights c points h
-    → (IsTrue yes ↔ IsHeld (record { size = size; centre = centre; inner = inner; outer = outer; pairs = map pair_of items }) c h s)
+    → (IsTrue yes ↔ MeetsRest (record { size = size; centre = centre; inner = inner; outer = outer; pairs = map pair_of items }) c h s)
     → IsTrue yes ↔ PassesAnnulus points (record { size = size; centre = centre; inner = inner; outer = outer; pairs = map pair_of items })
 annulus_decided {yes} points pairs items size inner outer centre c h s same is few some three small_c small light sums heights test =
     let a : AnnulusAnswer = record { size = size; centre = centre; inner = inner; outer = outer; pairs = map pair_of items } in
     let all_sums = subst (λ ps. ArePairSums points (map pair_of ps) s) same sums in
     let all_heights = subst (λ z. AreHeights z points h) is heights in
-    let held = subst (λ z. IsTrue yes ↔ IsHeld a z h s) is test in (
+    let held = subst (λ z. IsTrue yes ↔ MeetsRest a z h s) is test in (
       λ t. held_passes points items size inner outer centre h s few (subst (λ ps. 1 ≤ length ps) same some) (subst (λ ps. length ps ≤ 3) same three) small_c (subst (All (IsSmallPair (length points))) same small) light all_sums all_heights
           (held.0 t),
       λ p. held.1 (passing_held points a h s all_sums all_heights p),

@@ -84,7 +84,7 @@ abbrev pub HasValue : Fraction → Fraction → Type 0
 HasValue a v = IsFraction a × SameValue a v
 
 -- the annulus around the centre between these heights, and pairs with these sums
-pub record IsHeld (a : AnnulusAnswer) (c : PlaneRatio) (h : Heights) (s : PairSums) : Type 0 where
+pub record MeetsRest (a : AnnulusAnswer) (c : PlaneRatio) (h : Heights) (s : PairSums) : Type 0 where
   pub size : HasValue a.size (record { n = h.greatest -ℤ h.least; d = c.w })
   pub mean : HasValue a.size (record { n = s.squared_length; d = pos s.weight })
   pub balanced_x : s.x ≡ pos 0

@@ -10,7 +10,7 @@ ghost use Rattle.bounds_model.specs.Asks.{ask_annulus, plane};
 ghost use Rattle.bounds_model.specs.Answers.{Passes, IsBest, annulus};
 ghost use Rattle.bounded_coords.specs.Clouds.{points_of};
 ghost use Rattle.answers.specs.Answers.{pair_of, annulus_of};
-ghost use Rattle.annulus_check.specs.HeldAnnuli.{IsSmallCentre, IsSmallPair, ratio_of, IsCentre, AddsPair, AreSmallSums, ArePairSums, AreHeights, IsHeld};
+ghost use Rattle.annulus_check.specs.HeldAnnuli.{IsSmallCentre, IsSmallPair, ratio_of, IsCentre, AddsPair, AreSmallSums, ArePairSums, AreHeights, MeetsRest};
 
 use answers::{AnnulusAnswer, WeightedPair};
 use bounded_coords::{Cloud2, Point2};
@@ -237,7 +237,7 @@ fn is_held(a: &AnnulusAnswer, centre: Centre, heights: Heights, sums: PairSums) 
     requires least { Size (2 ^ 80) heights.least }
     requires sums { AreSmallSums 3 sums }
     requires some { 1 ≤ sums.weight }
-    ensures { IsTrue result ↔ IsHeld (annulus_of a.now) (ratio_of centre) heights sums }
+    ensures { IsTrue result ↔ MeetsRest (annulus_of a.now) (ratio_of centre) heights sums }
 {
     if !has_value(&a.size, heights.greatest - heights.least, centre.w as i128) {
         return false;

@@ -33,6 +33,18 @@ impl<T: Copy> AnswerList<T> {
         }
     }
 
+    /// The empty list, with room for so many items, so that pushing them moves none. Where memory is refused it has no room,
+    /// and the first item to be pushed wants memory.
+    pub fn with_capacity(alloc: Global, capacity: u32) -> AnswerList<T>
+        ensures { result ≡ [] }
+    {
+        let items = match Vec::with_capacity(alloc, capacity as usize) {
+            Ok(items) => items,
+            Err(_) => Vec::new(alloc),
+        };
+        AnswerList { items }
+    }
+
     /// Adds an item at the end. Where memory is refused, the list stays as it was.
     pub fn push(&mut self, item: T) -> Result<(), OutOfMemory>
         requires { length self.old < 1000000 }

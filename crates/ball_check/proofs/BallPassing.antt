@@ -9,7 +9,7 @@ use Rattle.ball_sums.specs.declared.sums.Sums.{Sums}
 use Rattle.ball_sums.specs.Means.{plane_mean, space_mean}
 use Rattle.ball_sums.proofs.Weights.{in_places}
 use Rattle.ball_sums.proofs.Means.{plane_mean_is, space_mean_is}
-use Rattle.ball_check.specs.HeldBalls.{HasBallLimits, HoldsBall, IsHeld}
+use Rattle.ball_check.specs.HeldBalls.{HasBallLimits, HoldsBall, AreSupportSums}
 
 -- ---- circles and spheres
 
@@ -62,7 +62,7 @@ sphere_holds points a p = record {
 -- ---- what decides
 
 pub circle_decided : {yes : Bool} (points : List PlanePoint) (a : CircleAnswer) (h : Sums) (first : PlanePoint) → length points ≤ 10000 → length a.supports ≤ 3
-    → HoldsBall 2 (map flat points) a.supports a.size × IsHeld 2 (map flat points) a.supports h → first_support (map flat points) a.supports ≡ flat first
+    → HoldsBall 2 (map flat points) a.supports a.size × AreSupportSums 2 (map flat points) a.supports h → first_support (map flat points) a.supports ≡ flat first
     → (IsTrue yes ↔ (IsPlaneRatio a.centre × SamePlace (flat_ratio a.centre) (flat_ratio (plane_mean first h))))
     → IsTrue yes ↔ PassesCircle points a
 circle_decided points a h first few three held is test =
@@ -72,7 +72,7 @@ circle_decided points a h first few three held is test =
     )
 
 pub sphere_decided : {yes : Bool} (points : List SpacePoint) (a : SphereAnswer) (h : Sums) (first : SpacePoint) → length points ≤ 10000 → length a.supports ≤ 4
-    → HoldsBall 3 points a.supports a.size × IsHeld 3 points a.supports h → first_support points a.supports ≡ first
+    → HoldsBall 3 points a.supports a.size × AreSupportSums 3 points a.supports h → first_support points a.supports ≡ first
     → (IsTrue yes ↔ (IsSpaceRatio a.centre × SamePlace a.centre (space_mean first h)))
     → IsTrue yes ↔ PassesSphere points a
 sphere_decided points a h first few four held is test =

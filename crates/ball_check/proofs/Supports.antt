@@ -13,7 +13,7 @@ use Rattle.answers.specs.declared.balls.Weighted.{Weighted}
 use Rattle.answers.specs.Answers.{weighted_of}
 use Rattle.integers.proofs.Lists.{All-unmap}
 use Rattle.ball_sums.specs.declared.sums.Sums.{Sums}
-use Rattle.ball_check.specs.HeldBalls.{IsHeld}
+use Rattle.ball_check.specs.HeldBalls.{AreSupportSums}
 
 -- the place of a numbered point
 pub placed : {P : Type 0} (place : P → SpacePoint) (points : List P) (i : ℕ) (p : P) → slice_get points i ≡ Some p → point_at (map place points) i ≡ place p
@@ -38,14 +38,14 @@ difference : (a b : ℤ) → ((a -ℤ b) <ℤ pos 0 → ⊥) → b ≤ℤ a
 difference a b h = by_lt_z a b (λ below. absurd (h (omega (arith, ints)))) (λ most. most)
 
 -- the height over the ball that the supports hold, in the supports' own words
-height_is : {dim : ℕ} (points : List SpacePoint) (supports : List model.Weighted) (h : Sums) (first p : SpacePoint) → IsHeld dim points supports h → first_support points supports ≡ first
+height_is : {dim : ℕ} (points : List SpacePoint) (supports : List model.Weighted) (h : Sums) (first p : SpacePoint) → AreSupportSums dim points supports h → first_support points supports ≡ first
     → height (sum_of h.pull) h.weight (vector first p) ≡ pos 2 *ℤ dot (vector (first_support points supports) p) (pull points supports) -ℤ weight_sum supports *ℤ squared_length (vector (first_support points supports) p)
 height_is points supports h first p held is =
     ap₂ (λ sum weight. pos 2 *ℤ dot (vector first p) sum -ℤ weight *ℤ squared_length (vector first p)) held.sums.sums.pull held.sums.sums.weight
     ∙ ap (λ f. pos 2 *ℤ dot (vector f p) (pull points supports) -ℤ weight_sum supports *ℤ squared_length (vector f p)) (sym is)
 
 -- a point of height 0 is on the ball
-pub on_ball_by : {yes : Bool} {dim : ℕ} (points : List SpacePoint) (supports : List model.Weighted) (h : Sums) (first p : SpacePoint) (s : model.Weighted) → IsHeld dim points supports h → first_support points supports ≡ first → point_at points s.point ≡ p
+pub on_ball_by : {yes : Bool} {dim : ℕ} (points : List SpacePoint) (supports : List model.Weighted) (h : Sums) (first p : SpacePoint) (s : model.Weighted) → AreSupportSums dim points supports h → first_support points supports ≡ first → point_at points s.point ≡ p
     → (IsTrue yes ↔ (height (sum_of h.pull) h.weight (vector first p) ≡ pos 0)) → IsTrue yes ↔ IsOnBall points supports s
 on_ball_by {yes} points supports h first p s held is at test =
     let e = ap (λ q. height (sum_of h.pull) h.weight (vector first q)) (sym at) ∙ height_is points supports h first (point_at points s.point) held is in
@@ -58,7 +58,7 @@ on_ball_by {yes} points supports h first p s held is at test =
     none a b h = omega (arith, ints)
 
 -- and one with a height below 0 is outside
-pub outside_by : {yes : Bool} {dim : ℕ} (points : List SpacePoint) (supports : List model.Weighted) (h : Sums) (first p : SpacePoint) → IsHeld dim points supports h → first_support points supports ≡ first
+pub outside_by : {yes : Bool} {dim : ℕ} (points : List SpacePoint) (supports : List model.Weighted) (h : Sums) (first p : SpacePoint) → AreSupportSums dim points supports h → first_support points supports ≡ first
     → (IsTrue yes ↔ (height (sum_of h.pull) h.weight (vector first p) <ℤ pos 0)) → (IsTrue yes → IsNotOutside points supports p → ⊥) × ((IsTrue yes → ⊥) → IsNotOutside points supports p)
 outside_by {yes} points supports h first p held is test =
     let e = height_is points supports h first p held is in

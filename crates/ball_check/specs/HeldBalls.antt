@@ -24,6 +24,6 @@ pub record HoldsBall (dim : ℕ) (points : List SpacePoint) (supports : List Wei
   pub none_outside : All (IsNotOutside points supports) points
 
 -- the sums over all supports, as seen from the first
-pub record IsHeld (dim : ℕ) (points : List SpacePoint) (supports : List Weighted) (s : Sums) : Type 0 where
+pub record AreSupportSums (dim : ℕ) (points : List SpacePoint) (supports : List Weighted) (s : Sums) : Type 0 where
   pub some : 1 ≤ s.weight
   pub sums : AreSums dim points supports s

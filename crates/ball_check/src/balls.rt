@@ -12,7 +12,7 @@ ghost use Rattle.kernel_laws.specs.Signs.{height};
 ghost use Rattle.answers.specs.Answers.{weighted_of, circle_of, sphere_of};
 ghost use Rattle.ball_sums.specs.Sums.{IsInRange};
 ghost use Rattle.ball_sums.specs.Means.{mean_size, plane_mean, space_mean};
-ghost use Rattle.ball_check.specs.HeldBalls.{HasBallLimits, HoldsBall, IsHeld};
+ghost use Rattle.ball_check.specs.HeldBalls.{HasBallLimits, HoldsBall, AreSupportSums};
 
 use answers::{BallAnswer2, BallAnswer3, Weighted};
 use ball_sums::Sums;
@@ -57,7 +57,7 @@ fn held_ball<K: Kernel>(
     supports: &[Weighted],
     size: &Frac,
 ) -> Option<Sums>
-    ensures { MatchOption result (HoldsBall K.DIM (map K.place (points_of cloud.entry)) (map weighted_of supports.now) size.now → ⊥) (λ h. HoldsBall K.DIM (map K.place (points_of cloud.entry)) (map weighted_of supports.now) size.now × IsHeld K.DIM (map K.place (points_of cloud.entry)) (map weighted_of supports.now) h) }
+    ensures { MatchOption result (HoldsBall K.DIM (map K.place (points_of cloud.entry)) (map weighted_of supports.now) size.now → ⊥) (λ h. HoldsBall K.DIM (map K.place (points_of cloud.entry)) (map weighted_of supports.now) size.now × AreSupportSums K.DIM (map K.place (points_of cloud.entry)) (map weighted_of supports.now) h) }
 {
     let held = sums(kernel, cloud, supports)?;
     if !is_size(size, &held) {
@@ -77,7 +77,7 @@ fn held_ball<K: Kernel>(
 /// The sums over the supports, as seen from the first. None where there are none, one is no point's, or a weight or their sum
 /// is not within the limits.
 fn sums<K: Kernel>(kernel: &K, cloud: Cloud<'_, K::P>, supports: &[Weighted]) -> Option<Sums>
-    ensures { MatchOption result (HasBallLimits K.DIM (length (points_of cloud.entry)) (map weighted_of supports.now) → ⊥) (λ h. HasBallLimits K.DIM (length (points_of cloud.entry)) (map weighted_of supports.now) × IsHeld K.DIM (map K.place (points_of cloud.entry)) (map weighted_of supports.now) h) }
+    ensures { MatchOption result (HasBallLimits K.DIM (length (points_of cloud.entry)) (map weighted_of supports.now) → ⊥) (λ h. HasBallLimits K.DIM (length (points_of cloud.entry)) (map weighted_of supports.now) × AreSupportSums K.DIM (map K.place (points_of cloud.entry)) (map weighted_of supports.now) h) }
 {
     if supports.is_empty() {
         return None;
@@ -122,7 +122,7 @@ fn are_on_ball<K: Kernel>(
     held: &Sums,
 ) -> bool
     requires limits { HasBallLimits K.DIM (length (points_of cloud)) (map weighted_of supports.now) }
-    requires held { IsHeld K.DIM (map K.place (points_of cloud)) (map weighted_of supports.now) held.now }
+    requires held { AreSupportSums K.DIM (map K.place (points_of cloud)) (map weighted_of supports.now) held.now }
     ensures { IsTrue result ↔ All (IsOnBall (map K.place (points_of cloud.entry)) (map weighted_of supports.now)) (map weighted_of supports.now) }
 {
     let first = cloud.at(supports[0].point);
@@ -142,7 +142,7 @@ fn is_none_outside<K: Kernel>(
     held: &Sums,
 ) -> bool
     requires limits { HasBallLimits K.DIM (length (points_of cloud)) (map weighted_of supports.now) }
-    requires held { IsHeld K.DIM (map K.place (points_of cloud)) (map weighted_of supports.now) held.now }
+    requires held { AreSupportSums K.DIM (map K.place (points_of cloud)) (map weighted_of supports.now) held.now }
     ensures { IsTrue result ↔ All (IsNotOutside (map K.place (points_of cloud.entry)) (map weighted_of supports.now)) (map K.place (points_of cloud.entry)) }
 {
     let first = cloud.at(supports[0].point);

@@ -6,6 +6,8 @@ ghost use Rattle.bounded_coords.specs.declared.points.PushFault.TheVariants.{Ful
 use crate::cloud::MOST_POINTS;
 use crate::{Cloud, Point2, Point3};
 use std::alloc::Global;
+use std::error::Error;
+use std::fmt;
 use std::marker::Model;
 
 /// At most 10000 points, in the order in which they were pushed, repeats kept.
@@ -38,6 +40,22 @@ pub enum PushFault {
     /// Memory was refused.
     OutOfMemory,
 }
+
+impl fmt::Display for PushFault {
+    ghost use Rattle.std.specs.Prelude.{Some};
+    ghost use Rattle.bounded_coords.specs.Messages.{push_message};
+
+    ghost output = { λ fault. Some (push_message fault) };
+
+    fn fmt<W: fmt::Write>(&self, f: &mut fmt::Formatter<W>) -> fmt::Result {
+        f.write_str(match self {
+            PushFault::Full => "the list has 10000 points",
+            PushFault::OutOfMemory => "out of memory",
+        })
+    }
+}
+
+impl Error for PushFault {}
 
 impl<P: Copy> Points<P> {
     /// The empty list. It takes no memory.

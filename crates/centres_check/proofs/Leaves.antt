@@ -9,7 +9,7 @@ use Rattle.answers.specs.Answers.{leaf_of}
 use Rattle.answers.specs.declared.centres.Leaf.{Leaf}
 use Rattle.corner_squares.specs.declared.square.Square.{Square}
 use Rattle.corner_squares.specs.declared.bounds.Bounds.{Bounds}
-use Rattle.corner_squares.specs.Squares.{IsHeld, left_over}
+use Rattle.corner_squares.specs.Squares.{IsCovered, left_over}
 use Rattle.corner_squares.specs.Extents.{IsFound}
 use Rattle.corner_squares.specs.Trees as trees
 use Rattle.corner_squares.specs.Trees.{AreLeavesAt}

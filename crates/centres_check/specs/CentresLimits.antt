@@ -5,7 +5,7 @@ use Rattle.bounds_model.specs.Fractions.{Fraction}
 use Rattle.bounds_model.specs.Places.{IsFraction, IsPlaneRatio}
 use Rattle.bounds_model.specs.CentresAnswer.{CentresAnswer, Leaf, IsCentreWithinLimits, AreFar}
 use Rattle.corner_squares.specs.declared.square.Square.{Square}
-use Rattle.corner_squares.specs.Squares.{IsHeld}
+use Rattle.corner_squares.specs.Squares.{IsCovered}
 
 -- a radius in its place, a whole number or a half one, with a numerator of at most a million
 pub record IsSmallRadius (radius : Fraction) : Type 0 where
@@ -31,6 +31,6 @@ pub record IsWithinLimits (count : ℕ) (points : List PlanePoint) (a : CentresA
 
 -- none of the squares holds one of the points, and they differ by more than a side
 pub record IsFreePair (side : ℕ) (squares : List Square) (p q : PlanePoint) : Type 0 where
-  pub first : ¬ IsHeld squares p
-  pub second : ¬ IsHeld squares q
+  pub first : ¬ IsCovered squares p
+  pub second : ¬ IsCovered squares q
   pub far : AreFar side p q

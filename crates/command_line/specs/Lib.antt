@@ -7,3 +7,4 @@ pub mod Parsing
 pub mod Tasks
 pub mod Given
 pub mod Faults
+pub mod Messages

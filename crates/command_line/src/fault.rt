@@ -1,6 +1,8 @@
 //! Why words are no task.
 
 use std::alloc::AllocError;
+use std::error::Error;
+use std::fmt;
 
 /// An option of a command.
 #[derive(Clone, Copy, Debug, PartialEq, Eq)]
@@ -23,6 +25,28 @@ pub enum Opt {
     Brief,
 }
 
+impl Opt {
+    ghost use Rattle.std.specs.Prelude.{◌≡◌};
+    ghost use Rattle.bounds_model.specs.ErrorLines.{option_name};
+    ghost use Rattle.command_line.specs.Faults.{meant_option};
+
+    /// The option's word without its dashes.
+    pub fn name(self) -> &'static str
+        ensures { result.now ≡ option_name (meant_option self) }
+    {
+        match self {
+            Opt::Kind => "kind",
+            Opt::Form => "form",
+            Opt::P => "p",
+            Opt::K => "k",
+            Opt::Frame => "box",
+            Opt::Seed => "seed",
+            Opt::Count => "count",
+            Opt::Brief => "brief",
+        }
+    }
+}
+
 /// Why words are no task: the first of these faults that they have, in this order, and of faults of options that of the option
 /// which `Opt` has first.
 #[derive(Clone, Copy, Debug, PartialEq, Eq)]
@@ -42,6 +66,36 @@ pub enum UsageFault {
     /// Memory was refused.
     OutOfMemory,
 }
+
+impl fmt::Display for UsageFault {
+    ghost use Rattle.std.specs.Prelude.{Some};
+    ghost use Rattle.command_line.specs.Messages.{usage_message};
+
+    ghost output = { λ fault. Some (usage_message fault) };
+
+    fn fmt<W: fmt::Write>(&self, f: &mut fmt::Formatter<W>) -> fmt::Result {
+        match *self {
+            UsageFault::Words => f.write_str("words are not understood"),
+            UsageFault::UnknownCommand => f.write_str("unknown command"),
+            UsageFault::FileCount => f.write_str("wrong number of files"),
+            UsageFault::MissingOption(option) => {
+                let name = option.name();
+                write!(f, "option --{name} is missing")
+            }
+            UsageFault::UnneededOption(option) => {
+                let name = option.name();
+                write!(f, "option --{name} is not used here")
+            }
+            UsageFault::BadValue(option) => {
+                let name = option.name();
+                write!(f, "option --{name} has a bad value")
+            }
+            UsageFault::OutOfMemory => f.write_str("out of memory"),
+        }
+    }
+}
+
+impl Error for UsageFault {}
 
 impl From<AllocError> for UsageFault {
     ghost use Rattle.std.specs.Prelude.{◌≡◌};

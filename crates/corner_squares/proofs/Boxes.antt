@@ -1,5 +1,5 @@
 -- How the bounding box of points grows point by point, and what it says of all points that are left over.
-use Rattle.std.proofs.Common.{◌≡◌, ◌⊎◌, inl, inr, refl, sym, subst, ap, ap₂, ◌∙◌, ℕ, ◌+◌, ◌%◌, ◌/◌, ◌<◌, ◌≤◌, ℤ, pos, ◌+ℤ◌, ◌-ℤ◌, ◌≤ℤ◌, ◌<ℤ◌, Bool, List, [], ◌∷◌, ◌++◌, length, get_or, All, Contains, arith}
+use Rattle.std.proofs.Common.{◌≡◌, ◌⊎◌, inl, inr, refl, sym, subst, ap, ap₂, ◌∙◌, ℕ, ◌+◌, ◌%◌, ◌/◌, ◌<◌, ◌≤◌, ℤ, pos, ◌-ℤ◌, ◌≤ℤ◌, ◌<ℤ◌, List, [], ◌∷◌, ◌++◌, length, get_or, All, Contains, arith}
 use Rattle.std.specs.Prelude.{slice_get, Option, Some, None, if◌then◌else◌, ◌==◌}
 use Rattle.std.proofs.lemmas.Int.{ints}
 use Rattle.std.proofs.lemmas.Option.{slice_get_within, get_or_from_slice_get}
@@ -13,8 +13,8 @@ use Rattle.bounds_model.specs.CentresAnswer as model
 use Rattle.corner_squares.specs.declared.square.Square.{Square}
 use Rattle.corner_squares.specs.declared.extent.Extent.{Extent}
 use Rattle.corner_squares.specs.declared.bounds.Bounds.{Bounds}
-use Rattle.corner_squares.specs.Squares.{square_of, IsHeld, left_over}
-use Rattle.corner_squares.specs.Extents.{Sees, HasAt, IsExtent, IsPlaneExtent, IsBox, Adds, IsFound}
+use Rattle.corner_squares.specs.Squares.{square_of, IsCovered, left_over}
+use Rattle.corner_squares.specs.Extents.{Sees, HasAt, IsExtent, IsBox, Adds, IsFound}
 use Rattle.corner_squares.proofs.LeftOver.{Contains-left_over, All-left_over, left_over-push}
 
 -- ---- one point more
@@ -22,6 +22,9 @@ use Rattle.corner_squares.proofs.LeftOver.{Contains-left_over, All-left_over, le
 -- a place below i + 1 is below i or i
 pub below_or_at : (k i : ℕ) → k < i + 1 → (k < i) ⊎ (k ≡ i)
 below_or_at k i h = grind arith
+
+one_later : (k i : ℕ) → k < i → k < i + 1
+one_later k i h = omega (arith, h)
 
 -- the value is within the ends
 Between : Extent → ℤ → Type 0
@@ -44,10 +47,10 @@ moved of points squares old new value now h is_value is_number =
     subst (λ k. HasAt of points squares k now) (sym is_number) (subst (λ v. HasAt of points squares old v) (sym is_value) h)
 
 -- a point that is there has its coordinate
-here : (of : PlanePoint → ℤ) (points : List PlanePoint) (squares : List Square) (i : ℕ) (p : PlanePoint) → slice_get points i ≡ Some p → ¬ IsHeld squares p → HasAt of points squares i (of p)
+here : (of : PlanePoint → ℤ) (points : List PlanePoint) (squares : List Square) (i : ℕ) (p : PlanePoint) → slice_get points i ≡ Some p → ¬ IsCovered squares p → HasAt of points squares i (of p)
 here of points squares i p there free = record {
   below = slice_get_within points i p there;
-  free = subst (λ q. ¬ IsHeld squares q) (sym is) free;
+  free = subst (λ q. ¬ IsCovered squares q) (sym is) free;
   has = ap of is;
 }
   where
@@ -56,7 +59,7 @@ here of points squares i p there free = record {
 
 -- the first point that no square holds
 IsExtent-start : (of : PlanePoint → ℤ) (points : List PlanePoint) (squares : List Square) (i : ℕ) (p : PlanePoint) (e : Extent)
-    → ((k : ℕ) → k < i → IsHeld squares (point_at points k)) → slice_get points i ≡ Some p → ¬ IsHeld squares p → IsWithin plane_limit (of p)
+    → ((k : ℕ) → k < i → IsCovered squares (point_at points k)) → slice_get points i ≡ Some p → ¬ IsCovered squares p → IsWithin plane_limit (of p)
     → e ≡ record { low = of p; high = of p; low_at = i; high_at = i } → IsExtent of points squares (i + 1) e
 IsExtent-start of points squares i p e before there free inside is =
     let at = here of points squares i p there free in
@@ -67,6 +70,10 @@ IsExtent-start of points squares i p e before there free inside is =
       ];
       low_at = at;
       high_at = at;
+      low_seen = omega arith;
+      high_seen = omega arith;
+      low_first = λ k sooner. inl (before k sooner);
+      high_first = λ k sooner. inl (before k sooner);
       plane = record { low = inside; high = inside; order = omega (arith, ints) };
     })
   where
@@ -75,20 +82,24 @@ IsExtent-start of points squares i p e before there free inside is =
 
 -- a point that a square holds
 IsExtent-same : (of : PlanePoint → ℤ) (points : List PlanePoint) (squares : List Square) (i : ℕ) (p : PlanePoint) (e : Extent)
-    → slice_get points i ≡ Some p → IsHeld squares p → IsExtent of points squares i e → IsExtent of points squares (i + 1) e
+    → slice_get points i ≡ Some p → IsCovered squares p → IsExtent of points squares i e → IsExtent of points squares (i + 1) e
 IsExtent-same of points squares i p e there held was = record {
   inside = λ k low. elim (below_or_at k i low) [
     | inl less ↦ was.inside k less
-    | inr same ↦ inl (subst (IsHeld squares) (sym (ap (point_at points) same ∙ get_or_from_slice_get points i p origin there)) held)
+    | inr same ↦ inl (subst (IsCovered squares) (sym (ap (point_at points) same ∙ get_or_from_slice_get points i p origin there)) held)
   ];
   low_at = was.low_at;
   high_at = was.high_at;
+  low_seen = one_later e.low_at i was.low_seen;
+  high_seen = one_later e.high_at i was.high_seen;
+  low_first = was.low_first;
+  high_first = was.high_first;
   plane = was.plane;
 }
 
 -- a point that no square holds
 IsExtent-more : (of : PlanePoint → ℤ) (points : List PlanePoint) (squares : List Square) (i : ℕ) (p : PlanePoint) (old new : Extent)
-    → slice_get points i ≡ Some p → ¬ IsHeld squares p → IsWithin plane_limit (of p) → IsExtent of points squares i old → Sees old (of p) i new → IsExtent of points squares (i + 1) new
+    → slice_get points i ≡ Some p → ¬ IsCovered squares p → IsWithin plane_limit (of p) → IsExtent of points squares i old → Sees old (of p) i new → IsExtent of points squares (i + 1) new
 IsExtent-more of points squares i p old new there free inside was sees = record {
   inside = λ k low. elim (below_or_at k i low) [
     | inl less ↦ elim (was.inside k less) [ inl held ↦ inl held | inr in_old ↦ inr (wider old new (of p) (of (point_at points k)) i sees in_old) ]
@@ -96,6 +107,16 @@ IsExtent-more of points squares i p old new there free inside was sees = record 
   ];
   low_at = elim sees.low [ inl stays ↦ moved of points squares old.low_at new.low_at old.low new.low was.low_at stays.1 stays.2 | inr takes ↦ moved of points squares i new.low_at (of p) new.low at takes.1 takes.2 ];
   high_at = elim sees.high [ inl stays ↦ moved of points squares old.high_at new.high_at old.high new.high was.high_at stays.1 stays.2 | inr takes ↦ moved of points squares i new.high_at (of p) new.high at takes.1 takes.2 ];
+  low_seen = elim sees.low [ inl stays ↦ (let l = was.low_seen in omega (arith, l, stays.2)) | inr takes ↦ omega (arith, takes.2) ];
+  high_seen = elim sees.high [ inl stays ↦ (let l = was.high_seen in omega (arith, l, stays.2)) | inr takes ↦ omega (arith, takes.2) ];
+  low_first = elim sees.low [
+    | inl stays ↦ λ k sooner. subst (λ v. IsCovered squares (point_at points k) ⊎ (v <ℤ of (point_at points k))) (sym stays.1) (was.low_first k (subst (λ n. k < n) stays.2 sooner))
+    | inr takes ↦ λ k sooner. elim (was.inside k (subst (λ n. k < n) takes.2 sooner)) [ inl held ↦ inl held | inr in_old ↦ inr (lower (of (point_at points k)) takes in_old) ]
+  ];
+  high_first = elim sees.high [
+    | inl stays ↦ λ k sooner. subst (λ v. IsCovered squares (point_at points k) ⊎ (of (point_at points k) <ℤ v)) (sym stays.1) (was.high_first k (subst (λ n. k < n) stays.2 sooner))
+    | inr takes ↦ λ k sooner. elim (was.inside k (subst (λ n. k < n) takes.2 sooner)) [ inl held ↦ inl held | inr in_old ↦ inr (higher (of (point_at points k)) takes in_old) ]
+  ];
   plane = record {
     low = elim sees.low [ inl stays ↦ subst (IsWithin plane_limit) (sym stays.1) was.plane.low | inr takes ↦ subst (IsWithin plane_limit) (sym takes.1) inside ];
     high = elim sees.high [ inl stays ↦ subst (IsWithin plane_limit) (sym stays.1) was.plane.high | inr takes ↦ subst (IsWithin plane_limit) (sym takes.1) inside ];
@@ -106,6 +127,12 @@ IsExtent-more of points squares i p old new there free inside was sees = record 
     at : HasAt of points squares i (of p)
     at = here of points squares i p there free
 
+    lower : (v : ℤ) → (of p <ℤ old.low) × (new.low ≡ of p) × (new.low_at ≡ i) → (old.low ≤ℤ v) × (v ≤ℤ old.high) → new.low <ℤ v
+    lower v takes in_old = omega (arith, ints, takes.0, takes.1, in_old.0)
+
+    higher : (v : ℤ) → (old.high <ℤ of p) × (new.high ≡ of p) × (new.high_at ≡ i) → (old.low ≤ℤ v) × (v ≤ℤ old.high) → v <ℤ new.high
+    higher v takes in_old = omega (arith, ints, takes.0, takes.1, in_old.1)
+
     ordered : (new.low ≤ℤ of p) × (of p ≤ℤ new.high) → new.low ≤ℤ new.high
     ordered h = omega (arith, ints, h.0, h.1)
 
@@ -113,7 +140,7 @@ IsExtent-more of points squares i p old new there free inside was sees = record 
 
 -- the box of the first point that no square holds
 pub IsBox-start : (points : List PlanePoint) (squares : List Square) (i : ℕ) (p : PlanePoint) (b : Bounds)
-    → ((k : ℕ) → k < i → IsHeld squares (point_at points k)) → slice_get points i ≡ Some p → ¬ IsHeld squares p → IsInPlane p
+    → ((k : ℕ) → k < i → IsCovered squares (point_at points k)) → slice_get points i ≡ Some p → ¬ IsCovered squares p → IsInPlane p
     → b.across ≡ record { low = p.x; high = p.x; low_at = i; high_at = i } → b.up ≡ record { low = p.y; high = p.y; low_at = i; high_at = i } → IsBox points squares (i + 1) b
 IsBox-start points squares i p b before there free inside across up = record {
   across = IsExtent-start (λ p. p.x) points squares i p b.across before there free inside.x across;
@@ -122,7 +149,7 @@ IsBox-start points squares i p b before there free inside across up = record {
 
 -- it stays where a square holds the next point
 pub IsBox-same : (points : List PlanePoint) (squares : List Square) (i : ℕ) (p : PlanePoint) (b : Bounds)
-    → slice_get points i ≡ Some p → IsHeld squares p → IsBox points squares i b → IsBox points squares (i + 1) b
+    → slice_get points i ≡ Some p → IsCovered squares p → IsBox points squares i b → IsBox points squares (i + 1) b
 IsBox-same points squares i p b there held was = record {
   across = IsExtent-same (λ p. p.x) points squares i p b.across there held was.across;
   up = IsExtent-same (λ p. p.y) points squares i p b.up there held was.up;
@@ -130,7 +157,7 @@ IsBox-same points squares i p b there held was = record {
 
 -- and grows where none does
 pub IsBox-more : (points : List PlanePoint) (squares : List Square) (i : ℕ) (p : PlanePoint) (old new : Bounds)
-    → slice_get points i ≡ Some p → ¬ IsHeld squares p → IsInPlane p → IsBox points squares i old → Sees old.across p.x i new.across → Sees old.up p.y i new.up → IsBox points squares (i + 1) new
+    → slice_get points i ≡ Some p → ¬ IsCovered squares p → IsInPlane p → IsBox points squares i old → Sees old.across p.x i new.across → Sees old.up p.y i new.up → IsBox points squares (i + 1) new
 IsBox-more points squares i p old new there free inside was across up = record {
   across = IsExtent-more (λ p. p.x) points squares i p old.across new.across there free inside.x was.across across;
   up = IsExtent-more (λ p. p.y) points squares i p old.up new.up there free inside.y was.up up;
@@ -138,25 +165,25 @@ IsBox-more points squares i p old new there free inside was across up = record {
 
 -- the box with a point more that no square holds
 pub box_more : (points : List PlanePoint) (squares : List Square) (i : ℕ) (p : PlanePoint) (found : Option Bounds) (new : Bounds)
-    → slice_get points i ≡ Some p → ¬ IsHeld squares p → IsInPlane p → IsFound points squares i found → Adds found p i new → IsBox points squares (i + 1) new
+    → slice_get points i ≡ Some p → ¬ IsCovered squares p → IsInPlane p → IsFound points squares i found → Adds found p i new → IsBox points squares (i + 1) new
 box_more points squares i p None new there free plane was adds = IsBox-start points squares i p new was there free plane adds.0 adds.1
 box_more points squares i p (Some old) new there free plane was adds = IsBox-more points squares i p old new there free plane was adds.0 adds.1
 
 -- nothing new where a square holds the point
 pub found_same : (points : List PlanePoint) (squares : List Square) (i : ℕ) (p : PlanePoint) (found : Option Bounds)
-    → slice_get points i ≡ Some p → IsHeld squares p → IsFound points squares i found → IsFound points squares (i + 1) found
+    → slice_get points i ≡ Some p → IsCovered squares p → IsFound points squares i found → IsFound points squares (i + 1) found
 found_same points squares i p None there held was = λ k low. elim (below_or_at k i low) [
   | inl less ↦ was k less
-  | inr same ↦ subst (IsHeld squares) (sym (ap (point_at points) same ∙ get_or_from_slice_get points i p origin there)) held
+  | inr same ↦ subst (IsCovered squares) (sym (ap (point_at points) same ∙ get_or_from_slice_get points i p origin there)) held
 ]
 found_same points squares i p (Some b) there held was = IsBox-same points squares i p b there held was
 
 -- ---- all points seen
 
 -- where no box was found, all points are held, so nothing is left over
-pub nothing_free : (points : List PlanePoint) (squares : List Square) (i : ℕ) → length points ≤ i → ((k : ℕ) → k < i → IsHeld squares (point_at points k)) → left_over squares points ≡ []
+pub nothing_free : (points : List PlanePoint) (squares : List Square) (i : ℕ) → length points ≤ i → ((k : ℕ) → k < i → IsCovered squares (point_at points k)) → left_over squares points ≡ []
 nothing_free points squares i all h =
-    no_elements (left_over squares points) (All-left_over (λ p. ⊥) squares points (λ p m free. free (subst (IsHeld squares) (get_or_default points m.0 origin p m.1 ∙ m.2) (h m.0 (seen m.1)))))
+    no_elements (left_over squares points) (All-left_over (λ p. ⊥) squares points (λ p m free. free (subst (IsCovered squares) (get_or_default points m.0 origin p m.1 ∙ m.2) (h m.0 (seen m.1)))))
   where
     seen : {k : ℕ} → k < length points → k < i
     seen l = omega arith
@@ -174,7 +201,7 @@ inside_all : (of : PlanePoint → ℤ) (points : List PlanePoint) (squares : Lis
 inside_all of points squares i e all h =
     All-left_over (λ p. (e.low ≤ℤ of p) × (of p ≤ℤ e.high)) squares points
     (λ p m free. let is : point_at points m.0 ≡ p = get_or_default points m.0 origin p m.1 ∙ m.2 in elim (h.inside m.0 (seen m.1)) [
-      | inl held ↦ absurd (free (subst (IsHeld squares) is held))
+      | inl held ↦ absurd (free (subst (IsCovered squares) is held))
       | inr inside ↦ subst (λ p. (e.low ≤ℤ of p) × (of p ≤ℤ e.high)) is inside
     ])
   where

@@ -1,11 +1,11 @@
 -- The points that squares leave over.
-use Rattle.std.proofs.Common.{◌≡◌, inl, inr, refl, sym, subst, ap, ◌∙◌, ℕ, zero, suc, ◌+◌, ◌<◌, Bool, true, false, List, [], ◌∷◌, ◌++◌, length, get_or, All, Any, Contains, arith}
+use Rattle.std.proofs.Common.{◌≡◌, inl, inr, refl, sym, subst, ap, ◌∙◌, ℕ, zero, suc, ◌<◌, Bool, true, false, List, [], ◌∷◌, ◌++◌, length, get_or, All, Contains, arith}
 use Rattle.std.specs.Prelude.{filter, not, cond, IsTrue}
 use Rattle.std.proofs.lemmas.List.Elements.{All-contains, All-filter, All-contains_itself, filter_passes, Contains-append_cases, Contains-append_right}
 use Rattle.bounds_model.specs.Plane.{PlanePoint}
 use Rattle.bounds_model.specs.CentresAnswer.{holds, outside}
 use Rattle.corner_squares.specs.declared.square.Square.{Square}
-use Rattle.corner_squares.specs.Squares.{square_of, IsHeld, left_over}
+use Rattle.corner_squares.specs.Squares.{square_of, IsCovered, left_over}
 
 -- ---- lists
 
@@ -37,17 +37,17 @@ Contains-filter {X} test (x ∷ xs) p m passes = elim (Contains-append_cases (x 
 
 -- ---- the squares
 
-held_by_first : (s : Square) (rest : List Square) (p : PlanePoint) → IsTrue (holds (square_of s) p) → IsHeld (s ∷ rest) p
+held_by_first : (s : Square) (rest : List Square) (p : PlanePoint) → IsTrue (holds (square_of s) p) → IsCovered (s ∷ rest) p
 held_by_first s rest p h = (0, s, omega arith, refl, h)
 
-pub held_by_later : (s : Square) (rest : List Square) (p : PlanePoint) → IsHeld rest p → IsHeld (s ∷ rest) p
+pub held_by_later : (s : Square) (rest : List Square) (p : PlanePoint) → IsCovered rest p → IsCovered (s ∷ rest) p
 held_by_later s rest p h = (suc h.0, h.1, more h.2, h.3, h.4)
   where
     more : {k n : ℕ} → k < n → suc k < suc n
     more l = omega arith
 
 -- no empty list of squares holds a point
-pub none_held : (p : PlanePoint) → ¬ IsHeld [] p
+pub none_held : (p : PlanePoint) → ¬ IsCovered [] p
 none_held p h = let l = h.2 in absurd (omega (arith, l))
 
 not_true : (b : Bool) → (b ≡ true → ⊥) → not b ≡ true
@@ -55,7 +55,7 @@ not_true true n = absurd (n refl)
 not_true false n = refl
 
 -- a point that no square holds is left over
-pub Contains-left_over : (squares : List Square) (points : List PlanePoint) (p : PlanePoint) → Contains points p → ¬ IsHeld squares p → Contains (left_over squares points) p
+pub Contains-left_over : (squares : List Square) (points : List PlanePoint) (p : PlanePoint) → Contains points p → ¬ IsCovered squares p → Contains (left_over squares points) p
 Contains-left_over [] points p m free = m
 Contains-left_over (s ∷ rest) points p m free =
     Contains-left_over rest (outside (square_of s) points) p
@@ -70,7 +70,7 @@ listed (s ∷ rest) points p m =
     All-contains (Contains points) (outside (square_of s) points) p (All-filter (λ q. not (holds (square_of s) q)) (Contains points) points (All-contains_itself points)) kept
 
 -- which no square holds
-pub free_of_left_over : (squares : List Square) (points : List PlanePoint) (p : PlanePoint) → Contains (left_over squares points) p → ¬ IsHeld squares p
+pub free_of_left_over : (squares : List Square) (points : List PlanePoint) (p : PlanePoint) → Contains (left_over squares points) p → ¬ IsCovered squares p
 free_of_left_over [] points p m held = none_held p held
 free_of_left_over (s ∷ rest) points p m (zero, t, below, is, held) =
     let kept = listed rest (outside (square_of s) points) p m in
@@ -88,7 +88,7 @@ left_over-push [] s points = refl
 left_over-push (t ∷ rest) s points = left_over-push rest s (outside (square_of t) points)
 
 -- what all points have that no square holds, all have that are left over
-pub All-left_over : (P : PlanePoint → Type 0) (squares : List Square) (points : List PlanePoint) → ((p : PlanePoint) → Contains points p → ¬ IsHeld squares p → P p) → All P (left_over squares points)
+pub All-left_over : (P : PlanePoint → Type 0) (squares : List Square) (points : List PlanePoint) → ((p : PlanePoint) → Contains points p → ¬ IsCovered squares p → P p) → All P (left_over squares points)
 All-left_over P squares points h k d below =
     let rest = left_over squares points in
     let m : Contains rest (get_or rest k d) = (k, below, same rest k d below) in

@@ -3,7 +3,7 @@ use Rattle.std.proofs.Common.{◌≡◌, ◌⊎◌, inl, inr, refl, sym, subst, 
 use Rattle.std.proofs.lemmas.List.{length-append, get_or_append_left, get_or-append_right, get_or-take, get_or-drop, length-take-le, length-drop}
 use Rattle.bounds_model.specs.Numbers.{AllNumbered}
 use Rattle.bounds_model.specs.Plane.{PlanePoint, point_at}
-use Rattle.bounds_model.specs.CentresAnswer.{Leaf, digits, IsLeftOver, AreFar, IsLeaf, AreLeaves, outside, corner_square}
+use Rattle.bounds_model.specs.CentresAnswer.{Leaf, digits, IsLeftOver, AreFar, AreLeaves, outside, corner_square}
 use Rattle.corner_squares.specs.Trees.{NamesPoints, IsLeafAt, AreLeavesAt}
 
 -- ---- digits

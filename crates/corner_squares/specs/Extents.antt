@@ -5,7 +5,7 @@ use Rattle.bounds_model.specs.Plane.{PlanePoint, point_at, plane_limit}
 use Rattle.corner_squares.specs.declared.square.Square.{Square}
 use Rattle.corner_squares.specs.declared.extent.Extent.{Extent}
 use Rattle.corner_squares.specs.declared.bounds.Bounds.{Bounds}
-use Rattle.corner_squares.specs.Squares.{IsHeld}
+use Rattle.corner_squares.specs.Squares.{IsCovered}
 
 -- one coordinate more was seen, at the point of this number: it takes the place of the least one where it is below it, and of the greatest one where it is above it
 pub record Sees (old : Extent) (value : ℤ) (number : ℕ) (new : Extent) : Type 0 where
@@ -21,14 +21,18 @@ pub record IsPlaneExtent (e : Extent) : Type 0 where
 -- the point of this number has this coordinate, and no square holds it
 pub record HasAt (of : PlanePoint → ℤ) (points : List PlanePoint) (squares : List Square) (number : ℕ) (value : ℤ) : Type 0 where
   pub below : number < length points
-  pub free : ¬ IsHeld squares (point_at points number)
+  pub free : ¬ IsCovered squares (point_at points number)
   pub has : of (point_at points number) ≡ value
 
--- the extent reaches from the least to the greatest coordinate of the first i points, as far as no square holds them, and names points that have them
+-- the extent reaches from the least to the greatest coordinate of the first i points, as far as no square holds them, and names the first of the points that have them
 pub record IsExtent (of : PlanePoint → ℤ) (points : List PlanePoint) (squares : List Square) (i : ℕ) (e : Extent) : Type 0 where
-  pub inside : (k : ℕ) → k < i → IsHeld squares (point_at points k) ⊎ ((e.low ≤ℤ of (point_at points k)) × (of (point_at points k) ≤ℤ e.high))
+  pub inside : (k : ℕ) → k < i → IsCovered squares (point_at points k) ⊎ ((e.low ≤ℤ of (point_at points k)) × (of (point_at points k) ≤ℤ e.high))
   pub low_at : HasAt of points squares e.low_at e.low
   pub high_at : HasAt of points squares e.high_at e.high
+  pub low_seen : e.low_at < i
+  pub high_seen : e.high_at < i
+  pub low_first : (k : ℕ) → k < e.low_at → IsCovered squares (point_at points k) ⊎ (e.low <ℤ of (point_at points k))
+  pub high_first : (k : ℕ) → k < e.high_at → IsCovered squares (point_at points k) ⊎ (of (point_at points k) <ℤ e.high)
   pub plane : IsPlaneExtent e
 
 -- the box is the bounding box of the first i points, as far as no square holds them
@@ -43,5 +47,5 @@ Adds (Some old) p number new = Sees old.across p.x number new.across × Sees old
 
 -- the first i points are all held, or the box is that of the others
 abbrev pub IsFound : List PlanePoint → List Square → ℕ → Option Bounds → Type 0
-IsFound points squares i None = (k : ℕ) → k < i → IsHeld squares (point_at points k)
+IsFound points squares i None = (k : ℕ) → k < i → IsCovered squares (point_at points k)
 IsFound points squares i (Some b) = IsBox points squares i b

@@ -9,8 +9,8 @@ abbrev pub square_of : Square → model.Square
 square_of s = record { left = s.left; bottom = s.bottom; side = s.side }
 
 -- one of the squares holds the point
-abbrev pub IsHeld : List Square → PlanePoint → Type 0
-IsHeld squares p = Any (λ s. IsTrue (model.holds (square_of s) p)) squares
+abbrev pub IsCovered : List Square → PlanePoint → Type 0
+IsCovered squares p = Any (λ s. IsTrue (model.holds (square_of s) p)) squares
 
 -- the points that none of the squares holds
 abbrev pub left_over : List Square → List PlanePoint → List PlanePoint

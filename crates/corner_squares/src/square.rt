@@ -1,7 +1,7 @@
 //! Closed squares, and the points that they hold.
 ghost use Rattle.std.specs.Prelude.{◌↔◌, pos, ◌+ℤ◌, ◌≤ℤ◌, IsTrue};
 ghost use Rattle.bounds_model.specs.CentresAnswer.{holds};
-ghost use Rattle.corner_squares.specs.Squares.{square_of, IsHeld};
+ghost use Rattle.corner_squares.specs.Squares.{square_of, IsCovered};
 
 use bounded_coords::Point2;
 
@@ -34,7 +34,7 @@ fn is_from(low: i32, length: u32, value: i32) -> bool
 
 /// Whether one of the squares holds the point.
 pub fn is_held(squares: &[Square], p: &Point2) -> bool
-    ensures { IsTrue result ↔ IsHeld squares.now p.now }
+    ensures { IsTrue result ↔ IsCovered squares.now p.now }
 {
     squares.iter().any(|square| square.holds(p))
 }

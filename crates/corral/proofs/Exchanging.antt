@@ -10,16 +10,16 @@ use Rattle.kernel_laws.specs.Vectors.{vector_of}
 use Rattle.kernel_laws.specs.Solutions.{AreItems, weighted}
 use Rattle.corral.specs.declared.items.Id.{Id}
 use Rattle.corral.specs.declared.items.Items.{Items}
-use Rattle.corral.specs.declared.holding.Held.{Held}
+use Rattle.corral.specs.declared.support.WeightedItem.{WeightedItem}
 use Rattle.corral.specs.declared.search.Candidate.{Candidate}
 use Rattle.corral.specs.declared.search.Balance.{Balance}
 use Rattle.corral.specs.Parts.{IsPart}
 use Rattle.corral.specs.Supports.{IsSquare, support_vectors, AreSupports, IsRefuted}
 use Rattle.corral.specs.Items.{IsItem, item}
-use Rattle.corral.specs.Held.{names, weights, AreHeld, weighted_items}
+use Rattle.corral.specs.WeightedItems.{names, weights, AreSupportItems, weighted_items}
 use Rattle.corral.specs.Balances.{IsBalance, vectors, candidate_names, AreCandidates, IsFound, AreRefuted}
 use Rattle.corral.proofs.Parts.{part_all, part_map, part_of_map, part_length}
-use Rattle.corral.proofs.Settling.{not_all_are_refuted, value_rises}
+use Rattle.corral.proofs.Settled.{not_all_are_refuted, value_rises}
 use Rattle.corral.proofs.TooMany.{independent_are_few}
 use Rattle.corral.proofs.Mapped.{all_unmap}
 
@@ -31,12 +31,12 @@ vectors_are place items (c ∷ cs) are =
     (vectors_are place items cs (All-tail (λ (c : Candidate). vector_of c.vector ≡ item place items c.id) c cs are))
 
 -- those of weighted items are too
-pub held_vectors : {K P : Type 0} (place : P → SpacePoint) (items : Items K P) (held : List Held) → support_vectors (weighted_items place items held) ≡ map (item place items) (names held)
+pub held_vectors : {K P : Type 0} (place : P → SpacePoint) (items : Items K P) (held : List WeightedItem) → support_vectors (weighted_items place items held) ≡ map (item place items) (names held)
 held_vectors place items [] = refl
 held_vectors place items (s ∷ held) = ap (λ vs. item place items s.id ∷ vs) (held_vectors place items held)
 
 -- weights beside the vectors of the chosen candidates are the weighted items
-pub same_items : {K P : Type 0} (place : P → SpacePoint) (items : Items K P) (held : List Held) (part : List Candidate) → names held ≡ candidate_names part → AreCandidates place items part
+pub same_items : {K P : Type 0} (place : P → SpacePoint) (items : Items K P) (held : List WeightedItem) (part : List Candidate) → names held ≡ candidate_names part → AreCandidates place items part
     → weighted (weights held) (vectors part) ≡ weighted_items place items held
 same_items place items [] [] named are = refl
 same_items place items [] (c ∷ part) named are = absurd (cc)
@@ -49,11 +49,11 @@ same_items {K} {P} place items (s ∷ held) (c ∷ part) named are =
     (same_items place items held part others (All-tail (λ (c : Candidate). vector_of c.vector ≡ item place items c.id) c part are))
 
 -- an exchange: the old supports, a low item, and what the search found among them
-pub record IsExchange {K P : Type 0} (dim : ℕ) (square : ℤ) (place : P → SpacePoint) (xs : Items K P) (old : List Held) (id : Id) (all part : List Candidate) (b : Balance) : Type 0 where
+pub record IsExchange {K P : Type 0} (dim : ℕ) (square : ℤ) (place : P → SpacePoint) (xs : Items K P) (old : List WeightedItem) (id : Id) (all part : List Candidate) (b : Balance) : Type 0 where
   pub flag : IsSquare square
   pub dims : (dim ≡ 2) ⊎ (dim ≡ 3)
   pub named : IsItem xs id
-  pub held : AreHeld dim xs old
+  pub held : AreSupportItems dim xs old
   pub supports : AreSupports square (weighted_items place xs old)
   pub low : IsLow square (weighted_items place xs old) (item place xs id)
   pub all_named : candidate_names all ≡ id ∷ names old
@@ -61,7 +61,7 @@ pub record IsExchange {K P : Type 0} (dim : ℕ) (square : ℤ) (place : P → S
   pub few : length (vectors all) ≤ dim + 2
   pub found : IsFound dim square all part b
 
-module _ {K P : Type 0} (dim : ℕ) (square : ℤ) (place : P → SpacePoint) (xs : Items K P) (old : List Held) (id : Id) (all part : List Candidate) (b : Balance)
+module _ {K P : Type 0} (dim : ℕ) (square : ℤ) (place : P → SpacePoint) (xs : Items K P) (old : List WeightedItem) (id : Id) (all part : List Candidate) (b : Balance)
     (h : IsExchange {K = K} {P = P} dim square place xs old id all part b) where
   -- the new supports are a part of the old ones and the new item
   pub new_part : IsPart (names b.held.items) (id ∷ names old)
@@ -78,11 +78,11 @@ module _ {K P : Type 0} (dim : ℕ) (square : ℤ) (place : P → SpacePoint) (x
   new_balance = subst (λ items. IsBalance dim square items b) same h.found.balance
 
   -- each is an item
-  pub new_held : AreHeld dim xs b.held.items
+  pub new_held : AreSupportItems dim xs b.held.items
   new_held =
-      let old_names : All (IsItem xs) (names old) = All-map (IsItem xs) (λ (s : Held). s.id) old h.held.listed in
+      let old_names : All (IsItem xs) (names old) = All-map (IsItem xs) (λ (s : WeightedItem). s.id) old h.held.listed in
       let all_names : All (IsItem xs) (id ∷ names old) = All-cons (IsItem xs) id (names old) h.named old_names in
-      let many = length-map b.held.items (λ (s : Held). s.id) in
+      let many = length-map b.held.items (λ (s : WeightedItem). s.id) in
       let as_many = ap length h.found.named ∙ length-map part (λ (c : Candidate). c.id) in
       let vs = ap length (held_vectors place xs b.held.items) ∙ length-map (names b.held.items) (item place xs) in
       let items = length-map (weighted_items place xs b.held.items) (λ (item : WeightedVector). item.vector) in
@@ -121,8 +121,8 @@ search_finds square flag all some refuted = not_all_are_refuted square flag (vec
     lifted part (inner, is_part, same) long = subst (IsRefuted square (vectors all)) (sym same) (refuted inner is_part (let e = length-map inner (λ (c : Candidate). vector_of c.vector) in let f = ap length same in omega arith))
 
 -- an exchange, as the code has it
-pub exchange_is : {K P : Type 0} (dim : ℕ) (square : ℤ) (place : P → SpacePoint) (xs : Items K P) (old : List Held) (id : Id) (given all part : List Candidate) (b old_balance : Balance)
-    → IsSquare square → (dim ≡ 2) ⊎ (dim ≡ 3) → IsItem xs id → AreHeld dim xs old → IsBalance dim square (weighted_items place xs old) old_balance → IsLow square (weighted_items place xs old) (item place xs id)
+pub exchange_is : {K P : Type 0} (dim : ℕ) (square : ℤ) (place : P → SpacePoint) (xs : Items K P) (old : List WeightedItem) (id : Id) (given all part : List Candidate) (b old_balance : Balance)
+    → IsSquare square → (dim ≡ 2) ⊎ (dim ≡ 3) → IsItem xs id → AreSupportItems dim xs old → IsBalance dim square (weighted_items place xs old) old_balance → IsLow square (weighted_items place xs old) (item place xs id)
     → all ≡ given → candidate_names given ≡ id ∷ names old → AreCandidates place xs given → AreItems square dim (vectors given) → IsFound dim square all part b
     → IsExchange {K = K} {P = P} dim square place xs old id all part b
 exchange_is dim square place xs old id given all part b old_balance flag dims named held balance low same all_named candidates items found = record {

@@ -18,7 +18,7 @@ use Rattle.corral.specs.Parts.{IsPart}
 use Rattle.corral.specs.Supports.{AreSupports, AreBalanced, IsRefuted}
 use Rattle.corral.specs.Moments.{AreMoments, AreWithin, potential_at, IsLevel}
 use Rattle.corral.specs.declared.search.Balance.{Balance}
-use Rattle.corral.specs.Held.{names, weights}
+use Rattle.corral.specs.WeightedItems.{names, weights}
 use Rattle.corral.specs.Balances.{vectors, candidate_names, IsBalance, IsFound}
 use Rattle.corral.proofs.Parts.{part_all, part_map, part_length}
 use Rattle.corral.proofs.Supports.{balanced_from_weighting, supports_from_balanced, vectors-weighted, mass-weighted}

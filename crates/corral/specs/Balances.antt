@@ -12,7 +12,7 @@ use Rattle.corral.specs.declared.search.Balance.{Balance}
 use Rattle.corral.specs.Parts.{IsPart}
 use Rattle.corral.specs.Supports.{support_vectors, AreSupports, IsRefuted}
 use Rattle.corral.specs.Items.{item}
-use Rattle.corral.specs.Held.{names, weights}
+use Rattle.corral.specs.WeightedItems.{names, weights}
 use Rattle.corral.specs.Moments.{AreMoments, IsLevel}
 
 -- affinely independent supports, whose weights have a sum within the limit of the solver, with their sums and their potential

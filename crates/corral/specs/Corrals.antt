@@ -3,16 +3,16 @@ use Rattle.std.specs.Prelude.{List}
 use Rattle.bounds_model.specs.Space.{SpacePoint}
 use Rattle.bounds_model.specs.Potentials.{WeightedVector}
 use Rattle.corral.specs.declared.items.Items.{Items}
-use Rattle.corral.specs.declared.holding.Held.{Held}
-use Rattle.corral.specs.declared.exchanges.Corral.{Corral}
-use Rattle.corral.specs.Held.{weighted_items}
+use Rattle.corral.specs.declared.support.WeightedItem.{WeightedItem}
+use Rattle.corral.specs.declared.unsettled.Corral.{Corral}
+use Rattle.corral.specs.WeightedItems.{weighted_items}
 
 -- the items that the supports are chosen from
 abbrev pub all_items : {K T P : Type 0} {g h : _} → Corral K T P g h → Items K P
 all_items corral = corral.items
 
 -- the supports, in order
-abbrev pub held_in : {K T P : Type 0} {g h : _} → Corral K T P g h → List Held
+abbrev pub held_in : {K T P : Type 0} {g h : _} → Corral K T P g h → List WeightedItem
 held_in corral = corral.balance.held.items
 
 -- the weighted vectors of the supports

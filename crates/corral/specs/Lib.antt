@@ -3,7 +3,7 @@ pub mod Supports
 pub mod Rise
 pub mod Laws
 pub mod Items
-pub mod Held
+pub mod WeightedItems
 pub mod Supported
 pub mod Moments
 pub mod Balances

@@ -6,13 +6,13 @@ ghost use Rattle.kernel_laws.specs.Limits.{IsVectorWithin, reach};
 ghost use Rattle.kernel_laws.specs.Solutions.{AreItems, weighted};
 ghost use Rattle.corral.specs.Parts.{IsPart};
 ghost use Rattle.corral.specs.Supports.{IsRefuted};
-ghost use Rattle.corral.specs.Held.{names, weights as weights_of};
+ghost use Rattle.corral.specs.WeightedItems.{names, weights as weights_of};
 ghost use Rattle.corral.specs.Moments.{AreMoments, AreWithin, potential_at};
 ghost use Rattle.corral.specs.Balances.{vectors as vectors_in, candidate_names, IsFound, AreRefuted};
 
-use crate::holding::Held;
 use crate::items::Id;
 use crate::sums::Moments;
+use crate::support::WeightedItem;
 use arrayvec::ArrayVec;
 use kernel_laws::{Kernel, Potential, Solved, Vector};
 
@@ -43,7 +43,7 @@ impl Default for Candidate {
 /// Items with weights under which they have one potential, and what potentials are computed from.
 #[derive(Drop)]
 pub(crate) struct Balance {
-    pub(crate) held: ArrayVec<Held, 4>,
+    pub(crate) held: ArrayVec<WeightedItem, 4>,
     pub(crate) moments: Moments,
     /// The potential of each of the items.
     pub(crate) level: i128,
@@ -165,7 +165,7 @@ fn are_above<K: Kernel, T: Potential>(
 }
 
 /// The items of a part with their weights.
-fn weighted(part: &[Candidate], weights: &[i128]) -> ArrayVec<Held, 4>
+fn weighted(part: &[Candidate], weights: &[i128]) -> ArrayVec<WeightedItem, 4>
     requires few { length part.now ≤ 4 }
     requires as_many { length weights.now ≡ length part.now }
     requires some { All (λ w. pos 1 ≤ℤ w) weights.now }
@@ -174,7 +174,7 @@ fn weighted(part: &[Candidate], weights: &[i128]) -> ArrayVec<Held, 4>
 {
     let mut held = ArrayVec::new();
     for i in 0..part.len() {
-        held.push(Held {
+        held.push(WeightedItem {
             id: part[i].id,
             weight: weights[i] as u128,
         });

@@ -20,7 +20,7 @@ use Rattle.pair_sums.specs.Means.{mean_of, product_ratio}
 use Rattle.pair_sums.proofs.PairWeights.{in_places}
 use Rattle.pair_sums.proofs.Products.{pull_is, first_product_is, product_ratio_is, product_nonneg}
 use Rattle.pair_sums.proofs.WeightedMeans.{first_mean_is, second_mean_is}
-use Rattle.distance_check.specs.HeldDistances.{HasPairLimits, IsHeldBy, IsShown, AreNumbers}
+use Rattle.distance_check.specs.HeldDistances.{HasPairLimits, ArePairSums, IsShown, AreNumbers}
 use Rattle.distance_check.proofs.PairLimits.{no_pair, some_pairs, at_number}
 use Rattle.integers.proofs.Lists.{All-unmap, at_point, clash}
 
@@ -198,7 +198,7 @@ distance_decided ps qs a few_first few_second four limits test = (
 -- ---- steps of the checker
 
 -- the sums of pairs within their limits, and the points that the first of them names
-pub first_by : {m n : ℕ} {ps qs : List SpacePoint} {pairs : List WeightedPair} {s : PairSums} {first second : SpacePoint} → HasPairLimits m n (map pair_of pairs) → IsHeldBy ps qs (map pair_of pairs) s
+pub first_by : {m n : ℕ} {ps qs : List SpacePoint} {pairs : List WeightedPair} {s : PairSums} {first second : SpacePoint} → HasPairLimits m n (map pair_of pairs) → ArePairSums ps qs (map pair_of pairs) s
     → slice_get ps (get_or pairs 0 no_pair).first ≡ Some first → slice_get qs (get_or pairs 0 no_pair).second ≡ Some second → AreFirst ps qs pairs s first second
 first_by {pairs = pairs} limits held first second = record { sums = held.sums; some = limits.some; there = some_pairs pairs limits.some; names_first = first; names_second = second }
 

@@ -19,7 +19,7 @@ pub record HasPairLimits (first second : ℕ) (pairs : List WeightedPair) : Type
   pub weight_limit : pair_sum pairs ≤ℤ pos (2 ^ 66)
 
 -- the sums over all pairs
-pub record IsHeldBy (ps qs : List SpacePoint) (pairs : List WeightedPair) (s : PairSums) : Type 0 where
+pub record ArePairSums (ps qs : List SpacePoint) (pairs : List WeightedPair) (s : PairSums) : Type 0 where
   pub some : 1 ≤ s.weight
   pub range : IsInRange s
   pub sums : AreSums ps qs pairs s

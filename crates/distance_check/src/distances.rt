@@ -10,7 +10,7 @@ ghost use Rattle.bounded_coords.specs.Clouds.{points_of};
 ghost use Rattle.answers.specs.Answers.{pair_of, space_vector_of, distance_of};
 ghost use Rattle.pair_sums.specs.Sums.{IsInRange, pull_of};
 ghost use Rattle.pair_sums.specs.Means.{mean_of, product_ratio};
-ghost use Rattle.distance_check.specs.HeldDistances.{HasPairLimits, IsHeldBy, IsShown, answer_by, AreNumbers};
+ghost use Rattle.distance_check.specs.HeldDistances.{HasPairLimits, ArePairSums, IsShown, answer_by, AreNumbers};
 
 use answers::{Dir3, DistanceAnswer, WeightedPair};
 use bounded_coords::{Cloud3, Point3};
@@ -38,7 +38,7 @@ pub fn check_distance(p: Cloud3<'_>, q: Cloud3<'_>, a: &DistanceAnswer) -> bool
 /// The sums over the pairs. None where there are none, one names no point of its set, or a weight or their sum is not within
 /// the limits.
 fn sums(p: Cloud3<'_>, q: Cloud3<'_>, pairs: &[WeightedPair]) -> Option<PairSums>
-    ensures { MatchOption result (HasPairLimits (length (points_of p.entry)) (length (points_of q.entry)) (map pair_of pairs.now) → ⊥) (λ s. HasPairLimits (length (points_of p.entry)) (length (points_of q.entry)) (map pair_of pairs.now) × IsHeldBy (points_of p.entry) (points_of q.entry) (map pair_of pairs.now) s) }
+    ensures { MatchOption result (HasPairLimits (length (points_of p.entry)) (length (points_of q.entry)) (map pair_of pairs.now) → ⊥) (λ s. HasPairLimits (length (points_of p.entry)) (length (points_of q.entry)) (map pair_of pairs.now) × ArePairSums (points_of p.entry) (points_of q.entry) (map pair_of pairs.now) s) }
 {
     if pairs.is_empty() {
         return None;
@@ -73,7 +73,7 @@ fn is_shown(
     held: &PairSums,
 ) -> bool
     requires limits { HasPairLimits (length (points_of p)) (length (points_of q)) (map pair_of pairs.now) }
-    requires held { IsHeldBy (points_of p) (points_of q) (map pair_of pairs.now) held.now }
+    requires held { ArePairSums (points_of p) (points_of q) (map pair_of pairs.now) held.now }
     ensures { IsTrue result ↔ IsShown (points_of p.entry) (points_of q.entry) (answer_by a.now (map pair_of pairs.now)) }
 {
     let first = p.at(pairs[0].first);

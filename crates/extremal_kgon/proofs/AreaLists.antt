@@ -4,7 +4,7 @@ use Rattle.std.proofs.lemmas.List.{get_or_append_left, get_or_push, length_push}
 use Rattle.std.proofs.lemmas.List.Elements.{All-nil, All-push, All-same}
 use Rattle.integers.specs.Size.{Size}
 use Rattle.bounds_model.specs.Plane.{PlanePoint}
-use Rattle.extremal_kgon.specs.Rows.{at, area_at, pairs_below, AddsAreas, AreAreas, IsReach}
+use Rattle.extremal_kgon.specs.Rows.{at, area_at, pairs_below, AddsAreas, AreAreas, IsBestSum}
 use Rattle.extremal_kgon.proofs.Reading.{below_or_at}
 
 -- the pairs below the next number
@@ -85,7 +85,7 @@ areas-more ways i old new h more = record {
     inside x y j k h l = omega arith
 
 -- the same reach, with areas that are the same
-pub reach-as : (f g : ℕ → ℤ) (before : List ℤ) (i : ℕ) (u : ℤ) → ((j : ℕ) → j < i → f j ≡ g j) → IsReach f before i u → IsReach g before i u
+pub reach-as : (f g : ℕ → ℤ) (before : List ℤ) (i : ℕ) (u : ℤ) → ((j : ℕ) → j < i → f j ≡ g j) → IsBestSum f before i u → IsBestSum g before i u
 reach-as f g before i u same r = record {
   not_negative = r.not_negative;
   grows = λ j low. subst (λ z. (at before j +ℤ z) ≤ℤ u) (same j low) (r.grows j low);

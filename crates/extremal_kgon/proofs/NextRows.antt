@@ -2,21 +2,21 @@
 use Rattle.std.proofs.Common.{◌≡◌, refl, sym, subst, ap, ◌∙◌, inl, inr, ℕ, zero, suc, ◌+◌, ◌<◌, arith, ℤ, pos, List, [], ◌∷◌, ◌++◌, length}
 use Rattle.std.proofs.lemmas.List.{get_or_append_left, get_or_push, length_push}
 use Rattle.bounds_model.specs.Plane.{PlanePoint}
-use Rattle.extremal_kgon.specs.Rows.{at, area_at, IsReach, IsNextRow, IsZeroRow}
+use Rattle.extremal_kgon.specs.Rows.{at, area_at, IsBestSum, IsNextRow, IsZeroRow}
 use Rattle.extremal_kgon.proofs.Reading.{below_or_at}
 
 -- the first numbers of a row
 pub record IsRowSoFar (ways : List PlanePoint) (before row : List ℤ) (i : ℕ) : Type 0 where
   pub as_many : length row ≡ i
-  pub each : (k : ℕ) → k < i → IsReach (area_at ways k) before k (at row k)
+  pub each : (k : ℕ) → k < i → IsBestSum (area_at ways k) before k (at row k)
 
 -- one number more
-pub row-more : (ways : List PlanePoint) (before row pushed : List ℤ) (i : ℕ) (u : ℤ) → IsRowSoFar ways before row i → IsReach (area_at ways i) before i u → pushed ≡ row ++ u ∷ [] → IsRowSoFar ways before pushed (i + 1)
+pub row-more : (ways : List PlanePoint) (before row pushed : List ℤ) (i : ℕ) (u : ℤ) → IsRowSoFar ways before row i → IsBestSum (area_at ways i) before i u → pushed ≡ row ++ u ∷ [] → IsRowSoFar ways before pushed (i + 1)
 row-more ways before row pushed i u r reach is = subst (λ p. IsRowSoFar ways before p (i + 1)) (sym is) (record {
   as_many = length_push row u ∙ ap (λ n. n + 1) r.as_many;
   each = λ k low. elim (below_or_at k i low) [
-    | inl less ↦ subst (IsReach (area_at ways k) before k) (sym (get_or_append_left row (u ∷ []) (pos 0) k (in_row less r.as_many))) (r.each k less)
-    | inr same ↦ subst (λ n. IsReach (area_at ways n) before n (at (row ++ u ∷ []) n)) (sym same) (subst (IsReach (area_at ways i) before i) (sym (get_or_push row u (pos 0) i r.as_many)) reach)
+    | inl less ↦ subst (IsBestSum (area_at ways k) before k) (sym (get_or_append_left row (u ∷ []) (pos 0) k (in_row less r.as_many))) (r.each k less)
+    | inr same ↦ subst (λ n. IsBestSum (area_at ways n) before n (at (row ++ u ∷ []) n)) (sym same) (subst (IsBestSum (area_at ways i) before i) (sym (get_or_push row u (pos 0) i r.as_many)) reach)
   ];
 })
   where

@@ -5,15 +5,15 @@ use Rattle.std.proofs.Common.{int_cmp, cond, Ordering}
 use Rattle.std.specs.declared.cmp.Ordering.TheVariants.{Less, Equal, Greater}
 use Rattle.std.specs.Ordering.{ord_max, is_lt, MatchOrdering}
 use Rattle.std.specs.Cmp.{int_ranks}
-use Rattle.extremal_kgon.specs.Rows.{at, IsReach}
+use Rattle.extremal_kgon.specs.Rows.{at, IsBestSum}
 use Rattle.extremal_kgon.proofs.Reading.{below_or_at}
 
 -- none comes to less than 0
-pub reach-none : (area : ℕ → ℤ) (before : List ℤ) → IsReach area before 0 (pos 0)
+pub reach-none : (area : ℕ → ℤ) (before : List ℤ) → IsBestSum area before 0 (pos 0)
 reach-none area before = record { not_negative = omega (arith, ints); grows = λ j low. absurd (omega arith); reached = inl refl }
 
 -- the greater of these and what one more earlier number comes to
-pub reach-more : (area : ℕ → ℤ) (before : List ℤ) (i : ℕ) (u v r : ℤ) → IsReach area before i u → v ≡ at before i +ℤ area i → u ≤ℤ r → v ≤ℤ r → (r ≡ u) ⊎ (r ≡ v) → IsReach area before (i + 1) r
+pub reach-more : (area : ℕ → ℤ) (before : List ℤ) (i : ℕ) (u v r : ℤ) → IsBestSum area before i u → v ≡ at before i +ℤ area i → u ≤ℤ r → v ≤ℤ r → (r ≡ u) ⊎ (r ≡ v) → IsBestSum area before (i + 1) r
 reach-more area before i u v r so_far is below_u below_v pick = record {
   not_negative = trans so_far.not_negative below_u;
   grows = λ j low. elim (below_or_at j i low) [
@@ -47,7 +47,7 @@ greater Equal x y h = record { above_first = omega (arith, ints); above_second =
 greater Greater x y h = record { above_first = omega (arith, ints); above_second = omega (arith, ints); one = inr refl }
 
 -- the same where the greater one is found by `max`
-pub reach-max : (area : ℕ → ℤ) (before : List ℤ) (i : ℕ) (u v r : ℤ) → IsReach area before i u → r ≡ ord_max int_cmp u v → v ≡ at before i +ℤ area i → IsReach area before (i + 1) r
+pub reach-max : (area : ℕ → ℤ) (before : List ℤ) (i : ℕ) (u v r : ℤ) → IsBestSum area before i u → r ≡ ord_max int_cmp u v → v ≡ at before i +ℤ area i → IsBestSum area before (i + 1) r
 reach-max area before i u v r so_far is sum =
     let g : IsGreater u v r = subst (IsGreater u v) (sym is) (greater (int_cmp v u) u v (int_ranks v u)) in
     reach-more area before i u v r so_far sum g.above_first g.above_second g.one

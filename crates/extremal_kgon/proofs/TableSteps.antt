@@ -15,7 +15,7 @@ use Rattle.bounds_model.specs.KgonAnswer.{pairs_before}
 use Rattle.extremal_kgon.specs.declared.ways.Way.{Way}
 use Rattle.extremal_kgon.specs.declared.table.Best.{Best}
 use Rattle.extremal_kgon.specs.Ways.{vector_of, AreWays}
-use Rattle.extremal_kgon.specs.Rows.{at, area_at, IsReach, IsNextRow}
+use Rattle.extremal_kgon.specs.Rows.{at, area_at, IsBestSum, IsNextRow}
 use Rattle.extremal_kgon.specs.Tables.{place, ending, held, IsPotential, StandsAt, IsBestOf, IsFoundAt, IsTable, TakesBest}
 use Rattle.extremal_kgon.proofs.Reading.{below_or_at}
 use Rattle.extremal_kgon.proofs.Places.{pairs-next, layer-next, layers-below, held-next, held-more, held-row}
@@ -83,7 +83,7 @@ potential-new corners layers us row first layer before ways as_many in_row w nex
     in_ways : {m : ℕ} → first < m → m < length corners → m - first - 1 < length ways
     in_ways h k = omega (arith, w.as_many)
 
-    reach : IsReach (area_at (map vector_of ways) (last - first - 1)) before (last - first - 1) (at row (last - first - 1))
+    reach : IsBestSum (area_at (map vector_of ways) (last - first - 1)) before (last - first - 1) (at row (last - first - 1))
     reach = next.each (last - first - 1) (subst (λ n. last - first - 1 < n) (sym same) (in_ways h k))
 
     here : held (length corners) layers (us ++ row) first (layer + 1) last ≡ at row (last - first - 1)

@@ -3,3 +3,4 @@ pub mod Rows
 pub mod Tables
 pub mod Choices
 pub mod Faults
+pub mod Messages

@@ -36,7 +36,7 @@ pub record IsSumAt (area : ℕ → ℤ) (before : List ℤ) (i : ℕ) (u : ℤ) 
   pub sum : u ≡ (at before j +ℤ area j)
 
 -- the greatest of 0 and what each earlier number and its area come to
-pub record IsReach (area : ℕ → ℤ) (before : List ℤ) (i : ℕ) (u : ℤ) : Type 0 where
+pub record IsBestSum (area : ℕ → ℤ) (before : List ℤ) (i : ℕ) (u : ℤ) : Type 0 where
   pub not_negative : pos 0 ≤ℤ u
   pub grows : EachBelow i (λ j. (at before j +ℤ area j) ≤ℤ u)
   pub reached : (u ≡ pos 0) ⊎ ((j : ℕ) × IsSumAt area before i u j)
@@ -44,7 +44,7 @@ pub record IsReach (area : ℕ → ℤ) (before : List ℤ) (i : ℕ) (u : ℤ) 
 -- each number is such a greatest one
 pub record IsNextRow (ways : List PlanePoint) (before row : List ℤ) : Type 0 where
   pub as_many : length row ≡ length ways
-  pub each : EachBelow (length row) (λ i. IsReach (area_at ways i) before i (at row i))
+  pub each : EachBelow (length row) (λ i. IsBestSum (area_at ways i) before i (at row i))
 
 -- so many times 0
 pub record IsZeroRow (count : ℕ) (row : List ℤ) : Type 0 where

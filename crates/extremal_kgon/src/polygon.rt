@@ -16,6 +16,8 @@ use bounded_coords::{Cloud2, OutOfMemory, Point2};
 use exact_fractions::Frac;
 use hull_calipers::{Corners, corners};
 use std::alloc::Global;
+use std::error::Error;
+use std::fmt;
 
 /// Why a question has no answer.
 #[derive(Clone, Copy, Debug, PartialEq, Eq)]
@@ -25,6 +27,22 @@ pub enum KgonFault {
     /// Memory was refused.
     OutOfMemory,
 }
+
+impl fmt::Display for KgonFault {
+    ghost use Rattle.std.specs.Prelude.{Some};
+    ghost use Rattle.extremal_kgon.specs.Messages.{kgon_message};
+
+    ghost output = { λ fault. Some (kgon_message fault) };
+
+    fn fmt<W: fmt::Write>(&self, f: &mut fmt::Formatter<W>) -> fmt::Result {
+        match *self {
+            KgonFault::TooManyCorners(count) => write!(f, "{count} corners, at most 128 are taken"),
+            KgonFault::OutOfMemory => f.write_str("out of memory"),
+        }
+    }
+}
+
+impl Error for KgonFault {}
 
 impl From<OutOfMemory> for KgonFault {
     ghost use Rattle.std.specs.Prelude.{◌≡◌};

@@ -2,7 +2,7 @@
 ghost use Rattle.std.specs.Prelude.{◌≡◌, ◌+◌, ◌≤◌, ◌^◌, length, map, All, replicate, pos};
 ghost use Rattle.integers.specs.Size.{Size};
 ghost use Rattle.extremal_kgon.specs.Ways.{vector_of};
-ghost use Rattle.extremal_kgon.specs.Rows.{at, AreAreas, IsReach, IsNextRow, IsZeroRow};
+ghost use Rattle.extremal_kgon.specs.Rows.{at, AreAreas, IsBestSum, IsNextRow, IsZeroRow};
 
 use crate::ways::{MOST_CORNERS, Way};
 use arrayvec::ArrayVec;
@@ -29,7 +29,7 @@ fn reach(areas: &[i64], start: usize, before: &[i64], i: usize) -> i64
     requires place { i ≤ length before.now }
     requires areas { All (Size (2 ^ 39)) areas.now }
     requires before { All (Size (2 ^ 43)) before.now }
-    ensures { IsReach (λ j. at areas.now (start + j)) before.now i result }
+    ensures { IsBestSum (λ j. at areas.now (start + j)) before.now i result }
 {
     let mut most = 0;
     'earlier: for j in 0..i {

@@ -91,7 +91,7 @@ passed_step D H from to p turns arc i low high h =
     }
 
 -- of two numbers in order, the first is below the second, or they are equal
-below_or_same : (i j : ℕ) → i ≤ suc j → (i ≤ j) ⊎ (i ≡ suc j)
+pub below_or_same : (i j : ℕ) → i ≤ suc j → (i ≤ j) ⊎ (i ≡ suc j)
 below_or_same i j h = grind arith
 
 passed_from : (D H : ℕ → PlanePoint) (from to : ℕ) (p : PlanePoint) → Turns D to → IsArc D H from to → (i : ℕ) → from ≤ i → IsPassed D H from p i → (j : ℕ) → i ≤ j → j + 1 < to → IsPassed D H from p j

@@ -1,17 +1,9 @@
 -- The search for the place in an arc that decides for a point.
-use Rattle.std.proofs.Common.{◌≡◌, subst, ◌⊎◌, inl, inr, ℕ, ◌+◌, ◌-◌, ◌<◌, ◌≤◌, ℤ, ◌≤ℤ◌, arith}
+use Rattle.std.proofs.Common.{◌≡◌, subst, inl, inr, ℕ, ◌+◌, ◌-◌, ◌<◌, ◌≤◌, ℤ, ◌≤ℤ◌, arith}
 use Rattle.integers.proofs.Order.{le_trans_ℤ}
 use Rattle.bounds_model.specs.Plane.{PlanePoint, dot}
-use Rattle.fan_test.specs.Chains.{IsArc, IsPlaceFor}
+use Rattle.fan_test.specs.Chains.{IsArc, IsPlaceFor, IsNear}
 use Rattle.fan_test.proofs.Arcs.{falls}
-
--- the place is at low or after it, and before low + size
-pub record IsNear (D H : ℕ → PlanePoint) (from to : ℕ) (along : ℤ) (low size : ℕ) : Type 0 where
-  pub after : from ≤ low
-  pub some : 1 ≤ size
-  pub before : low + size < to
-  pub begin : (low ≡ from) ⊎ (along ≤ℤ dot (D from) (H low))
-  pub end : (low + size + 1 ≡ to) ⊎ (dot (D from) (H (low + size)) ≤ℤ along)
 
 -- the point in the middle is behind: the place is before it
 pub stays : (D H : ℕ → PlanePoint) (from to : ℕ) (along : ℤ) (low size half : ℕ) → IsArc D H from to → IsNear D H from to along low size → 1 < size → half + half ≤ size
@@ -45,16 +37,20 @@ moves D H from to along low size half near many small ahead =
     whole low size half small = omega arith
 
 -- no place is left but one
-pub found : (D H : ℕ → PlanePoint) (from to : ℕ) (p : PlanePoint) (along : ℤ) (low size : ℕ) → IsNear D H from to along low size → size ≤ 1 → along ≡ dot (D from) p → IsPlaceFor D H from to p low
-found D H from to p along low size near few is =
-    let next = one size near.some few in
-    let ends = near.before in
-    record {
-      after = near.after;
-      before = omega arith;
-      begin = elim near.begin [ inl e ↦ inl e | inr l ↦ inr (subst (λ z. z ≤ℤ dot (D from) (H low)) is l) ];
-      end = elim near.end [ inl e ↦ inl (omega arith) | inr l ↦ inr (subst (λ k. dot (D from) (H (low + k)) ≤ℤ dot (D from) p) next (subst (λ z. dot (D from) (H (low + size)) ≤ℤ z) is l)) ];
-    }
+pub one_left : (D H : ℕ → PlanePoint) (from to : ℕ) (along : ℤ) (low size : ℕ) → IsNear D H from to along low size → size ≤ 1 → IsNear D H from to along low 1
+one_left D H from to along low size near few = subst (λ n. IsNear D H from to along low n) (one size near.some few) near
   where
     one : (n : ℕ) → 1 ≤ n → n ≤ 1 → n ≡ 1
     one n h k = omega arith
+
+-- and it decides
+pub found : (D H : ℕ → PlanePoint) (from to : ℕ) (p : PlanePoint) (along : ℤ) (low : ℕ) → IsNear D H from to along low 1 → along ≡ dot (D from) p → IsPlaceFor D H from to p low
+found D H from to p along low near is = record {
+  after = near.after;
+  before = near.before;
+  begin = elim near.begin [ inl e ↦ inl e | inr l ↦ inr (subst (λ z. z ≤ℤ dot (D from) (H low)) is l) ];
+  end = elim near.end [ inl e ↦ inl (two low e) | inr l ↦ inr (subst (λ z. dot (D from) (H (low + 1)) ≤ℤ z) is l) ];
+}
+  where
+    two : (n : ℕ) → n + 1 + 1 ≡ to → n + 2 ≡ to
+    two n e = omega (arith, e)

@@ -1,13 +1,9 @@
 -- How arcs grow, one direction after another, and chains, one arc after another.
-use Rattle.std.proofs.Common.{◌≡◌, sym, subst, ◌⊎◌, inl, inr, ◌↔◌, ℕ, ◌+◌, ◌-◌, ◌<◌, ◌≤◌, pos, ◌*ℤ◌, ◌-ℤ◌, ◌≤ℤ◌, ◌<ℤ◌, ℤ, [], ◌∷◌, arith, IsTrue, Bool}
+use Rattle.std.proofs.Common.{◌≡◌, sym, subst, ◌⊎◌, inl, inr, ℕ, ◌+◌, ◌-◌, ◌<◌, ◌≤◌, pos, ◌*ℤ◌, ◌-ℤ◌, ◌≤ℤ◌, ◌<ℤ◌, ℤ, [], ◌∷◌, arith}
 use Rattle.integers.proofs.Identities.{den-ring, read, polys, lits}
 use Rattle.integers.proofs.Order.{nonneg_from_positive, le_of_same}
 use Rattle.bounds_model.specs.Plane.{PlanePoint, cross, dot}
-use Rattle.fan_test.specs.Chains.{Turns, AreJoined, IsWithin, IsLevel, IsArc, AreEdges}
-
--- a test of a point, for another that is the same
-pub same_within : {yes : Bool} {q r : PlanePoint} (D H : ℕ → PlanePoint) (i k : ℕ) → q ≡ r → (IsTrue yes ↔ IsWithin D H i k q) → IsTrue yes ↔ IsWithin D H i k r
-same_within {yes} D H i k e t = subst (λ p. IsTrue yes ↔ IsWithin D H i k p) e t
+use Rattle.fan_test.specs.Chains.{Turns, AreJoined, IsLevel, IsArc, AreEdges}
 
 -- no vector is to the left of itself
 aside : (u : PlanePoint) → cross u u ≡ pos 0
@@ -20,7 +16,7 @@ before_or_at : (i j : ℕ) → i < j + 1 → (i < j) ⊎ (i ≡ j)
 before_or_at i j h = grind arith
 
 -- the direction before the end of an arc is not to the right of the first
-beside : (D H : ℕ → PlanePoint) (from to k : ℕ) → to ≡ k + 1 → from < to → IsArc D H from to → pos 0 ≤ℤ cross (D from) (D k)
+pub beside : (D H : ℕ → PlanePoint) (from to k : ℕ) → to ≡ k + 1 → from < to → IsArc D H from to → pos 0 ≤ℤ cross (D from) (D k)
 beside D H from to k is some arc = elim (first_or_later k is) [
   | inl same ↦ subst (λ j. pos 0 ≤ℤ cross (D from) (D j)) same (le_of_same (sym (aside (D from))))
   | inr later ↦ subst (λ j. pos 0 ≤ℤ cross (D from) (D j)) later.1.1 (nonneg_from_positive (arc.left later.0 later.1.0 (omega (arith, later.1.1))))

@@ -1,10 +1,11 @@
 //! Chains, and whether their points are furthest out.
-ghost use Rattle.std.specs.Prelude.{◌≡◌, ◌↔◌, ◌+◌, ◌<◌, ◌≤◌, ℕ, IsTrue, IfSome, IsNone, All, ◌≤ℤ◌};
+ghost use Rattle.std.specs.Prelude.{◌≡◌, ◌↔◌, ◌+◌, ◌<◌, ◌≤◌, ℕ, IsTrue, IfSome, IsSome, IsNone, All, ◌≤ℤ◌};
 ghost use Rattle.bounds_model.specs.Plane.{PlanePoint, dot as product};
 ghost use Rattle.bounds_model.specs.Fans.{IsShort};
 ghost use Rattle.bounded_coords.specs.Clouds.{points_of};
 ghost use Rattle.fan_test.specs.Directions.{direction_of};
-ghost use Rattle.fan_test.specs.Chains.{Turns, Leads, AreListed, Encloses, AreJoined, IsWithinEach, IsBelowInner, IsWithin, IsArc, AreEdges, IsPlaceFor};
+ghost use Rattle.fan_test.specs.Chains.{Turns, Leads, AreListed, Encloses, AreJoined, IsWithin, IsWithinEach};
+ghost use Rattle.fan_test.specs.Chains.{IsArc, AreEdges, IsPlaceFor, IsNear, IsNoFurther};
 
 use crate::direction::Direction;
 use bounded_coords::{Cloud2, Point2};
@@ -59,10 +60,13 @@ pub fn leads<C: Chain>(chain: &C, first: Direction, last: Direction) -> bool
 fn turns<C: Chain>(chain: &C) -> bool
     ensures { IsTrue result ↔ Turns (C.directions chain.now) (C.cones chain.now) }
 {
+    let mut before = chain.direction(0);
     for i in 0..chain.len() {
-        if chain.direction(i).cross(chain.direction(i + 1)) <= 0 {
+        let after = chain.direction(i + 1);
+        if before.cross(after) <= 0 {
             return false;
         }
+        before = after;
     }
     true
 }
@@ -95,10 +99,13 @@ fn are_joined<C: Chain>(chain: &C) -> bool
     ensures { IsTrue result ↔ AreJoined (C.directions chain.now) (C.points chain.now) (C.cones chain.now) }
 {
     let last = chain.len() - 1;
+    let mut before = chain.point(0);
     for i in 0..last {
-        if !is_joint(chain.direction(i + 1), chain.point(i), chain.point(i + 1)) {
+        let after = chain.point(i + 1);
+        if !is_joint(chain.direction(i + 1), before, after) {
             return false;
         }
+        before = after;
     }
     true
 }
@@ -113,10 +120,10 @@ fn is_joint(direction: Direction, before: Point2, after: Point2) -> bool
 
 /// Whether no point is further out than a cone's point in the direction that the cone begins at.
 ///
-/// Directions within half a turn of the first of them are an arc. Along that first direction the points of an arc stand in
+/// Directions within a right angle of the first of them are an arc. Along that first direction the points of an arc stand in
 /// order, joined by edges that the other directions are normals of. So a point is below all of them if it is below the
-/// edge that it stands above, which is found by halving: n points and m cones take about n log m steps. A chain that
-/// winds around has an arc more for each half turn.
+/// edge that it stands above, which is searched from that of the point before: n points and m cones take at most about
+/// n log m steps. A chain that winds around has an arc more for each right angle.
 fn are_within_each<C: Chain>(chain: &C, cloud: Cloud2<'_>) -> bool
     requires turns { Turns (C.directions chain.now) (C.cones chain.now) }
     requires listed { AreListed (points_of cloud) (C.points chain.now) (C.cones chain.now) }
@@ -138,7 +145,9 @@ fn are_within_each<C: Chain>(chain: &C, cloud: Cloud2<'_>) -> bool
     true
 }
 
-/// The end of the longest arc that begins at a cone, or None where two of its points are not joined by an edge.
+/// The end of an arc that begins at a cone, or None where two of its points are not joined by an edge.
+///
+/// Up to half a turn would be an arc. It ends past a right angle, so that few of its points dominate most of a cloud.
 fn arc_end<C: Chain>(chain: &C, from: u32) -> Option<u32>
     requires cone { from < C.cones chain.now }
     requires joined { AreJoined (C.directions chain.now) (C.points chain.now) (C.cones chain.now) }
@@ -146,20 +155,28 @@ fn arc_end<C: Chain>(chain: &C, from: u32) -> Option<u32>
     ensures none { IsNone result → ¬ AreEdges (C.directions chain.now) (C.points chain.now) from (C.cones chain.now) }
 {
     let first = chain.direction(from);
+    let upright = first.turned();
     let end = chain.len();
+    let mut before = first.dot(chain.point(from));
     'edges: for to in from + 1..end {
-        if first.cross(chain.direction(to)) <= 0 {
+        let next = chain.direction(to);
+        if first.cross(next) <= 0 {
             return Some(to);
         }
-        if !is_within(chain, from, to - 1, chain.point(to)) {
+        if upright.cross(next) > 0 {
+            return Some(to);
+        }
+        let after = first.dot(chain.point(to));
+        if after > before {
             return None;
         }
+        before = after;
     }
     Some(end)
 }
 
-/// Whether all points are below an arc: along its first direction and those between it and the last one. An arc of two cones has one
-/// between, and so each direction of a chain that winds around is compared with the points in one pass.
+/// Whether all points are below an arc. Up to two directions are compared with the points one by one, since a chain that winds around
+/// has many such arcs.
 fn are_below<C: Chain>(chain: &C, from: u32, to: u32, cloud: Cloud2<'_>) -> bool
     requires turns { Turns (C.directions chain.now) (C.cones chain.now) }
     requires some { from < to }
@@ -167,17 +184,17 @@ fn are_below<C: Chain>(chain: &C, from: u32, to: u32, cloud: Cloud2<'_>) -> bool
     requires arc { IsArc (C.directions chain.now) (C.points chain.now) from to }
     ensures { IsTrue result ↔ All (IsWithinEach (C.directions chain.now) (C.points chain.now) from to) (points_of cloud.entry) }
 {
+    let cones = to - from;
+    if cones > 2 {
+        return are_below_arc(chain, from, to, cloud);
+    }
     if !are_within(chain, from, from, cloud) {
         return false;
     }
-    let cones = to - from;
     if cones == 1 {
         return true;
     }
-    if cones == 2 {
-        return are_within(chain, from + 1, from + 1, cloud);
-    }
-    are_below_inner(chain, from, to, cloud)
+    are_within(chain, from + 1, from + 1, cloud)
 }
 
 /// Whether no point is further out in direction i than the point of cone k.
@@ -204,32 +221,91 @@ fn reaches_at_most(direction: Direction, limit: i64, p: Point2) -> bool
     direction.dot(p) <= limit
 }
 
-/// Whether all points are below an arc along the directions between its first and its last one.
-fn are_below_inner<C: Chain>(chain: &C, from: u32, to: u32, cloud: Cloud2<'_>) -> bool
+/// Whether all points are below an arc of more than one cone, in one pass.
+///
+/// Each direction of an arc is a sum of its first and its last one, times numbers of at least 0. So what is no further out in these
+/// two than a point of the arc is below the arc too: that point dominates it. Three points of the arc dominate most of a cloud.
+fn are_below_arc<C: Chain>(chain: &C, from: u32, to: u32, cloud: Cloud2<'_>) -> bool
     requires turns { Turns (C.directions chain.now) (C.cones chain.now) }
     requires inner { from + 1 < to }
     requires limit { to ≤ C.cones chain.now }
     requires arc { IsArc (C.directions chain.now) (C.points chain.now) from to }
-    ensures { IsTrue result ↔ All (IsBelowInner (C.directions chain.now) (C.points chain.now) from to) (points_of cloud.entry) }
+    ensures { IsTrue result ↔ All (IsWithinEach (C.directions chain.now) (C.points chain.now) from to) (points_of cloud.entry) }
 {
-    for i in 0..cloud.len() {
-        if !is_below_inner(chain, from, to, *cloud.at(i)) {
-            return false;
+    let first = chain.direction(from);
+    let last = chain.direction(to - 1);
+    // Points of the arc at about a quarter, half and three quarters of it.
+    let quarter = (to - from - 1) / 4 + 1;
+    let early = chain.point(from + quarter);
+    let middle = chain.point(from + (to - from) / 2);
+    let late = chain.point(to - quarter);
+    let top = first.dot(chain.point(from));
+    let mut place = from;
+    'points: for i in 0..cloud.len() {
+        let p = *cloud.at(i);
+        if is_dominated(first, last, middle, p) {
+            continue;
+        }
+        if is_dominated(first, last, early, p) {
+            continue;
+        }
+        if is_dominated(first, last, late, p) {
+            continue;
+        }
+        match place_below(chain, from, to, first, top, place, p) {
+            None => return false,
+            Some(near) => place = near,
         }
     }
     true
 }
 
-/// Whether a point is below an arc along the directions between its first and its last one.
-fn is_below_inner<C: Chain>(chain: &C, from: u32, to: u32, p: Point2) -> bool
+/// Whether a point is no further out than another one, in both of two directions.
+fn is_dominated(first: Direction, last: Direction, q: Point2, p: Point2) -> bool
+    requires first { IsShort (direction_of first) }
+    requires last { IsShort (direction_of last) }
+    ensures { IsTrue result ↔ (IsNoFurther (direction_of first) q p × IsNoFurther (direction_of last) q p) }
+{
+    is_no_further(first, q, p) && is_no_further(last, q, p)
+}
+
+/// Whether a point is no further out than another one, in a direction.
+fn is_no_further(direction: Direction, q: Point2, p: Point2) -> bool
+    requires { IsShort (direction_of direction) }
+    ensures { IsTrue result ↔ IsNoFurther (direction_of direction) q p }
+{
+    direction.dot(p) <= direction.dot(q)
+}
+
+/// The place in an arc whose edge decides for a point, or None where the point is not below the arc.
+fn place_below<C: Chain>(
+    chain: &C,
+    from: u32,
+    to: u32,
+    first: Direction,
+    top: i64,
+    start: u32,
+    p: Point2,
+) -> Option<u32>
     requires turns { Turns (C.directions chain.now) (C.cones chain.now) }
-    requires inner { from + 1 < to }
     requires limit { to ≤ C.cones chain.now }
     requires arc { IsArc (C.directions chain.now) (C.points chain.now) from to }
-    ensures { IsTrue result ↔ IsBelowInner (C.directions chain.now) (C.points chain.now) from to p }
+    requires first { direction_of first ≡ C.directions chain.now from }
+    requires short { IsShort (direction_of first) }
+    requires top { top ≡ product (C.directions chain.now from) (C.points chain.now from) }
+    requires after { from ≤ start }
+    requires before { start + 1 < to }
+    ensures place { IfSome result (λ i. IsPlaceFor (C.directions chain.now) (C.points chain.now) from to p i) }
+    ensures below { IsSome result ↔ IsWithinEach (C.directions chain.now) (C.points chain.now) from to p }
 {
-    let i = place_for(chain, from, to, p);
-    is_within(chain, i + 1, i + 1, p)
+    if !reaches_at_most(first, top, p) {
+        return None;
+    }
+    let place = place_for(chain, from, to, first, start, p);
+    if !is_within(chain, place + 1, place + 1, p) {
+        return None;
+    }
+    Some(place)
 }
 
 /// Whether a point is no further out in direction i than the point of cone k.
@@ -242,21 +318,149 @@ fn is_within<C: Chain>(chain: &C, i: u32, k: u32, p: Point2) -> bool
     direction.dot(p) <= direction.dot(chain.point(k))
 }
 
-/// The place in an arc whose edge decides for a point.
-fn place_for<C: Chain>(chain: &C, from: u32, to: u32, p: Point2) -> u32
-    requires inner { from + 1 < to }
+/// The place in an arc whose edge decides for a point, searched from a place that may be near.
+fn place_for<C: Chain>(
+    chain: &C,
+    from: u32,
+    to: u32,
+    first: Direction,
+    start: u32,
+    p: Point2,
+) -> u32
     requires limit { to ≤ C.cones chain.now }
     requires arc { IsArc (C.directions chain.now) (C.points chain.now) from to }
+    requires first { direction_of first ≡ C.directions chain.now from }
+    requires short { IsShort (direction_of first) }
+    requires top { IsWithin (C.directions chain.now) (C.points chain.now) from from p }
+    requires after { from ≤ start }
+    requires before { start + 1 < to }
     ensures { IsPlaceFor (C.directions chain.now) (C.points chain.now) from to p result }
 {
-    let first = chain.direction(from);
     let along = first.dot(p);
-    let mut low = from;
-    let mut size = to - 1 - from;
+    let near = places_near(chain, from, to, first, along, start);
+    halved(chain, from, to, first, along, near)
+}
+
+/// Places in an arc, among which is that of a point.
+#[derive(Clone, Copy)]
+struct Places {
+    low: u32,
+    size: u32,
+}
+
+/// Places around a start among which is that of a point, from how far along it is.
+fn places_near<C: Chain>(
+    chain: &C,
+    from: u32,
+    to: u32,
+    first: Direction,
+    along: i64,
+    start: u32,
+) -> Places
+    requires limit { to ≤ C.cones chain.now }
+    requires first { direction_of first ≡ C.directions chain.now from }
+    requires short { IsShort (direction_of first) }
+    requires top { along ≤ℤ product (C.directions chain.now from) (C.points chain.now from) }
+    requires after { from ≤ start }
+    requires before { start + 1 < to }
+    ensures { IsNear (C.directions chain.now) (C.points chain.now) from to along result.low result.size }
+{
+    if first.dot(chain.point(start)) < along {
+        return places_before(chain, from, to, first, along, start);
+    }
+    places_after(chain, from, to, first, along, start)
+}
+
+/// Places from a start on among which is that of a point. Their number doubles with each step, so that a place that is near is found soon.
+fn places_after<C: Chain>(
+    chain: &C,
+    from: u32,
+    to: u32,
+    first: Direction,
+    along: i64,
+    start: u32,
+) -> Places
+    requires limit { to ≤ C.cones chain.now }
+    requires first { direction_of first ≡ C.directions chain.now from }
+    requires short { IsShort (direction_of first) }
+    requires after { from ≤ start }
+    requires before { start + 1 < to }
+    requires ahead { along ≤ℤ product (C.directions chain.now from) (C.points chain.now start) }
+    ensures { IsNear (C.directions chain.now) (C.points chain.now) from to along result.low result.size }
+{
+    let last = to - 1;
+    let mut low = start;
+    let mut size = 1;
+    'widens: while size < last - low {
+        if first.dot(chain.point(low + size)) <= along {
+            return Places { low, size };
+        }
+        low += size;
+        size = low - start + 1;
+    }
+    Places {
+        low,
+        size: last - low,
+    }
+}
+
+/// Places before a start among which is that of a point.
+fn places_before<C: Chain>(
+    chain: &C,
+    from: u32,
+    to: u32,
+    first: Direction,
+    along: i64,
+    start: u32,
+) -> Places
+    requires limit { to ≤ C.cones chain.now }
+    requires first { direction_of first ≡ C.directions chain.now from }
+    requires short { IsShort (direction_of first) }
+    requires after { from < start }
+    requires before { start + 1 < to }
+    requires behind { product (C.directions chain.now from) (C.points chain.now start) ≤ℤ along }
+    ensures { IsNear (C.directions chain.now) (C.points chain.now) from to along result.low result.size }
+{
+    let mut high = start;
+    let mut size = 1;
+    'widens: while size < high - from {
+        if along <= first.dot(chain.point(high - size)) {
+            return Places {
+                low: high - size,
+                size,
+            };
+        }
+        high -= size;
+        size = start - high + 1;
+    }
+    Places {
+        low: from,
+        size: high - from,
+    }
+}
+
+/// The place of a point among others, from how far along it is.
+fn halved<C: Chain>(
+    chain: &C,
+    from: u32,
+    to: u32,
+    first: Direction,
+    along: i64,
+    near: Places,
+) -> u32
+    requires limit { to ≤ C.cones chain.now }
+    requires arc { IsArc (C.directions chain.now) (C.points chain.now) from to }
+    requires first { direction_of first ≡ C.directions chain.now from }
+    requires short { IsShort (direction_of first) }
+    requires near { IsNear (C.directions chain.now) (C.points chain.now) from to along near.low near.size }
+    ensures { IsNear (C.directions chain.now) (C.points chain.now) from to along result 1 }
+{
+    let mut low = near.low;
+    let mut size = near.size;
     'halves: while size > 1 {
         let half = size / 2;
         let middle = low + half;
-        // Either half leaves the same size, so that each point of an arc takes as many rounds.
+        // Either half leaves the same size, so that each point takes as many rounds.
         low = if first.dot(chain.point(middle)) < along {
             low
         } else {

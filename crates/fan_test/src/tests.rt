@@ -94,6 +94,19 @@ const TRIANGLE: &'static [(i64, i64)] = &[(0, 0), (4, 0), (0, 3)];
 
 const WEST: (i128, i128) = (-1, 0);
 
+// A rounded corner around the point 8. Its points stand in no order, so that the search for their places goes back and forth.
+const ROUNDED: &'static [(i128, i128, u32, u32)] = &[
+    (1, 0, 1, 8),
+    (7, 1, 3, 8),
+    (6, 2, 5, 8),
+    (5, 3, 7, 8),
+    (4, 4, 6, 8),
+    (3, 5, 4, 8),
+    (2, 6, 2, 8),
+    (1, 7, 0, 8),
+    (0, 1, 0, 1),
+];
+
 #[test]
 fn half_fans(rt: HostRuntime) -> Result<(), Fail> {
     let table = [
@@ -215,6 +228,77 @@ fn half_fans(rt: HostRuntime) -> Result<(), Fail> {
             cones: &[(1, 0, 1, 0), (3, 4, 2, 0), (0, 1, 2, 1)],
             last: WEST,
             holds: Some(true),
+        },
+        // points in the corner and on its edges, then one beyond an edge alone, then two that (18, 22) dominates in one direction alone
+        Row {
+            points: &[
+                (0, 28),
+                (28, 0),
+                (7, 27),
+                (27, 7),
+                (13, 25),
+                (25, 13),
+                (18, 22),
+                (22, 18),
+                (0, 0),
+                (26, 10),
+                (1, 1),
+                (20, 20),
+            ],
+            cones: ROUNDED,
+            last: WEST,
+            holds: Some(true),
+        },
+        Row {
+            points: &[
+                (0, 28),
+                (28, 0),
+                (7, 27),
+                (27, 7),
+                (13, 25),
+                (25, 13),
+                (18, 22),
+                (22, 18),
+                (0, 0),
+                (26, 11),
+            ],
+            cones: ROUNDED,
+            last: WEST,
+            holds: Some(false),
+        },
+        Row {
+            points: &[
+                (0, 28),
+                (28, 0),
+                (7, 27),
+                (27, 7),
+                (13, 25),
+                (25, 13),
+                (18, 22),
+                (22, 18),
+                (0, 0),
+                (18, 23),
+            ],
+            cones: ROUNDED,
+            last: WEST,
+            holds: Some(false),
+        },
+        Row {
+            points: &[
+                (0, 28),
+                (28, 0),
+                (7, 27),
+                (27, 7),
+                (13, 25),
+                (25, 13),
+                (18, 22),
+                (22, 18),
+                (0, 0),
+                (23, 18),
+            ],
+            cones: ROUNDED,
+            last: WEST,
+            holds: Some(false),
         },
     ];
     for row in table {

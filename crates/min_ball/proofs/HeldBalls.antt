@@ -17,14 +17,14 @@ use Rattle.kernel_laws.specs.Limits.{ball_limit}
 use Rattle.corral.specs.declared.items.Id.{Id}
 use Rattle.corral.specs.declared.items.Items.{Items}
 use Rattle.corral.specs.declared.items.Items.TheVariants.{Points}
-use Rattle.corral.specs.declared.holding.Held.{Held}
+use Rattle.corral.specs.declared.support.WeightedItem.{WeightedItem}
 use Rattle.corral.specs.Items.{IsItem, item, first_points}
-use Rattle.corral.specs.Held.{AreHeld, weighted_item, weighted_items}
+use Rattle.corral.specs.WeightedItems.{AreSupportItems, weighted_item, weighted_items}
 use Rattle.corral.specs.Supports.{AreSupports}
 use Rattle.corral.proofs.Mapped.{all_unmap}
 use Rattle.corral.proofs.Moments.{at_least_common, mass_positive}
 use Rattle.ball_sums.specs.declared.sums.Sums.{Sums}
-use Rattle.min_ball.specs.Balls.{weighted_point, IsHeld}
+use Rattle.min_ball.specs.Balls.{weighted_point, FewHoldBall}
 use Rattle.min_ball.proofs.SeenFromFirst.{sum_seen, on_ball_of_same, inside_of_above}
 
 -- ---- lists
@@ -44,11 +44,11 @@ abbrev pub cloud_items : (K : Type 0) {P : Type 0} → Cloud P → Items K P
 cloud_items K cloud = Points cloud
 
 -- the sum of their weights
-pub mass_is : {K P : Type 0} (place : P → SpacePoint) (items : Items K P) (held : List Held) → mass (weighted_items place items held) ≡ weight_sum (map weighted_point held)
+pub mass_is : {K P : Type 0} (place : P → SpacePoint) (items : Items K P) (held : List WeightedItem) → mass (weighted_items place items held) ≡ weight_sum (map weighted_point held)
 mass_is place items held = total-map (λ s. s.weight) (weighted_item place items) held ∙ sym (total-map (λ s. s.weight) weighted_point held)
 
 -- their weighted sum, by that as seen from the first support
-moment_seen : (K : Type 0) {P : Type 0} (place : P → SpacePoint) (cloud : Cloud P) (held : List Held)
+moment_seen : (K : Type 0) {P : Type 0} (place : P → SpacePoint) (cloud : Cloud P) (held : List WeightedItem)
     → moment (weighted_items place (cloud_items K cloud) held)
     ≡ plus (pull (map place (points_of cloud)) (map weighted_point held))
     (times (mass (weighted_items place (cloud_items K cloud) held)) (vector (point_at (map place (points_of cloud)) 0) (first_support (map place (points_of cloud)) (map weighted_point held))))
@@ -57,8 +57,8 @@ moment_seen K place cloud held =
     let points = map place (points_of cloud) in
     let supports = map weighted_point held in
     let f = first_support points supports in
-    let at : Held → SpacePoint = λ s. point_at points s.id.first in
-    let weight : Held → ℤ = λ s. pos s.weight in
+    let at : WeightedItem → SpacePoint = λ s. point_at points s.id.first in
+    let weight : WeightedItem → ℤ = λ s. pos s.weight in
     weighted_sum-map (λ (s : WeightedVector). s.weight) (λ s. s.vector) (weighted_item place items) held
     ∙ sum_seen weight at (point_at points 0) f held
     ∙ ap₂ (λ s t. plus s (times t (vector (point_at points 0) f)))
@@ -66,7 +66,7 @@ moment_seen K place cloud held =
     (sym (total-map (λ (s : WeightedVector). s.weight) (weighted_item place items) held))
 
 -- they are on the ball
-supports_on_ball : (K : Type 0) {P : Type 0} (place : P → SpacePoint) (cloud : Cloud P) (held : List Held) → AreSupports (pos 1) (weighted_items place (cloud_items K cloud) held)
+supports_on_ball : (K : Type 0) {P : Type 0} (place : P → SpacePoint) (cloud : Cloud P) (held : List WeightedItem) → AreSupports (pos 1) (weighted_items place (cloud_items K cloud) held)
     → All (IsOnBall (map place (points_of cloud)) (map weighted_point held)) (map weighted_point held)
 supports_on_ball K place cloud [] h = absurd (let some = h.some in omega arith)
 supports_on_ball K place cloud (first ∷ rest) h =
@@ -83,7 +83,7 @@ supports_on_ball K place cloud (first ∷ rest) h =
     (on_ball_of_same (mass weighted) (point_at points 0) f p (pull points supports) (moment weighted) (moment_seen K place cloud held) (equal k d l 0 (weighted_item place items first) (omega arith))))
 
 -- no point is outside
-none_outside : (K : Type 0) {P : Type 0} (place : P → SpacePoint) (cloud : Cloud P) (held : List Held) → AreSupports (pos 1) (weighted_items place (cloud_items K cloud) held)
+none_outside : (K : Type 0) {P : Type 0} (place : P → SpacePoint) (cloud : Cloud P) (held : List WeightedItem) → AreSupports (pos 1) (weighted_items place (cloud_items K cloud) held)
     → ((id : Id) → IsItem (cloud_items K cloud) id → ¬ IsLow (pos 1) (weighted_items place (cloud_items K cloud) held) (item place (cloud_items K cloud) id))
     → All (IsNotOutside (map place (points_of cloud)) (map weighted_point held)) (map place (points_of cloud))
 none_outside K place cloud [] h none_low k d l = absurd (let some = h.some in omega arith)
@@ -106,7 +106,7 @@ none_outside K place cloud (first ∷ rest) h none_low k d l =
 -- ---- the ball
 
 -- the sum of their weights is at least 1
-pub some_weight : {K P : Type 0} (place : P → SpacePoint) (items : Items K P) (held : List Held) (sums : Sums) → AreSupports (pos 1) (weighted_items place items held)
+pub some_weight : {K P : Type 0} (place : P → SpacePoint) (items : Items K P) (held : List WeightedItem) (sums : Sums) → AreSupports (pos 1) (weighted_items place items held)
     → pos sums.weight ≡ weight_sum (map weighted_point held) → 1 ≤ sums.weight
 some_weight place items held sums h e =
     let some = subst (λ m. pos 0 <ℤ m) (mass_is place items held ∙ sym e) (mass_positive (weighted_items place items held) h.some h.weights) in
@@ -116,14 +116,14 @@ some_weight place items held sums h e =
     conclude n h = omega (arith, ints)
 
 -- supports under which nothing is low hold a ball
-pub held_by_supports : (K : Type 0) {P : Type 0} (dim : ℕ) (place : P → SpacePoint) (cloud : Cloud P) (items : Items K P) (held : List Held) (size : Fraction)
-    → items ≡ cloud_items K cloud → AreHeld dim (cloud_items K cloud) held → AreSupports (pos 1) (weighted_items place (cloud_items K cloud) held)
+pub held_by_supports : (K : Type 0) {P : Type 0} (dim : ℕ) (place : P → SpacePoint) (cloud : Cloud P) (items : Items K P) (held : List WeightedItem) (size : Fraction)
+    → items ≡ cloud_items K cloud → AreSupportItems dim (cloud_items K cloud) held → AreSupports (pos 1) (weighted_items place (cloud_items K cloud) held)
     → (mass (weighted_items place (cloud_items K cloud) held)) ≤ℤ pos (ball_limit dim)
     → ((id : Id) → IsItem (cloud_items K cloud) id → ¬ IsLow (pos 1) (weighted_items place (cloud_items K cloud) held) (item place (cloud_items K cloud) id))
     → IsFraction size → SameValue size (supported_size (map place (first_points items)) (map weighted_point held))
-    → IsHeld dim (map place (first_points items)) (map weighted_point held) size
+    → FewHoldBall dim (map place (first_points items)) (map weighted_point held) size
 held_by_supports K {P} dim place cloud items held size is are_held supports limit none_low lowest size_is =
-    subst (λ (items : Items K P). SameValue size (supported_size (map place (first_points items)) (map weighted_point held)) → IsHeld dim (map place (first_points items)) (map weighted_point held) size) (sym is)
+    subst (λ (items : Items K P). SameValue size (supported_size (map place (first_points items)) (map weighted_point held)) → FewHoldBall dim (map place (first_points items)) (map weighted_point held) size) (sym is)
     (λ size_is. let as_many = length-map held weighted_point in record {
       count = record { at_least = let h = are_held.count.at_least in omega arith; at_most = let h = are_held.count.at_most in omega arith };
       numbers = All-map (λ (s : Weighted). s.point < length (map place (points_of cloud))) weighted_point held

@@ -3,7 +3,7 @@ use Rattle.std.proofs.Common.{◌≡◌, sym, ◌∙◌, ap, ap₂, ℕ, zero, s
 use Rattle.std.specs.Prelude.{slice_get, Some}
 use Rattle.std.proofs.lemmas.List.{length-map, map_push, take_more}
 use Rattle.bounds_model.specs.BallAnswer.{Weighted}
-use Rattle.corral.specs.declared.holding.Held.{Held}
+use Rattle.corral.specs.declared.support.WeightedItem.{WeightedItem}
 use Rattle.corral.specs.declared.items.Id.{Id}
 use Rattle.answers.specs.declared.balls.Weighted as format
 use Rattle.answers.specs.Answers.{weighted_of}
@@ -11,7 +11,7 @@ use Rattle.min_ball.specs.Balls.{weighted_point}
 use Rattle.min_ball.proofs.SupportSums.{past_the_end}
 
 -- a support as it is listed: its number and its weight
-pub listed_at : (held : List Held) (i : ℕ) (id : Id) (w : ℕ) (d : Weighted) → slice_get (map (λ s. s.id) held) i ≡ Some id → slice_get (map (λ s. s.weight) held) i ≡ Some w
+pub listed_at : (held : List WeightedItem) (i : ℕ) (id : Id) (w : ℕ) (d : Weighted) → slice_get (map (λ s. s.id) held) i ≡ Some id → slice_get (map (λ s. s.weight) held) i ≡ Some w
     → get_or (map weighted_point held) i d ≡ record { point = id.first; weight = pos w }
 listed_at [] i id w d h k = cc
 listed_at (s ∷ held) zero id w d h k =
@@ -21,7 +21,7 @@ listed_at (s ∷ held) zero id w d h k =
 listed_at (s ∷ held) (suc i) id w d h k = listed_at held i id w d h k
 
 -- the list with the next support
-pub listed_more : (held : List Held) (i : ℕ) (id : Id) (w : ℕ) (done now : List format.Weighted) → i < length held
+pub listed_more : (held : List WeightedItem) (i : ℕ) (id : Id) (w : ℕ) (done now : List format.Weighted) → i < length held
     → slice_get (map (λ s. s.id) held) i ≡ Some id → slice_get (map (λ s. s.weight) held) i ≡ Some w
     → map weighted_of done ≡ take i (map weighted_point held) → now ≡ done ++ record { point = id.first; weight = w } ∷ [] → map weighted_of now ≡ take (i + 1) (map weighted_point held)
 listed_more held i id w done now below h k so_far e =

@@ -11,7 +11,7 @@ use Rattle.corral.specs.declared.items.Items.{Items}
 use Rattle.corral.specs.declared.items.Items.TheVariants.{Points, Differences}
 use Rattle.corral.specs.Items.{first_points}
 use Rattle.ball_sums.proofs.Weights.{in_places}
-use Rattle.min_ball.specs.Balls.{IsHeld}
+use Rattle.min_ball.specs.Balls.{FewHoldBall}
 
 -- there are at most 10000 points
 pub few_points : {K P : Type 0} (items : Items K P) → length (first_points items) ≤ 10000
@@ -22,7 +22,7 @@ few_points (Differences p q) = p.limited
 
 -- a circle
 pub circle_passes : (points : List PlanePoint) (size : Fraction) (centre : PlaneRatio) (supports listed : List Weighted) → listed ≡ supports → length points ≤ 10000
-    → IsHeld 2 (map flat points) supports size → IsPlaneRatio centre → SamePlace (flat_ratio centre) (supported_centre (map flat points) supports)
+    → FewHoldBall 2 (map flat points) supports size → IsPlaneRatio centre → SamePlace (flat_ratio centre) (supported_centre (map flat points) supports)
     → PassesCircle points (record { size = size; centre = centre; supports = listed })
 circle_passes points size centre supports listed same few held lowest place =
     subst (λ s. PassesCircle points (record { size = size; centre = centre; supports = s })) (sym same) (record {
@@ -48,7 +48,7 @@ circle_passes points size centre supports listed same few held lowest place =
 
 -- a sphere
 pub sphere_passes : (points : List SpacePoint) (size : Fraction) (centre : SpaceRatio) (supports listed : List Weighted) → listed ≡ supports → length points ≤ 10000
-    → IsHeld 3 points supports size → IsSpaceRatio centre → SamePlace centre (supported_centre points supports)
+    → FewHoldBall 3 points supports size → IsSpaceRatio centre → SamePlace centre (supported_centre points supports)
     → PassesSphere points (record { size = size; centre = centre; supports = listed })
 sphere_passes points size centre supports listed same few held lowest place =
     subst (λ s. PassesSphere points (record { size = size; centre = centre; supports = s })) (sym same) (record {

@@ -6,7 +6,7 @@ use Rattle.std.proofs.lemmas.List.{take_more, take_all, length-map}
 use Rattle.integers.proofs.Sums.{total-take_more}
 use Rattle.bounds_model.specs.Space.{SpacePoint, point_at, vector}
 use Rattle.bounds_model.specs.BallAnswer.{Weighted, weight_sum, first_support}
-use Rattle.corral.specs.declared.holding.Held.{Held}
+use Rattle.corral.specs.declared.support.WeightedItem.{WeightedItem}
 use Rattle.corral.proofs.PointNumbers.{point_at_place}
 use Rattle.ball_sums.specs.declared.sums.Sums.{Sums}
 use Rattle.ball_sums.specs.Sums.{Adds, AreSumsFrom}
@@ -21,20 +21,20 @@ past_the_end = record { point = 0; weight = pos 0 }
 -- ---- a support as an answer lists it
 
 -- its weight
-pub weight_at : (held : List Held) (i : ℕ) (w : ℕ) (d : Weighted) → slice_get (map (λ s. s.weight) held) i ≡ Some w → (get_or (map weighted_point held) i d).weight ≡ pos w
+pub weight_at : (held : List WeightedItem) (i : ℕ) (w : ℕ) (d : Weighted) → slice_get (map (λ s. s.weight) held) i ≡ Some w → (get_or (map weighted_point held) i d).weight ≡ pos w
 weight_at [] i w d h = cc
 weight_at (s ∷ held) zero w d h = let e : s.weight ≡ w = cc in ap pos e
 weight_at (s ∷ held) (suc i) w d h = weight_at held i w d h
 
 -- its point
-pub point_of_support : {P : Type 0} (place : P → SpacePoint) (points : List P) (held : List Held) (i : ℕ) (p : P) (d : Weighted)
+pub point_of_support : {P : Type 0} (place : P → SpacePoint) (points : List P) (held : List WeightedItem) (i : ℕ) (p : P) (d : Weighted)
     → IsSomeAnd (slice_get held i) (λ s. slice_get points s.id.first ≡ Some p) → point_at (map place points) (get_or (map weighted_point held) i d).point ≡ place p
 point_of_support place points [] i p d h = absurd h
 point_of_support place points (s ∷ held) zero p d h = point_at_place place points s.id.first p h
 point_of_support place points (s ∷ held) (suc i) p d h = point_of_support place points held i p d h
 
 -- the first support's point
-pub point_of_first : {P : Type 0} (place : P → SpacePoint) (points : List P) (held : List Held) (p : P)
+pub point_of_first : {P : Type 0} (place : P → SpacePoint) (points : List P) (held : List WeightedItem) (p : P)
     → IsSomeAnd (slice_get held 0) (λ s. slice_get points s.id.first ≡ Some p) → first_support (map place points) (map weighted_point held) ≡ place p
 point_of_first place points [] p h = absurd h
 point_of_first place points (s ∷ held) p h = point_at_place place points s.id.first p h
@@ -42,7 +42,7 @@ point_of_first place points (s ∷ held) p h = point_at_place place points s.id.
 -- ---- of some of the supports
 
 -- no weight is below 0
-nonneg : (held : List Held) → All (λ s. pos 0 ≤ℤ s.weight) (map weighted_point held)
+nonneg : (held : List WeightedItem) → All (λ s. pos 0 ≤ℤ s.weight) (map weighted_point held)
 nonneg [] k d h = absurd (omega arith)
 nonneg (s ∷ held) zero d h = omega (arith, ints)
 nonneg (s ∷ held) (suc k) d h = nonneg held k d (omega arith)
@@ -56,7 +56,7 @@ sums_of_next from p v points supports i w d old new below has_weight is_at sums 
     (sums_of_more points from (take i supports) (get_or supports i d) old new w v has_weight (ap (vector from) is_at ∙ sym is_v) sums adds)
 
 -- the weight of the next support is within what is left
-pub more_within : (from : SpacePoint) (points : List SpacePoint) (held : List Held) (i w limit : ℕ) (d : Weighted) (old : Sums)
+pub more_within : (from : SpacePoint) (points : List SpacePoint) (held : List WeightedItem) (i w limit : ℕ) (d : Weighted) (old : Sums)
     → i < length held → (get_or (map weighted_point held) i d).weight ≡ pos w → AreSumsFrom from points (take i (map weighted_point held)) old
     → weight_sum (map weighted_point held) ≤ℤ pos limit → old.weight + w ≤ limit
 more_within from points held i w limit d old below has_weight sums most =
@@ -69,7 +69,7 @@ more_within from points held i w limit d old below has_weight sums most =
     conclude part all t w limit h k e = omega (arith, ints)
 
 -- the sums over all, as seen from the first support
-pub sums_of_all : {P : Type 0} (place : P → SpacePoint) (points : List P) (held : List Held) (p : P) (i : ℕ) (sums : Sums)
+pub sums_of_all : {P : Type 0} (place : P → SpacePoint) (points : List P) (held : List WeightedItem) (p : P) (i : ℕ) (sums : Sums)
     → IsSomeAnd (slice_get held 0) (λ s. slice_get points s.id.first ≡ Some p) → length held ≤ i → AreSumsFrom (place p) (map place points) (take i (map weighted_point held)) sums
     → AreSumsFrom (first_support (map place points) (map weighted_point held)) (map place points) (map weighted_point held) sums
 sums_of_all place points held p i sums is_first all h =

@@ -8,8 +8,8 @@ use Rattle.bounds_model.specs.Fractions.{Fraction, SameValue}
 use Rattle.bounds_model.specs.Places.{IsFraction}
 use Rattle.bounds_model.specs.BallAnswer.{Weighted, weight_sum, supported_size, IsOnBall, IsNotOutside}
 use Rattle.kernel_laws.specs.Limits.{ball_limit}
-use Rattle.corral.specs.declared.holding.Held.{Held}
-use Rattle.corral.specs.declared.holding.Support.{Support}
+use Rattle.corral.specs.declared.support.WeightedItem.{WeightedItem}
+use Rattle.corral.specs.declared.support.Support.{Support}
 use Rattle.corral.specs.Items.{first_points}
 use Rattle.corral.specs.Supported.{items_of, supports_of}
 
@@ -18,7 +18,7 @@ abbrev pub coordinates : {K P : Type 0} {g : _} → (P → SpacePoint) → Suppo
 coordinates place s = map place (first_points (items_of s))
 
 -- a support as an answer lists it: the number of a point with its weight
-abbrev pub weighted_point : Held → Weighted
+abbrev pub weighted_point : WeightedItem → Weighted
 weighted_point held = record { point = held.id.first; weight = pos held.weight }
 
 -- all supports, in order
@@ -27,7 +27,7 @@ listed s = map weighted_point (supports_of s)
 
 -- 1 to dim + 1 weighted points hold a ball of this squared radius, in lowest terms, in place around all points: each of them is on
 -- the ball around their weighted mean, and no point is outside
-pub record IsHeld (dim : ℕ) (points : List SpacePoint) (supports : List Weighted) (size : Fraction) : Type 0 where
+pub record FewHoldBall (dim : ℕ) (points : List SpacePoint) (supports : List Weighted) (size : Fraction) : Type 0 where
   pub count : HasCount 1 (dim + 1) supports
   pub numbers : All (λ s. s.point < length points) supports
   pub weights : All (λ s. pos 1 ≤ℤ s.weight) supports
@@ -38,5 +38,5 @@ pub record IsHeld (dim : ℕ) (points : List SpacePoint) (supports : List Weight
   pub size_is : SameValue size (supported_size points supports)
 
 -- this holds in one way at most
-pub IsHeld-prop : (dim : ℕ) (points : List SpacePoint) (supports : List Weighted) (size : Fraction) → IsProp (IsHeld dim points supports size)
-IsHeld-prop dim points supports size = hlevel (le_prop, T_prop, Coded-set coded_ℕ, Coded-set coded_ℤ)
+pub FewHoldBall-prop : (dim : ℕ) (points : List SpacePoint) (supports : List Weighted) (size : Fraction) → IsProp (FewHoldBall dim points supports size)
+FewHoldBall-prop dim points supports size = hlevel (le_prop, T_prop, Coded-set coded_ℕ, Coded-set coded_ℤ)

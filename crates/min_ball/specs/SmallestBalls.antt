@@ -1,7 +1,7 @@
 -- What a smallest ball holds.
 use Rattle.std.specs.Prelude.{List}
 use Rattle.bounds_model.specs.Fractions.{Fraction}
-use Rattle.corral.specs.declared.holding.Support.{Support}
+use Rattle.corral.specs.declared.support.Support.{Support}
 use Rattle.corral.specs.Items.{first_points}
 use Rattle.corral.specs.Supported.{items_of}
 use Rattle.min_ball.specs.declared.ball.Ball.{Ball}

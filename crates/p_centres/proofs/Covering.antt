@@ -1,9 +1,9 @@
 -- Squares that are placed one after another cover the points, or leaves below each corner show that they do not.
-use Rattle.std.proofs.Common.{◌≡◌, ◌⊎◌, inl, inr, refl, sym, subst, ap, ◌∙◌, ℕ, zero, suc, ◌+◌, ◌-◌, ◌*◌, ◌/◌, ◌%◌, ◌^◌, ◌<◌, ◌≤◌, ◌≢◌, ℤ, pos, ◌+ℤ◌, ◌-ℤ◌, ◌≤ℤ◌, neg_ℤ, Bool, true, false, List, [], ◌∷◌, ◌++◌, length, get_or, map, take, All, Any, IsTrue, arith}
+use Rattle.std.proofs.Common.{◌≡◌, inl, inr, refl, sym, subst, ap, ◌∙◌, ℕ, zero, suc, ◌+◌, ◌-◌, ◌*◌, ◌/◌, ◌%◌, ◌^◌, ◌<◌, ◌≤◌, ◌≢◌, ℤ, pos, ◌+ℤ◌, ◌-ℤ◌, ◌≤ℤ◌, neg_ℤ, Bool, true, false, List, [], ◌∷◌, ◌++◌, length, map, take, All, IsTrue, arith}
 use Rattle.std.specs.Prelude.{if◌then◌else◌, ◌==◌}
 use Rattle.std.proofs.lemmas.Int.{ints}
 use Rattle.std.proofs.lemmas.List.{append-nil, get_or_default, get_or_append_left, get_or_push, length_push, length-append, length-map, append_assoc, map-append, take_at}
-use Rattle.std.proofs.lemmas.List.Elements.{All-push, Contains-get_or}
+use Rattle.std.proofs.lemmas.List.Elements.{All-nil, All-push, Contains-get_or}
 use Rattle.bounds_model.specs.Plane.{PlanePoint, point_at, origin}
 use Rattle.bounds_model.specs.CentresAnswer as model
 use Rattle.answers.specs.declared.centres.Leaf.{Leaf}
@@ -11,26 +11,26 @@ use Rattle.answers.specs.Answers.{leaf_of}
 use Rattle.corner_squares.specs.declared.square.Square.{Square}
 use Rattle.corner_squares.specs.declared.extent.Extent.{Extent}
 use Rattle.corner_squares.specs.declared.bounds.Bounds.{Bounds}
-use Rattle.corner_squares.specs.Squares.{square_of, IsHeld, left_over}
-use Rattle.corner_squares.specs.Extents.{IsExtent, IsPlaneExtent, IsBox}
+use Rattle.corner_squares.specs.Squares.{square_of, IsCovered, left_over}
+use Rattle.corner_squares.specs.Extents.{IsPlaneExtent, IsBox}
 use Rattle.corner_squares.specs.Trees.{AreLeavesAt, nodes}
 use Rattle.corner_squares.proofs.Holding.{between_sides}
 use Rattle.corner_squares.proofs.LeftOver.{Contains-left_over}
 use Rattle.corner_squares.proofs.Boxes.{left_over-corner}
 use Rattle.corner_squares.proofs.Trees.{AreBelowFirst, one_leaf, none_below, more_below, all_below}
-use Rattle.p_centres.specs.Surveys.{IsNoLonger, IsFarPair}
+use Rattle.p_centres.specs.Surveys.{IsNoLonger, IsFirstFar, IsFarPair}
 use Rattle.p_centres.specs.Covers.{IsPlaced, IsCover, IsRefuted}
 
 -- ---- squares
 
 -- what some squares hold, more squares hold
-pub held_by_more : (squares more : List Square) (p : PlanePoint) → IsHeld squares p → IsHeld (squares ++ more) p
+pub held_by_more : (squares more : List Square) (p : PlanePoint) → IsCovered squares p → IsCovered (squares ++ more) p
 held_by_more squares more p h = (h.0, h.1, longer h.2, get_or_append_left squares more h.1 h.0 h.2 ∙ h.3, h.4)
   where
     longer : {k : ℕ} → k < length squares → k < length (squares ++ more)
     longer l = let e = length-append squares more in omega (arith, l, e)
 
-held_by_last : (squares : List Square) (s : Square) (p : PlanePoint) → IsTrue (model.holds (square_of s) p) → IsHeld (squares ++ s ∷ []) p
+held_by_last : (squares : List Square) (s : Square) (p : PlanePoint) → IsTrue (model.holds (square_of s) p) → IsCovered (squares ++ s ∷ []) p
 held_by_last squares s p h = (length squares, s, inside, get_or_push squares s s (length squares) refl, h)
   where
     inside : length squares < length (squares ++ s ∷ [])
@@ -64,8 +64,8 @@ placed_more points side corner i squares placed_on pushed b s placed box h is =
 
 -- ---- a cover
 
-pub cover_now : (points : List PlanePoint) (side most : ℕ) (squares seen : List Square) → seen ≡ squares → length squares ≤ most → All (IsPlaced side) squares → All (IsHeld seen) points → IsCover points side most squares
-cover_now points side most squares seen is few placed held = record { few = few; placed = placed; held = subst (λ ss. All (IsHeld ss) points) is held }
+pub cover_now : (points : List PlanePoint) (side most : ℕ) (squares seen : List Square) → seen ≡ squares → length squares ≤ most → All (IsPlaced side) squares → All (IsCovered seen) points → IsCover points side most squares
+cover_now points side most squares seen is few placed held = record { few = few; placed = placed; held = subst (λ ss. All (IsCovered ss) points) is held }
 
 pub cover_by_more : (points : List PlanePoint) (side m n : ℕ) (squares : List Square) → m ≤ n → IsCover points side m squares → IsCover points side n squares
 cover_by_more points side m n squares more h = record { few = (let f = h.few in omega (arith, f, more)); placed = h.placed; held = h.held }
@@ -79,7 +79,7 @@ pub cover_with_one_more : (points : List PlanePoint) (side : ℕ) (squares pushe
 cover_with_one_more points side squares pushed b s placed box h is = subst (IsCover points side (length squares + 1)) (sym is) (record {
   few = (let e = length_push squares s in omega (arith, e));
   placed = placed_more points side 0 (length points) squares squares (squares ++ s ∷ []) b s placed box.0 h refl;
-  held = λ k d below. subst (IsHeld (squares ++ s ∷ [])) (get_or_default points k origin d below) (elim (box.0.across.inside k below) [
+  held = λ k d below. subst (IsCovered (squares ++ s ∷ [])) (get_or_default points k origin d below) (elim (box.0.across.inside k below) [
     | inl held ↦ held_by_more squares (s ∷ []) (point_at points k) held
     | inr in_x ↦ elim (box.0.up.inside k below) [
       | inl held ↦ held_by_more squares (s ∷ []) (point_at points k) held
@@ -108,6 +108,7 @@ refuted_by_pair points side placed leaves leaves_then leaf far is = record {
       (Contains-left_over placed points (point_at points leaf.first) (Contains-get_or points leaf.first origin far.first) far.first_free)
       (Contains-left_over placed points (point_at points leaf.second) (Contains-get_or points leaf.second origin far.second) far.second_free)
       far.far;
+  earliest = λ _. All-push (IsFirstFar points placed side) [] (leaf_of leaf) (All-nil (IsFirstFar points placed side)) far.earliest;
 }
 
 -- the leaves below the first corners are appended
@@ -143,6 +144,7 @@ all_corners side (suc depth) corner points placed placed_then leaves leaves_then
   own = below.0;
   appended = below.1;
   refuted = all_below side depth points (left_over placed points) (map leaf_of below.0) (subst (λ c. AreBelowFirst side c 4 points (left_over placed points) (map leaf_of below.0)) one_less (subst (λ c. AreBelowFirst side (suc depth - 1) c points (left_over placed points) (map leaf_of below.0)) four below.2));
+  earliest = λ leaf. absurd (some leaf);
 }
   where
     one_less : suc depth - 1 ≡ depth

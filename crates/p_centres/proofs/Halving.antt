@@ -1,23 +1,22 @@
 -- Between two sides the least one is found by halving, in as many tries as the distance has binary digits.
-use Rattle.std.proofs.Common.{◌≡◌, ◌⊎◌, inl, inr, refl, sym, subst, ap, ◌∙◌, ℕ, zero, suc, ◌+◌, ◌-◌, ◌*◌, ◌/◌, ◌^◌, ◌<◌, ◌≤◌, List, [], ◌∷◌, ◌++◌, length, map, All, arith}
+use Rattle.std.proofs.Common.{◌≡◌, ◌⊎◌, inl, inr, refl, sym, subst, ap, ℕ, zero, suc, ◌+◌, ◌-◌, ◌*◌, ◌/◌, ◌^◌, ◌<◌, ◌≤◌, List, [], length, map, All, arith}
 use Rattle.std.proofs.Math.Nat.{mul-le-mul_right}
 use Rattle.std.proofs.lemmas.List.Elements.{All-nil}
 use Rattle.bounds_model.specs.Plane.{PlanePoint, origin}
 use Rattle.bounds_model.specs.CentresAnswer.{AreLeaves}
-use Rattle.answers.specs.declared.centres.Leaf.{Leaf}
 use Rattle.answers.specs.Answers.{leaf_of}
 use Rattle.corner_squares.specs.declared.square.Square.{Square}
 use Rattle.corner_squares.specs.declared.bounds.Bounds.{Bounds}
 use Rattle.corner_squares.specs.Extents.{IsBox}
-use Rattle.corner_squares.specs.Squares.{IsHeld, left_over}
+use Rattle.corner_squares.specs.Squares.{IsCovered}
 use Rattle.corner_squares.specs.Trees.{NamesPoints, AreLeavesAt, nodes}
 use Rattle.corner_squares.proofs.LeftOver.{none_held}
 use Rattle.corner_squares.proofs.Trees.{tree_leaves}
 use Rattle.p_centres.specs.declared.sides.Bracket.{Bracket}
-use Rattle.p_centres.specs.Surveys.{IsNoLonger}
+use Rattle.p_centres.specs.Surveys.{IsFirstFar}
 use Rattle.p_centres.specs.Covers.{IsCover, IsRefuted}
 use Rattle.p_centres.specs.Sides.{IsBracket, IsStart}
-use Rattle.p_centres.proofs.Covering.{IsCorner, cover_by_more, cover_with_one_more}
+use Rattle.p_centres.proofs.Covering.{cover_by_more, cover_with_one_more}
 
 -- ---- how many tries are left
 
@@ -47,7 +46,7 @@ pub steps_in_all : (n first now low high : ℕ) → HasTries n first now low hig
 steps_in_all n first now low high h = let s = h.steps in omega (arith, s)
 
 -- some point is not held by no squares
-pub not_all_held : (points : List PlanePoint) → 1 ≤ length points → All (IsHeld []) points → ⊥
+pub not_all_held : (points : List PlanePoint) → 1 ≤ length points → All (IsCovered []) points → ⊥
 not_all_held points some h = none_held _ (h 0 origin (omega (arith, some)))
 
 -- ---- brackets
@@ -62,6 +61,7 @@ bracket_at_first points count bounds b some box h = record {
       (record { left = refl; bottom = refl; wide = refl }) h.squares);
   names = subst (λ ls. All (NamesPoints points) (map leaf_of ls)) (sym h.leaves) (All-nil (NamesPoints points));
   leaves = subst (λ low. AreLeaves low count points (map leaf_of b.leaves.items)) (sym h.low) (ap (map leaf_of) h.leaves);
+  earliest = λ _. subst (λ ls. All (IsFirstFar points [] (b.low - 1)) (map leaf_of ls)) (sym h.leaves) (All-nil (IsFirstFar points [] (b.low - 1)));
 }
 
 -- the squares of a side that serves
@@ -73,6 +73,7 @@ bracket_lowered points count side old new some h from to is_low is_high same cov
   cover = subst (λ high. IsCover points high count new.squares.items) (sym is_high) (cover_by_more points side (0 + (count - 1) + 1) count new.squares.items (omega (arith, some)) cover);
   names = subst (λ ls. All (NamesPoints points) (map leaf_of ls)) (sym (ap (λ ls. ls.items) same)) h.names;
   leaves = subst (λ low. AreLeaves low count points (map leaf_of new.leaves.items)) (sym is_low) (subst (λ ls. AreLeaves old.low count points (map leaf_of ls)) (sym (ap (λ ls. ls.items) same)) h.leaves);
+  earliest = λ one. subst (λ low. All (IsFirstFar points [] (low - 1)) (map leaf_of new.leaves.items)) (sym is_low) (subst (λ ls. All (IsFirstFar points [] (old.low - 1)) (map leaf_of ls)) (sym (ap (λ ls. ls.items) same)) (h.earliest one));
 }
 
 -- the leaves of a side that does not
@@ -84,6 +85,8 @@ bracket_raised points count side placed old new h from to is_low is_high same re
   cover = subst (λ high. IsCover points high count new.squares.items) (sym is_high) (subst (λ ss. IsCover points old.high count ss) (sym (ap (λ ss. ss.items) same)) h.cover);
   names = λ k d below. (leaves.each k d below).names;
   leaves = subst (λ low. AreLeaves low count points (map leaf_of new.leaves.items)) (sym one_more) (tree_leaves side count points (map leaf_of new.leaves.items) leaves);
+  earliest = λ one. subst (λ limit. All (IsFirstFar points [] limit) (map leaf_of new.leaves.items)) (omega (arith, is_low))
+      (subst (λ ls. All (IsFirstFar points [] side) (map leaf_of ls)) (sym refuted.appended) (refuted.earliest (omega (arith, one))));
 }
   where
     leaves : AreLeavesAt side (count - 1) points points (map leaf_of new.leaves.items)
@@ -92,20 +95,19 @@ bracket_raised points count side placed old new h from to is_low is_high same re
     one_more : new.low ≡ suc side
     one_more = omega (arith, is_low)
 
--- a tree for up to three squares
+-- a tree for up to three squares has a depth of at most 2
+each_depth : (P : ℕ → Type 0) → P 0 → P 1 → P 2 → (count : ℕ) → 1 ≤ count → count ≤ 3 → P (count - 1)
+each_depth P p0 p1 p2 zero some few = absurd (omega (arith, some))
+each_depth P p0 p1 p2 (suc zero) some few = p0
+each_depth P p0 p1 p2 (suc (suc zero)) some few = p1
+each_depth P p0 p1 p2 (suc (suc (suc zero))) some few = p2
+each_depth P p0 p1 p2 (suc (suc (suc (suc count)))) some few = absurd (omega (arith, few))
+
 pub room_for_tree : (count : ℕ) → 1 ≤ count → count ≤ 3 → 4 ^ (count - 1) ≤ 16
-room_for_tree zero some few = absurd (omega (arith, some))
-room_for_tree (suc zero) some few = omega arith
-room_for_tree (suc (suc zero)) some few = omega arith
-room_for_tree (suc (suc (suc zero))) some few = omega arith
-room_for_tree (suc (suc (suc (suc count)))) some few = absurd (omega (arith, few))
+room_for_tree = each_depth (λ depth. 4 ^ depth ≤ 16) (omega arith) (omega arith) (omega arith)
 
 few_nodes : (count : ℕ) → 1 ≤ count → count ≤ 3 → nodes (count - 1) ≤ 21
-few_nodes zero some few = absurd (omega (arith, some))
-few_nodes (suc zero) some few = omega arith
-few_nodes (suc (suc zero)) some few = omega arith
-few_nodes (suc (suc (suc zero))) some few = omega arith
-few_nodes (suc (suc (suc (suc count)))) some few = absurd (omega (arith, few))
+few_nodes = each_depth (λ depth. nodes depth ≤ 21) (omega arith) (omega arith) (omega arith)
 
 pub tree_steps : (count n now then : ℕ) → 1 ≤ count → count ≤ 3 → then ≤ now + nodes (count - 1) * n → then ≤ now + 21 * n
 tree_steps count n now then some few h = let l = mul-le-mul_right n (few_nodes count some few) in omega (arith, h, l)

@@ -1,21 +1,17 @@
 -- The answer with squares that cover the points, and the leaves of the tree at a side less by 1, passes what a checker asks.
-use Rattle.std.proofs.Common.{◌≡◌, inl, inr, refl, sym, subst, ap, ◌∙◌, ℕ, zero, suc, ◌+◌, ◌*◌, ◌<◌, ◌≤◌, ℤ, pos, ◌+ℤ◌, ◌-ℤ◌, ◌*ℤ◌, ◌≤ℤ◌, neg_ℤ, nat_abs, List, [], ◌∷◌, ◌++◌, length, get_or, map, All, Any, IsTrue, arith}
+use Rattle.std.proofs.Common.{◌≡◌, sym, subst, ap, ◌∙◌, ℕ, zero, suc, ◌<◌, ◌≤◌, ℤ, pos, ◌+ℤ◌, ◌-ℤ◌, ◌*ℤ◌, ◌≤ℤ◌, neg_ℤ, nat_abs, List, [], ◌∷◌, length, get_or, map, All, Any, IsTrue, arith}
 use Rattle.std.proofs.lemmas.Int.{ints}
-use Rattle.std.proofs.lemmas.List.{get_or-map, length-map, get_or_default}
-use Rattle.std.proofs.lemmas.List.Elements.{All-map, All-weaker, All-append, All-contains}
+use Rattle.std.proofs.lemmas.List.{get_or-map, length-map}
+use Rattle.std.proofs.lemmas.List.Elements.{All-map, All-append, All-contains}
 use Rattle.integers.proofs.Identities.{den-ring, read, polys, lits, below_lits}
 use Rattle.integers.proofs.Order.{nonneg_mul, le_by, nonneg_difference, combine1}
-use Rattle.bounds_model.specs.Numbers.{IsWithin, HasCount}
-use Rattle.bounds_model.specs.Plane.{PlanePoint, PlaneRatio}
-use Rattle.bounds_model.specs.Fractions.{Fraction}
+use Rattle.bounds_model.specs.Plane.{PlanePoint}
 use Rattle.bounds_model.specs.Places.{IsPlaneRatio}
 use Rattle.bounds_model.specs.Centres.{IsNear}
 use Rattle.bounds_model.specs.CentresAnswer as model
-use Rattle.answers.specs.declared.centres.Leaf.{Leaf}
 use Rattle.answers.specs.Answers.{leaf_of}
 use Rattle.corner_squares.specs.declared.square.Square.{Square}
-use Rattle.corner_squares.specs.Squares.{square_of, IsHeld}
-use Rattle.corner_squares.specs.Trees.{NamesPoints}
+use Rattle.corner_squares.specs.Squares.{square_of, IsCovered}
 use Rattle.corner_squares.proofs.Holding.{between_sides}
 use Rattle.p_centres.specs.declared.sides.Bracket.{Bracket}
 use Rattle.p_centres.specs.Covers.{IsPlaced, IsCover, IsFilledUp}
@@ -55,7 +51,7 @@ near_its_centre side s p wide held =
     positive : pos 0 ≤ℤ (half_of side).d
     positive = let h = (IsLowest-half side).not_negative.denominator in omega (arith, ints, h)
 
-near_some : (side : ℕ) (squares : List Square) (p : PlanePoint) → All (IsPlaced side) squares → IsHeld squares p → Any (IsNear (half_of side) p) (map (λ s. centre_of s (half_of side)) squares)
+near_some : (side : ℕ) (squares : List Square) (p : PlanePoint) → All (IsPlaced side) squares → IsCovered squares p → Any (IsNear (half_of side) p) (map (λ s. centre_of s (half_of side)) squares)
 near_some side squares p placed (k, s, below, is, held) =
     let wide : s.side ≡ side = subst (λ t. t.side ≡ side) is (placed k s below).wide in (
       k,
@@ -71,7 +67,7 @@ pub filled_cover : (points : List PlanePoint) (side count : ℕ) (old new : List
 filled_cover points side count old new h filled = record {
   few = (let e = filled.as_many in omega (arith, e));
   placed = subst (All (IsPlaced side)) (sym filled.appended) (All-append (IsPlaced side) old filled.again h.placed (λ k d below. All-contains (IsPlaced side) old (get_or filled.again k d) h.placed (filled.old_ones k d below)));
-  held = λ k d below. subst (λ ss. IsHeld ss (get_or points k d)) (sym filled.appended) (held_by_more old filled.again (get_or points k d) (h.held k d below));
+  held = λ k d below. subst (λ ss. IsCovered ss (get_or points k d)) (sym filled.appended) (held_by_more old filled.again (get_or points k d) (h.held k d below));
 }
 
 -- some square covers a point

@@ -1,10 +1,10 @@
 -- The numbers of the answer are in their places, and are kept as they are computed.
-use Rattle.std.proofs.Common.{◌≡◌, ℕ, suc, zero, ◌/◌, ◌%◌, ◌==◌, ◌≤◌, Bool, true, false, ◌∷◌, ℤ, pos, ◌+ℤ◌, ◌*ℤ◌, ◌≤ℤ◌, negsuc, nat_abs, neg_ℤ, inl, inr, refl, sym, ap, ap₂, subst, ◌∙◌, arith}
+use Rattle.std.proofs.Common.{◌≡◌, ◌⊎◌, ◌∷◌, [], ℕ, ◌/◌, ◌%◌, ◌==◌, ◌≤◌, Bool, true, false, ℤ, pos, ◌+ℤ◌, ◌*ℤ◌, ◌≤ℤ◌, negsuc, nat_abs, neg_ℤ, inl, inr, refl, sym, ap, ap₂, subst, ◌∙◌, arith}
 use Rattle.std.specs.Prelude.{if◌then◌else◌}
 use Rattle.std.proofs.lemmas.Int.{ints}
 use Rattle.std.proofs.lemmas.Bool.Decides.{nat_tests}
 use Rattle.std.proofs.Math.Nat.{eq-one_of_dvd-one}
-use Rattle.bounds_model.specs.Fractions.{Fraction}
+use Rattle.bounds_model.specs.Fractions.{Fraction, HaveNoCommonFactor}
 use Rattle.bounds_model.specs.Numbers.{IsWithin}
 use Rattle.bounds_model.specs.Plane.{PlaneRatio}
 use Rattle.bounds_model.specs.Places.{IsFraction, IsPlaneRatio}
@@ -32,6 +32,18 @@ whole_middle low side below above most = record { low = omega (arith, ints, belo
 half_middle : (low : ℤ) (side : ℕ) → low ≤ℤ pos 200000 → neg_ℤ (pos 200000) ≤ℤ (low +ℤ pos side) → side ≤ 400000 → IsWithin 1000000 ((low *ℤ pos 2) +ℤ pos side)
 half_middle low side below above most = record { low = omega (arith, ints, below, above, most); high = omega (arith, ints, below, above, most) }
 
+-- a centre over 1 or 2, near and in lowest terms, is in its place
+good : (c : PlaneRatio) → (c.w ≡ pos 1) ⊎ (c.w ≡ pos 2) → IsWithin 1000000 c.x → IsWithin 1000000 c.y → HaveNoCommonFactor (c.x ∷ c.y ∷ c.w ∷ []) → IsCentreWithinLimits c × IsPlaneRatio c
+good c halves x y lowest =
+    let w = small c.w halves in (
+      record { halves = halves; x = x; y = y },
+      record { x = within_more x tt; y = within_more y tt; w = within_more {m = 2} w.0 tt; denominator = w.1; lowest = lowest },
+    )
+  where
+    small : (w : ℤ) → (w ≡ pos 1) ⊎ (w ≡ pos 2) → IsWithin 2 w × (pos 1 ≤ℤ w)
+    small w (inl e) = (record { low = omega (arith, ints, e); high = omega (arith, ints, e) }, omega (arith, ints, e))
+    small w (inr e) = (record { low = omega (arith, ints, e); high = omega (arith, ints, e) }, omega (arith, ints, e))
+
 -- the centre of the square is near, and in lowest terms
 centre_good : (side : ℕ) (square : Square) → IsPlaced side square → side ≤ 400000 → IsCentreWithinLimits (centre_of square (half_of side)) × IsPlaneRatio (centre_of square (half_of side))
 centre_good side square placed most = by_parity (side % 2 == 0) refl
@@ -39,30 +51,11 @@ centre_good side square placed most = by_parity (side % 2 == 0) refl
     by_parity : (b : Bool) → (side % 2 == 0) ≡ b
         → let centre : PlaneRatio = centre_of square (if b then record { n = pos (side / 2); d = pos 1 } else record { n = pos side; d = pos 2 }) in IsCentreWithinLimits centre × IsPlaneRatio centre
     by_parity true e =
-        let x = whole_middle square.left side placed.left placed.right most in
-        let y = whole_middle square.bottom side placed.bottom placed.top most in (
-          record { halves = inl refl; x = x; y = y },
-          record {
-            x = within_more x tt;
-            y = within_more y tt;
-            w = within_more {m = 2} (record { low = omega (arith, ints); high = omega (arith, ints) }) tt;
-            denominator = omega (arith, ints);
-            lowest = λ k h. eq-one_of_dvd-one (h 2 (pos 1) (omega arith));
-          },
-        )
+        good _ (inl refl) (whole_middle square.left side placed.left placed.right most) (whole_middle square.bottom side placed.bottom placed.top most) (λ k h. eq-one_of_dvd-one (h 2 (pos 1) (omega arith)))
     by_parity false e =
         let odd : side % 2 ≡ 1 = grind (arith, nat_tests, e) in
-        let x = half_middle square.left side placed.left placed.right most in
-        let y = half_middle square.bottom side placed.bottom placed.top most in (
-          record { halves = inr refl; x = x; y = y },
-          record {
-            x = within_more x tt;
-            y = within_more y tt;
-            w = within_more {m = 2} (record { low = omega (arith, ints); high = omega (arith, ints) }) tt;
-            denominator = omega (arith, ints);
-            lowest = λ k h. divides_two k _ (odd_sum square.left side odd) (h 0 (pos 0) (omega arith)) (h 2 (pos 2) (omega arith));
-          },
-        )
+        good _ (inr refl) (half_middle square.left side placed.left placed.right most) (half_middle square.bottom side placed.bottom placed.top most)
+        (λ k h. divides_two k _ (odd_sum square.left side odd) (h 0 (pos 0) (omega arith)) (h 2 (pos 2) (omega arith)))
 
 -- it is near
 pub centre_near : (side : ℕ) (square : Square) → IsPlaced side square → side ≤ 400000 → IsCentreWithinLimits (centre_of square (half_of side))

@@ -4,8 +4,9 @@ use Rattle.bounds_model.specs.Plane.{PlanePoint}
 use Rattle.answers.specs.declared.centres.Leaf.{Leaf}
 use Rattle.answers.specs.Answers.{leaf_of}
 use Rattle.corner_squares.specs.declared.square.Square.{Square}
-use Rattle.corner_squares.specs.Squares.{IsHeld, left_over}
+use Rattle.corner_squares.specs.Squares.{IsCovered, left_over}
 use Rattle.corner_squares.specs.Trees.{AreLeavesAt}
+use Rattle.p_centres.specs.Surveys.{IsFirstFar}
 
 -- a square of this side that reaches into the bounds of points
 pub record IsPlaced (side : ℕ) (s : Square) : Type 0 where
@@ -19,14 +20,15 @@ pub record IsPlaced (side : ℕ) (s : Square) : Type 0 where
 pub record IsCover (points : List PlanePoint) (side most : ℕ) (squares : List Square) : Type 0 where
   pub few : length squares ≤ most
   pub placed : All (IsPlaced side) squares
-  pub held : All (IsHeld squares) points
+  pub held : All (IsCovered squares) points
 
--- the leaves below the placed squares are appended, and the squares stay as they are
+-- the leaves below the placed squares are appended, and the squares stay; one right below them names the first two points far apart
 pub record IsRefuted (points : List PlanePoint) (side depth : ℕ) (placed placed_then : List Square) (leaves leaves_then : List Leaf) : Type 0 where
   pub stays : placed_then ≡ placed
   pub own : List Leaf
   pub appended : leaves_then ≡ leaves ++ own
   pub refuted : AreLeavesAt side depth points (left_over placed points) (map leaf_of own)
+  pub earliest : depth ≡ 0 → All (IsFirstFar points placed side) (map leaf_of own)
 
 -- so many squares, which are the old ones, and then some of them again
 pub record IsFilledUp (count : ℕ) (old new : List Square) : Type 0 where

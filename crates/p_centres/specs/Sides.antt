@@ -1,6 +1,5 @@
 -- The search for the least side.
-use Rattle.std.specs.Prelude.{◌≡◌, ◌⊎◌, ℕ, ◌+◌, ◌≤◌, List, [], ◌∷◌, length, map, All, pos, ◌+ℤ◌, ◌-ℤ◌}
-use Rattle.std.specs.Int.{int_max}
+use Rattle.std.specs.Prelude.{◌≡◌, ◌⊎◌, ℕ, ◌+◌, ◌-◌, ◌≤◌, List, [], ◌∷◌, map, All}
 use Rattle.bounds_model.specs.Plane.{PlanePoint}
 use Rattle.bounds_model.specs.CentresAnswer.{AreLeaves}
 use Rattle.answers.specs.Answers.{leaf_of}
@@ -8,15 +7,16 @@ use Rattle.corner_squares.specs.declared.bounds.Bounds.{Bounds}
 use Rattle.corner_squares.specs.Trees.{NamesPoints}
 use Rattle.p_centres.specs.declared.sides.Bracket.{Bracket}
 use Rattle.p_centres.specs.Covers.{IsCover}
-use Rattle.p_centres.specs.Surveys.{IsNoLonger}
+use Rattle.p_centres.specs.Surveys.{IsNoLonger, IsFirstFar}
 
--- so many squares of the high side cover the points, and the leaves show that none of a side below the low one do
+-- so many squares of the high side cover the points, and the leaves show that none of a side below the low one do; that of one square names the first two so far apart
 pub record IsBracket (points : List PlanePoint) (count : ℕ) (b : Bracket) : Type 0 where
   pub order : b.low ≤ b.high
   pub limit : b.high ≤ 400000
   pub cover : IsCover points b.high count b.squares.items
   pub names : All (NamesPoints points) (map leaf_of b.leaves.items)
   pub leaves : AreLeaves b.low count points (map leaf_of b.leaves.items)
+  pub earliest : count ≡ 1 → All (IsFirstFar points [] (b.low - 1)) (map leaf_of b.leaves.items)
 
 -- one square in the lower left corner of the box, which is no longer than it
 pub record IsStart (bounds : Bounds) (b : Bracket) : Type 0 where

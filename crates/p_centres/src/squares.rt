@@ -1,10 +1,11 @@
 //! Squares of one size that cover all points.
-ghost use Rattle.std.specs.Prelude.{◌+◌, ◌*◌, ◌<◌, ◌≤◌, length};
+ghost use Rattle.std.specs.Prelude.{◌≡◌, ◌+◌, ◌*◌, ◌<◌, ◌≤◌, length, All};
 ghost use Rattle.arrayvec.specs.ArrayVec.{array_vec_len};
 ghost use Rattle.bounds_model.specs.CentresAnswer.{PassesCentres};
 ghost use Rattle.bounded_coords.specs.Clouds.{counted_points};
 ghost use Rattle.answers.specs.Answers.{centres_of};
 ghost use Rattle.p_centres.specs.Covers.{IsFilledUp};
+ghost use Rattle.p_centres.specs.Leaves.{IsOnlyLeaf};
 
 use crate::sides::least_side;
 use crate::square_answer::answer;
@@ -20,6 +21,7 @@ pub fn centres<L: Ledger>(cloud: Counted<'_, Point2>, p: u8, steps: &mut Steps<L
     requires some { 1 ≤ p }
     requires few { p ≤ 3 }
     ensures passes { PassesCentres p (counted_points cloud.entry) (centres_of result) }
+    ensures only_leaf { p ≡ 1 → All (IsOnlyLeaf (counted_points cloud.entry)) (centres_of result).leaves }
     ensures steps { steps.new ≤ steps.old + 1000 * length (counted_points cloud.entry) }
 {
     let least = least_side(cloud, p, steps);

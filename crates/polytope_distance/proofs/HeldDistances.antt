@@ -9,7 +9,7 @@ use Rattle.bounds_model.specs.Space.{SpacePoint, point_at, vector, plus, times, 
 use Rattle.bounds_model.specs.AnnulusAnswer.{WeightedPair, pair_sum}
 use Rattle.bounds_model.specs.DistanceAnswer.{difference, pull, first_product}
 use Rattle.bounds_model.specs.Potentials.{WeightedVector, mass, moment, potential, IsLow}
-use Rattle.corral.specs.declared.holding.Held.{Held}
+use Rattle.corral.specs.declared.support.WeightedItem.{WeightedItem}
 use Rattle.corral.specs.Supports.{AreSupports}
 use Rattle.corral.proofs.Mapped.{all_unmap}
 use Rattle.corral.proofs.Moments.{at_least_common}
@@ -29,15 +29,15 @@ weighted_sum-map weight at f (x ∷ xs) = ap (plus (times (weight (f x)) (at (f 
 -- ---- supports as weighted differences, and as pairs
 
 -- the difference that a support names, with its weight
-abbrev pub weighted_difference : List SpacePoint → List SpacePoint → Held → WeightedVector
+abbrev pub weighted_difference : List SpacePoint → List SpacePoint → WeightedItem → WeightedVector
 weighted_difference ps qs s = record { weight = pos s.weight; vector = vector (point_at qs s.id.second) (point_at ps s.id.first) }
 
 -- the sum of their weights
-pub mass_is : (ps qs : List SpacePoint) (held : List Held) → mass (map (weighted_difference ps qs) held) ≡ pair_sum (map weighted_pair held)
+pub mass_is : (ps qs : List SpacePoint) (held : List WeightedItem) → mass (map (weighted_difference ps qs) held) ≡ pair_sum (map weighted_pair held)
 mass_is ps qs held = total-map (λ (s : WeightedVector). s.weight) (weighted_difference ps qs) held ∙ sym (total-map (λ (pair : WeightedPair). pair.weight) weighted_pair held)
 
 -- their weighted sum
-moment_is : (ps qs : List SpacePoint) (held : List Held) → moment (map (weighted_difference ps qs) held) ≡ pull ps qs (map weighted_pair held)
+moment_is : (ps qs : List SpacePoint) (held : List WeightedItem) → moment (map (weighted_difference ps qs) held) ≡ pull ps qs (map weighted_pair held)
 moment_is ps qs held =
     weighted_sum-map (λ (s : WeightedVector). s.weight) (λ s. s.vector) (weighted_difference ps qs) held ∙ sym (weighted_sum-map (λ (pair : WeightedPair). pair.weight) (difference ps qs) weighted_pair held)
 
@@ -66,7 +66,7 @@ pub record HoldsDistance (ps qs : List SpacePoint) (pairs : List WeightedPair) :
   pub no_smaller : All (λ p. All (λ q. first_product ps qs pairs ≤ℤ dot (pull ps qs pairs) (vector q p)) qs) ps
 
 -- the differences have one product
-same_products_of : (ps qs : List SpacePoint) (held : List Held) → AreSupports (pos 0) (map (weighted_difference ps qs) held)
+same_products_of : (ps qs : List SpacePoint) (held : List WeightedItem) → AreSupports (pos 0) (map (weighted_difference ps qs) held)
     → All (λ pair. dot (pull ps qs (map weighted_pair held)) (difference ps qs pair) ≡ first_product ps qs (map weighted_pair held)) (map weighted_pair held)
 same_products_of ps qs [] h = absurd (let some = h.some in omega arith)
 same_products_of ps qs (first ∷ rest) h =
@@ -80,7 +80,7 @@ same_products_of ps qs (first ∷ rest) h =
     (same_product weighted (difference ps qs (weighted_pair s)) (difference ps qs (weighted_pair first)) (equal k d l 0 (weighted_difference ps qs first) (omega arith))))
 
 -- and none has a smaller one
-no_smaller_of : (ps qs : List SpacePoint) (held : List Held) → AreSupports (pos 0) (map (weighted_difference ps qs) held)
+no_smaller_of : (ps qs : List SpacePoint) (held : List WeightedItem) → AreSupports (pos 0) (map (weighted_difference ps qs) held)
     → ((i j : ℕ) → i < length ps → j < length qs → ¬ IsLow (pos 0) (map (weighted_difference ps qs) held) (vector (point_at qs j) (point_at ps i)))
     → All (λ p. All (λ q. first_product ps qs (map weighted_pair held) ≤ℤ dot (pull ps qs (map weighted_pair held)) (vector q p)) qs) ps
 no_smaller_of ps qs [] h none_low i d l j e m = absurd (let some = h.some in omega arith)
@@ -97,7 +97,7 @@ no_smaller_of ps qs (first ∷ rest) h none_low i d l j e m =
     (subst (λ q. dot (pull ps qs pairs) least ≤ℤ dot (pull ps qs pairs) (vector q p)) (any_default qs j e origin m) product)
 
 -- so they hold a distance
-pub held_by_supports : (ps qs : List SpacePoint) (held : List Held) → AreSupports (pos 0) (map (weighted_difference ps qs) held)
+pub held_by_supports : (ps qs : List SpacePoint) (held : List WeightedItem) → AreSupports (pos 0) (map (weighted_difference ps qs) held)
     → ((i j : ℕ) → i < length ps → j < length qs → ¬ IsLow (pos 0) (map (weighted_difference ps qs) held) (vector (point_at qs j) (point_at ps i)))
     → HoldsDistance ps qs (map weighted_pair held)
 held_by_supports ps qs held h none_low = record {

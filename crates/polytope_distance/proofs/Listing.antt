@@ -3,7 +3,7 @@ use Rattle.std.proofs.Common.{◌≡◌, sym, ◌∙◌, ap, ap₂, ℕ, zero, s
 use Rattle.std.specs.Prelude.{slice_get, Some}
 use Rattle.std.proofs.lemmas.List.{length-map, map_push, take_more}
 use Rattle.bounds_model.specs.AnnulusAnswer.{WeightedPair}
-use Rattle.corral.specs.declared.holding.Held.{Held}
+use Rattle.corral.specs.declared.support.WeightedItem.{WeightedItem}
 use Rattle.corral.specs.declared.items.Id.{Id}
 use Rattle.answers.specs.declared.pairs.WeightedPair as format
 use Rattle.answers.specs.Answers.{pair_of}
@@ -14,7 +14,7 @@ abbrev pub past_the_end : WeightedPair
 past_the_end = record { first = 0; second = 0; weight = pos 0 }
 
 -- a support as it is listed: the numbers of its points and its weight
-pub listed_at : (held : List Held) (i : ℕ) (id : Id) (w : ℕ) (d : WeightedPair) → slice_get (map (λ s. s.id) held) i ≡ Some id → slice_get (map (λ s. s.weight) held) i ≡ Some w
+pub listed_at : (held : List WeightedItem) (i : ℕ) (id : Id) (w : ℕ) (d : WeightedPair) → slice_get (map (λ s. s.id) held) i ≡ Some id → slice_get (map (λ s. s.weight) held) i ≡ Some w
     → get_or (map weighted_pair held) i d ≡ record { first = id.first; second = id.second; weight = pos w }
 listed_at [] i id w d h k = cc
 listed_at (s ∷ held) zero id w d h k =
@@ -24,7 +24,7 @@ listed_at (s ∷ held) zero id w d h k =
 listed_at (s ∷ held) (suc i) id w d h k = listed_at held i id w d h k
 
 -- the list with the next support
-pub listed_more : (held : List Held) (i : ℕ) (id : Id) (w : ℕ) (done now : List format.WeightedPair) → i < length held
+pub listed_more : (held : List WeightedItem) (i : ℕ) (id : Id) (w : ℕ) (done now : List format.WeightedPair) → i < length held
     → slice_get (map (λ s. s.id) held) i ≡ Some id → slice_get (map (λ s. s.weight) held) i ≡ Some w
     → map pair_of done ≡ take i (map weighted_pair held) → now ≡ done ++ record { first = id.first; second = id.second; weight = w } ∷ [] → map pair_of now ≡ take (i + 1) (map weighted_pair held)
 listed_more held i id w done now below h k so_far e =

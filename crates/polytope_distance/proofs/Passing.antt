@@ -19,7 +19,7 @@ use Rattle.polytope_distance.proofs.Listing.{past_the_end}
 use Rattle.polytope_distance.proofs.HeldDistances.{HoldsDistance}
 
 -- 1 to 4 pairs of listed points hold the distance, with these sums, the first pair naming these two points
-pub record AreHeld (ps qs : List SpacePoint) (pairs : List WeightedPair) (s : PairSums) (p q : SpacePoint) : Type 0 where
+pub record AreSupportItems (ps qs : List SpacePoint) (pairs : List WeightedPair) (s : PairSums) (p q : SpacePoint) : Type 0 where
   pub count : HasCount 1 4 pairs
   pub numbers : All (λ pair. (pair.first < length ps) × (pair.second < length qs)) pairs
   pub weight_limit : pair_sum pairs ≤ℤ pos (2 ^ 66)
@@ -29,11 +29,11 @@ pub record AreHeld (ps qs : List SpacePoint) (pairs : List WeightedPair) (s : Pa
   pub second : point_at qs (get_or pairs 0 past_the_end).second ≡ q
 
 -- the sum of the weights is at least 1
-pub has_weight : {ps qs : List SpacePoint} {pairs : List WeightedPair} {s : PairSums} {p q : SpacePoint} → AreHeld ps qs pairs s p q → 1 ≤ s.weight
+pub has_weight : {ps qs : List SpacePoint} {pairs : List WeightedPair} {s : PairSums} {p q : SpacePoint} → AreSupportItems ps qs pairs s p q → 1 ≤ s.weight
 has_weight {pairs = pairs} {s = s} h = some_weight pairs s.weight h.count.at_least h.holds.weights h.sums.weight
 
 -- and the product that gives the size is not below 0
-pub not_below : {ps qs : List SpacePoint} {pairs : List WeightedPair} {s : PairSums} {p q : SpacePoint} → AreHeld ps qs pairs s p q → pos 0 ≤ℤ dot (pull_of s) (vector q p)
+pub not_below : {ps qs : List SpacePoint} {pairs : List WeightedPair} {s : PairSums} {p q : SpacePoint} → AreSupportItems ps qs pairs s p q → pos 0 ≤ℤ dot (pull_of s) (vector q p)
 not_below {ps} {qs} {pairs} {s} {p} {q} h =
     let some : pos 1 ≤ℤ pair_sum pairs = subst (λ w. pos 1 ≤ℤ w) h.sums.weight (above (has_weight h)) in
     subst (λ v. pos 0 ≤ℤ dot v (vector q p)) (sym (pull_is h.sums))
@@ -43,7 +43,7 @@ not_below {ps} {qs} {pairs} {s} {p} {q} h =
     above h = omega (arith, ints)
 
 -- so the answer that the sums give passes
-pub passes : {ps qs : List SpacePoint} {s : PairSums} {p q : SpacePoint} (a : DistanceAnswer) → length ps ≤ 10000 → length qs ≤ 10000 → AreHeld ps qs a.pairs s p q
+pub passes : {ps qs : List SpacePoint} {s : PairSums} {p q : SpacePoint} (a : DistanceAnswer) → length ps ≤ 10000 → length qs ≤ 10000 → AreSupportItems ps qs a.pairs s p q
     → IsFraction a.size → SameValue a.size (product_ratio s p q) → IsSpaceRatio a.from → SamePlace a.from (mean_of s.weight s.first) → IsSpaceRatio a.to → SamePlace a.to (mean_of s.weight s.second)
     → IsDirectionOf (pull_of s) a.direction → IsVectorWithin (2 ^ 80) a.direction → PassesDistance ps qs a
 passes {ps} {qs} {s} {p} {q} a few_first few_second h size value from at_from to at_to direction within =

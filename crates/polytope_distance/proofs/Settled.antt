@@ -11,10 +11,10 @@ use Rattle.bounded_coords.specs.Clouds.{points_of}
 use Rattle.corral.specs.declared.items.Id.{Id}
 use Rattle.corral.specs.declared.items.Items.{Items}
 use Rattle.corral.specs.declared.items.Items.TheVariants.{Differences}
-use Rattle.corral.specs.declared.holding.Held.{Held}
+use Rattle.corral.specs.declared.support.WeightedItem.{WeightedItem}
 use Rattle.corral.specs.Items.{IsItem, item, first_points, second_points}
-use Rattle.corral.specs.Held as corral
-use Rattle.corral.specs.Held.{weighted_item, weighted_items}
+use Rattle.corral.specs.WeightedItem as corral
+use Rattle.corral.specs.WeightedItems.{weighted_item, weighted_items}
 use Rattle.corral.proofs.Mapped.{all_unmap}
 use Rattle.corral.specs.Supports.{AreSupports}
 use Rattle.pair_sums.specs.declared.sums.PairSums.{PairSums}
@@ -23,7 +23,7 @@ use Rattle.polytope_distance.specs.Supports.{weighted_pair}
 use Rattle.polytope_distance.proofs.Listing.{past_the_end}
 use Rattle.polytope_distance.proofs.SupportSums.{first_at, second_at}
 use Rattle.polytope_distance.proofs.HeldDistances.{HoldsDistance, mass_is, held_by_supports}
-use Rattle.polytope_distance.proofs.Passing.{AreHeld}
+use Rattle.polytope_distance.proofs.Passing.{AreSupportItems}
 
 -- points as they are
 abbrev pub itself : SpacePoint → SpacePoint
@@ -34,15 +34,15 @@ abbrev pub differences : (K : Type 0) → Cloud SpacePoint → Cloud SpacePoint 
 differences K p q = Differences p q
 
 -- the sum of the weights is within its limit
-pub limit_by : (K : Type 0) (p q : Cloud SpacePoint) (held : List Held) → mass (weighted_items itself (differences K p q) held) ≤ℤ pos (2 ^ 66) → pair_sum (map weighted_pair held) ≤ℤ pos (2 ^ 66)
+pub limit_by : (K : Type 0) (p q : Cloud SpacePoint) (held : List WeightedItem) → mass (weighted_items itself (differences K p q) held) ≤ℤ pos (2 ^ 66) → pair_sum (map weighted_pair held) ≤ℤ pos (2 ^ 66)
 limit_by K p q held h = subst (λ m. m ≤ℤ pos (2 ^ 66)) (mass_is (map itself (points_of p)) (map itself (points_of q)) held) h
 
 -- no weight is below 1
-pub weights_by : (K : Type 0) (p q : Cloud SpacePoint) (held : List Held) → AreSupports (pos 0) (weighted_items itself (differences K p q) held) → All (λ pair. pos 1 ≤ℤ pair.weight) (map weighted_pair held)
+pub weights_by : (K : Type 0) (p q : Cloud SpacePoint) (held : List WeightedItem) → AreSupports (pos 0) (weighted_items itself (differences K p q) held) → All (λ pair. pos 1 ≤ℤ pair.weight) (map weighted_pair held)
 weights_by K p q held h = All-map (λ (pair : WeightedPair). pos 1 ≤ℤ pair.weight) weighted_pair held (all_unmap (λ (s : WeightedVector). pos 1 ≤ℤ s.weight) (weighted_item itself (differences K p q)) held h.weights)
 
 -- the supports hold the distance
-holds_by : (K : Type 0) (p q : Cloud SpacePoint) (held : List Held) → AreSupports (pos 0) (weighted_items itself (differences K p q) held)
+holds_by : (K : Type 0) (p q : Cloud SpacePoint) (held : List WeightedItem) → AreSupports (pos 0) (weighted_items itself (differences K p q) held)
     → ((id : Id) → IsItem (differences K p q) id → ¬ IsLow (pos 0) (weighted_items itself (differences K p q) held) (item itself (differences K p q) id))
     → HoldsDistance (points_of p) (points_of q) (map weighted_pair held)
 holds_by K p q held supports none_low =
@@ -55,12 +55,12 @@ holds_by K p q held supports none_low =
     (held_by_supports (map itself ps) (map itself qs) held supports (λ i j l m. none_low (record { first = i; second = j }) (omega arith, omega arith))))
 
 -- and the sums over them are those of the pairs
-pub held_by : (K : Type 0) (p q : Cloud SpacePoint) (items : Items K SpacePoint) (held : List Held) (s : PairSums) (a b : SpacePoint)
-    → items ≡ differences K p q → corral.AreHeld 3 (differences K p q) held → AreSupports (pos 0) (weighted_items itself (differences K p q) held) → mass (weighted_items itself (differences K p q) held) ≤ℤ pos (2 ^ 66)
+pub held_by : (K : Type 0) (p q : Cloud SpacePoint) (items : Items K SpacePoint) (held : List WeightedItem) (s : PairSums) (a b : SpacePoint)
+    → items ≡ differences K p q → corral.AreSupportItems 3 (differences K p q) held → AreSupports (pos 0) (weighted_items itself (differences K p q) held) → mass (weighted_items itself (differences K p q) held) ≤ℤ pos (2 ^ 66)
     → ((id : Id) → IsItem (differences K p q) id → ¬ IsLow (pos 0) (weighted_items itself (differences K p q) held) (item itself (differences K p q) id))
     → AreSums (first_points items) (second_points items) (map weighted_pair held) s
     → IsSomeAnd (slice_get held 0) (λ s. slice_get (first_points items) s.id.first ≡ Some a) → IsSomeAnd (slice_get held 0) (λ s. slice_get (second_points items) s.id.second ≡ Some b)
-    → AreHeld (points_of p) (points_of q) (map weighted_pair held) s a b
+    → AreSupportItems (points_of p) (points_of q) (map weighted_pair held) s a b
 held_by K p q items held s a b is are_held supports limit none_low sums first second =
     let as_many = length-map held weighted_pair in
     let is_p : first_points items ≡ points_of p = ap (λ i. first_points i) is in

@@ -7,7 +7,7 @@ use Rattle.std.proofs.lemmas.Option.{get_or_from_slice_get}
 use Rattle.integers.proofs.Sums.{total-take_more}
 use Rattle.bounds_model.specs.Space.{SpacePoint, point_at, origin}
 use Rattle.bounds_model.specs.AnnulusAnswer.{WeightedPair, pair_sum}
-use Rattle.corral.specs.declared.holding.Held.{Held}
+use Rattle.corral.specs.declared.support.WeightedItem.{WeightedItem}
 use Rattle.pair_sums.specs.declared.sums.PairSums.{PairSums}
 use Rattle.pair_sums.specs.Sums.{Adds, AreSums}
 use Rattle.pair_sums.proofs.PairWeights.{weights_of_some}
@@ -17,19 +17,19 @@ use Rattle.polytope_distance.specs.Supports.{weighted_pair}
 -- ---- a support as an answer lists it
 
 -- its weight
-pub weight_at : (held : List Held) (i : ℕ) (w : ℕ) (d : WeightedPair) → slice_get (map (λ s. s.weight) held) i ≡ Some w → (get_or (map weighted_pair held) i d).weight ≡ pos w
+pub weight_at : (held : List WeightedItem) (i : ℕ) (w : ℕ) (d : WeightedPair) → slice_get (map (λ s. s.weight) held) i ≡ Some w → (get_or (map weighted_pair held) i d).weight ≡ pos w
 weight_at [] i w d h = cc
 weight_at (s ∷ held) zero w d h = let e : s.weight ≡ w = cc in ap pos e
 weight_at (s ∷ held) (suc i) w d h = weight_at held i w d h
 
 -- its two points
-pub first_at : (points : List SpacePoint) (held : List Held) (i : ℕ) (p : SpacePoint) (d : WeightedPair)
+pub first_at : (points : List SpacePoint) (held : List WeightedItem) (i : ℕ) (p : SpacePoint) (d : WeightedPair)
     → IsSomeAnd (slice_get held i) (λ s. slice_get points s.id.first ≡ Some p) → point_at points (get_or (map weighted_pair held) i d).first ≡ p
 first_at points [] i p d h = absurd h
 first_at points (s ∷ held) zero p d h = get_or_from_slice_get points s.id.first p origin h
 first_at points (s ∷ held) (suc i) p d h = first_at points held i p d h
 
-pub second_at : (points : List SpacePoint) (held : List Held) (i : ℕ) (q : SpacePoint) (d : WeightedPair)
+pub second_at : (points : List SpacePoint) (held : List WeightedItem) (i : ℕ) (q : SpacePoint) (d : WeightedPair)
     → IsSomeAnd (slice_get held i) (λ s. slice_get points s.id.second ≡ Some q) → point_at points (get_or (map weighted_pair held) i d).second ≡ q
 second_at points [] i q d h = absurd h
 second_at points (s ∷ held) zero q d h = get_or_from_slice_get points s.id.second q origin h
@@ -38,7 +38,7 @@ second_at points (s ∷ held) (suc i) q d h = second_at points held i q d h
 -- ---- of some of the supports
 
 -- no weight is below 0
-nonneg : (held : List Held) → All (λ pair. pos 0 ≤ℤ pair.weight) (map weighted_pair held)
+nonneg : (held : List WeightedItem) → All (λ pair. pos 0 ≤ℤ pair.weight) (map weighted_pair held)
 nonneg [] k d h = absurd (omega arith)
 nonneg (s ∷ held) zero d h = omega (arith, ints)
 nonneg (s ∷ held) (suc k) d h = nonneg held k d (omega arith)
@@ -51,7 +51,7 @@ sums_of_next ps qs pairs i w p q d old new below has_weight at_p at_q sums adds 
     subst (λ pairs. AreSums ps qs pairs new) (sym (take_more pairs i d below)) (sums_of_more ps qs (take i pairs) (get_or pairs i d) old new w p q has_weight at_p at_q sums adds)
 
 -- the weight of the next support is within what is left
-pub more_within : (ps qs : List SpacePoint) (held : List Held) (i w limit : ℕ) (d : WeightedPair) (old : PairSums)
+pub more_within : (ps qs : List SpacePoint) (held : List WeightedItem) (i w limit : ℕ) (d : WeightedPair) (old : PairSums)
     → i < length held → (get_or (map weighted_pair held) i d).weight ≡ pos w → AreSums ps qs (take i (map weighted_pair held)) old
     → pair_sum (map weighted_pair held) ≤ℤ pos limit → old.weight + w ≤ limit
 more_within ps qs held i w limit d old below has_weight sums most =

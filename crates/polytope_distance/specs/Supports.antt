@@ -1,12 +1,12 @@
 -- Supports of a distance as an answer lists them.
 use Rattle.std.specs.Prelude.{pos, List, map}
 use Rattle.bounds_model.specs.AnnulusAnswer.{WeightedPair}
-use Rattle.corral.specs.declared.holding.Held.{Held}
-use Rattle.corral.specs.declared.holding.Support.{Support}
+use Rattle.corral.specs.declared.support.WeightedItem.{WeightedItem}
+use Rattle.corral.specs.declared.support.Support.{Support}
 use Rattle.corral.specs.Supported.{supports_of}
 
 -- a support as a weighted pair of points
-abbrev pub weighted_pair : Held → WeightedPair
+abbrev pub weighted_pair : WeightedItem → WeightedPair
 weighted_pair held = record { first = held.id.first; second = held.id.second; weight = pos held.weight }
 
 -- all supports, in order

@@ -12,7 +12,7 @@ ghost use Rattle.witness_format.specs.Outcomes.{ReadsOr};
 use crate::ReadFault;
 use crate::line::ChordedCone;
 use crate::line_printing::push_line;
-use crate::line_reading::{add, read_line};
+use crate::line_reading::{add, list_for, read_line};
 use crate::lines::Unread;
 use answers::{Chord, Chords, HalfCone, HalfCones};
 use std::alloc::{AllocError, Global};
@@ -29,8 +29,8 @@ pub(crate) fn read_chorded(
     ensures cones { IfOk result (λ x. length x.0 ≡ count) }
     ensures chords { IfOk result (λ x. length x.1 ≡ count) }
 {
-    let mut cones = HalfCones::new(alloc);
-    let mut chords = Chords::new(alloc);
+    let mut cones: HalfCones = list_for(alloc, text, count);
+    let mut chords: Chords = list_for(alloc, text, count);
     for _ in 0..count {
         let line: ChordedCone = read_line(text)?;
         add(&mut cones, line.cone)?;

@@ -169,12 +169,23 @@ fn read_list<T: Line>(
         (lines_at count (untitled T.Fields.fields) (lines_left text.old)) }
     ensures amount { IfOk result (λ values. length values ≡ count) }
 {
-    let mut values = AnswerList::new(alloc);
+    let mut values = list_for(alloc, text, count);
     for _ in 0..count {
         let value = read_line(text)?;
         add(&mut values, value)?;
     }
     Ok(values)
+}
+
+/// The fewest bytes of a line of a list: a word, a blank, a digit and the end.
+const SHORTEST_LINE: usize = 4;
+
+/// The empty list, with room for the values of so many lines to come, and for no more than the text can hold.
+pub(crate) fn list_for<T: Copy>(alloc: Global, text: &Unread<'_>, count: u32) -> AnswerList<T>
+    ensures { result ≡ [] }
+{
+    let most = text.size() / SHORTEST_LINE;
+    AnswerList::with_capacity(alloc, count.min(most as u32))
 }
 
 /// Adds a value that was read.

@@ -42,6 +42,13 @@ impl<'a> Unread<'a> {
         }
     }
 
+    /// How many bytes they have.
+    pub(crate) fn size(&self) -> usize
+        ensures { result ≤ 2 ^ 23 + 1 }
+    {
+        self.bytes.len()
+    }
+
     /// That there are no more lines.
     pub(crate) fn end(&self) -> Result<(), ReadFault>
         ensures { Reads (λ x. x) result (no_lines (lines_left self.now)) }

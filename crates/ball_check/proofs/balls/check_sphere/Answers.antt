@@ -7,7 +7,7 @@ use Rattle.bounds_model.specs.Answers.{sphere}
 use Rattle.bounded_coords.specs.Clouds.{points_of}
 use Rattle.answers.specs.Answers.{weighted_of, sphere_of}
 use Rattle.answers.specs.declared.balls.Weighted.{Weighted}
-use Rattle.ball_check.specs.HeldBalls.{HoldsBall, IsHeld}
+use Rattle.ball_check.specs.HeldBalls.{HoldsBall, AreSupportSums}
 use Rattle.ball_check.proofs.Supports.{some_supports, names_point, first_placed}
 use Rattle.ball_check.proofs.BallPassing.{sphere_decided, sphere_holds, map_same}
 use Rattle.ball_check.proofs.balls.check_sphere.Goals as goal
@@ -27,7 +27,7 @@ returns-in-Some-clause-passes c =
     let a : SphereAnswer = record { size = c.args.a.now.size; centre = c.args.a.now.center; supports = map weighted_of supports } in
     let is : a ≡ sphere_of c.args.a.now = ap (λ ss. let b : SphereAnswer = record { size = c.args.a.now.size; centre = c.args.a.now.center; supports = map weighted_of ss } in b) c.as_slice-supports.ensures.value in
     let first = subst (λ ps. first_support ps (map weighted_of supports) ≡ c.at.result.now) (map_same points) (first_placed (λ (p : SpacePoint). p) points supports none c.at.result.now (some_supports supports c.in-Some.ensures.0.limits.some) c.at.ensures) in
-    let held = subst (λ ps. HoldsBall 3 ps a.supports a.size × IsHeld 3 ps a.supports c.in-Some.held) (map_same points) c.in-Some.ensures in
+    let held = subst (λ ps. HoldsBall 3 ps a.supports a.size × AreSupportSums 3 ps a.supports c.in-Some.held) (map_same points) c.in-Some.ensures in
     let four = subst (λ n. n ≤ 4) (sym (length-map supports weighted_of)) c.as_slice-supports.ensures.fits in
     subst (λ b. IsTrue c.is_space_centre.result ↔ PassesSphere points b) is (sphere_decided points a c.in-Some.held c.at.result.now c.args.cloud.limited four held first c.is_space_centre.ensures)
 

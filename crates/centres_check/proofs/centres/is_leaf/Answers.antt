@@ -5,11 +5,11 @@ use Rattle.bounds_model.specs.Plane.{PlanePoint, point_at, origin}
 use Rattle.bounds_model.specs.CentresAnswer.{AreFar}
 use Rattle.bounded_coords.specs.Clouds.{points_of}
 use Rattle.corner_squares.specs.declared.square.Square.{Square}
-use Rattle.corner_squares.specs.Squares.{IsHeld}
+use Rattle.corner_squares.specs.Squares.{IsCovered}
 use Rattle.centres_check.specs.CentresLimits.{IsFreePair}
 use Rattle.centres_check.proofs.centres.is_leaf.Goals as goal
 
-free_points : {yes : Bool} (side : ℕ) (points : List PlanePoint) (squares : List Square) (i j : ℕ) (p q : PlanePoint) → slice_get points i ≡ Some p → slice_get points j ≡ Some q → ¬ IsHeld squares p → ¬ IsHeld squares q
+free_points : {yes : Bool} (side : ℕ) (points : List PlanePoint) (squares : List Square) (i j : ℕ) (p q : PlanePoint) → slice_get points i ≡ Some p → slice_get points j ≡ Some q → ¬ IsCovered squares p → ¬ IsCovered squares q
     → (IsTrue yes ↔ AreFar side p q) → IsTrue yes ↔ IsFreePair side squares (point_at points i) (point_at points j)
 free_points {yes} side points squares i j p q at_i at_j first second h =
     let pair : IsTrue yes ↔ IsFreePair side squares p q = (λ t. record { first = first; second = second; far = h.0 t }, λ free. h.1 free.far) in

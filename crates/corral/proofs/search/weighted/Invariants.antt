@@ -1,5 +1,5 @@
 use Rattle.std.proofs.Common.{◌≡◌, length, take}
-use Rattle.corral.specs.Held.{names, weights}
+use Rattle.corral.specs.WeightedItems.{names, weights}
 use Rattle.corral.specs.Balances.{candidate_names}
 use Rattle.corral.proofs.search.weighted.Given as goal
 

@@ -1,7 +1,7 @@
 use Rattle.std.proofs.Common.{◌≡◌, sym, subst, ◌+◌, ◌^◌, [], ◌∷◌, ℤ, pos, ◌+ℤ◌, w64, to_z, of_z, arith}
 use Rattle.integers.specs.Size.{Size}
 use Rattle.integers.proofs.MachineArithmetic.{given, with_inputs, codes, computes}
-use Rattle.extremal_kgon.specs.Rows.{at, IsReach}
+use Rattle.extremal_kgon.specs.Rows.{at, IsBestSum}
 use Rattle.extremal_kgon.proofs.Reading.{kept64}
 use Rattle.extremal_kgon.proofs.Reaching.{reach-none, reach-max}
 use Rattle.extremal_kgon.proofs.rows.reach.Goals as goal
@@ -16,8 +16,8 @@ machine_sum s t = with_inputs (given s ∷ given t ∷ []) (λ xs h u a. simp (u
 pub earlier-preserved : goal.earlier-preserved
 earlier-preserved c =
     let sum = machine_sum (c.requires.before c.earlier.j (pos 0) (omega (arith, c.requires.place, c.earlier-test.true))) (c.requires.areas (c.args.start + c.earlier.j) (pos 0) (omega (arith, c.requires.end, c.earlier-test.true))) in
-    subst (IsReach (λ j. at c.args.areas.now (c.args.start + j)) c.args.before.now (c.earlier.j + 1)) (sym (kept64 {z = c.max-most.result} c.max-most.type_inv))
+    subst (IsBestSum (λ j. at c.args.areas.now (c.args.start + j)) c.args.before.now (c.earlier.j + 1)) (sym (kept64 {z = c.max-most.result} c.max-most.type_inv))
     (reach-max (λ j. at c.args.areas.now (c.args.start + j)) c.args.before.now c.earlier.j (to_z w64 c.earlier.most-bits) _ c.max-most.result c.earlier.invariant c.max-most.ensures sum)
 
 pub returns : goal.returns
-returns c = let all : c.earlier.j ≡ c.args.i = omega arith in subst (λ n. IsReach (λ j. at c.args.areas.now (c.args.start + j)) c.args.before.now n (to_z w64 c.earlier.most-bits)) all c.earlier.invariant
+returns c = let all : c.earlier.j ≡ c.args.i = omega arith in subst (λ n. IsBestSum (λ j. at c.args.areas.now (c.args.start + j)) c.args.before.now n (to_z w64 c.earlier.most-bits)) all c.earlier.invariant

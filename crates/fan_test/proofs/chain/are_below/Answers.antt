@@ -17,19 +17,11 @@ returns-then-cones-eq1 g c =
       λ all. refl,
     )
 
-pub returns-then-cones-eq2 : goal.returns-then-cones-eq2
-returns-then-cones-eq2 g c =
-    let D = g.C.Chain.directions c.args.chain.now in
-    let H = g.C.Chain.points c.args.chain.now in (
-      λ yes. λ k d l. of_parts D H c.args.from c.args.to _ (c.are_within.ensures.0 c.if-not-are_within.false k d l)
-          (one_inner D H c.args.from c.args.to _ (omega arith) (c.are_within-then-cones-eq2.ensures.0 yes k d l)),
-      λ all. c.are_within-then-cones-eq2.ensures.1 (λ k d l. inner_part D H c.args.from c.args.to _ (all k d l) c.args.from (omega arith) (omega arith)),
-    )
-
 pub returns : goal.returns
 returns g c =
     let D = g.C.Chain.directions c.args.chain.now in
     let H = g.C.Chain.points c.args.chain.now in (
-      λ yes. λ k d l. of_parts D H c.args.from c.args.to _ (c.are_within.ensures.0 c.if-not-are_within.false k d l) (c.are_below_inner.ensures.0 yes k d l),
-      λ all. c.are_below_inner.ensures.1 (λ k d l. inner_part D H c.args.from c.args.to _ (all k d l)),
+      λ yes. λ k d l. of_parts D H c.args.from c.args.to _ (c.are_within.ensures.0 c.if-not-are_within.false k d l)
+          (one_inner D H c.args.from c.args.to _ (omega arith) (c.are_within-2.ensures.0 yes k d l)),
+      λ all. c.are_within-2.ensures.1 (λ k d l. inner_part D H c.args.from c.args.to _ (all k d l) c.args.from (omega arith) (omega arith)),
     )

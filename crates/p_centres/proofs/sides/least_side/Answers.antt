@@ -1,4 +1,4 @@
-use Rattle.std.proofs.Common.{length, refl, arith}
+use Rattle.std.proofs.Common.{length, refl}
 use Rattle.bounded_coords.specs.Clouds.{counted_points}
 use Rattle.p_centres.proofs.Halving.{not_all_held, tries_at_first, one_try_less, steps_in_all}
 use Rattle.p_centres.proofs.sides.least_side.Goals as goal

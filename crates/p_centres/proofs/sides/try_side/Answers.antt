@@ -1,4 +1,4 @@
-use Rattle.std.proofs.Common.{sym, subst, ap, refl, ◌≡◌, ◌+◌, ◌-◌, ◌^◌, ◌≤◌, length, [], arith}
+use Rattle.std.proofs.Common.{subst, ap, refl, ◌≡◌, ◌+◌, ◌-◌, length, [], arith}
 use Rattle.bounded_coords.specs.Clouds.{counted_points}
 use Rattle.p_centres.specs.Covers.{IsCover, IsRefuted}
 use Rattle.p_centres.proofs.Halving.{bracket_lowered, bracket_raised, room_for_tree, tree_steps}

@@ -1,4 +1,4 @@
-use Rattle.std.proofs.Common.{length, pos, refl, sym, subst, ◌≡◌, arith}
+use Rattle.std.proofs.Common.{pos, refl, sym, subst, ◌≡◌, arith}
 use Rattle.p_centres.specs.Covers.{IsFilledUp}
 use Rattle.p_centres.proofs.Filling.{not_yet, one_again, first_there}
 use Rattle.p_centres.proofs.squares.filled_up.Goals as goal

@@ -1,7 +1,7 @@
-use Rattle.std.proofs.Common.{arith, subst, length, ◌≤◌, refl}
+use Rattle.std.proofs.Common.{arith, subst, length}
 use Rattle.bounded_coords.specs.Clouds.{counted_points}
 use Rattle.corner_squares.specs.Extents.{IsBox}
-use Rattle.p_centres.specs.Surveys.{IsNoLonger, IsFarPair}
+use Rattle.p_centres.specs.Surveys.{IsFarPair}
 use Rattle.p_centres.proofs.Covering.{cover_now, cover_with_one_more, refuted_by_pair}
 use Rattle.p_centres.proofs.tree.cover_rest.Goals as goal
 

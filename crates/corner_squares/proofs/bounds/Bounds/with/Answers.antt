@@ -1,4 +1,4 @@
-use Rattle.std.proofs.Common.{◌≡◌, subst, SFits, w32, rules}
+use Rattle.std.proofs.Common.{subst, SFits, w32, rules}
 use Rattle.std.proofs.lemmas.Int.{to_z-of_z}
 use Rattle.corner_squares.specs.Extents.{Sees}
 use Rattle.corner_squares.proofs.bounds.Bounds.with.Goals as goal

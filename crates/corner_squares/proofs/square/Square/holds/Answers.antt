@@ -4,7 +4,6 @@ use Rattle.bounds_model.specs.Plane.{PlanePoint}
 use Rattle.bounds_model.specs.CentresAnswer.{Square, holds}
 use Rattle.corner_squares.specs.Squares.{square_of}
 use Rattle.corner_squares.proofs.Holding.{between_sides}
-use Rattle.corner_squares.proofs.Boxes.{corner_is, IsBox-more, IsBox-start, IsBox-same}
 use Rattle.corner_squares.proofs.square.Square.holds.Goals as goal
 
 -- what is between the left and the right side is held where it is between the lower and the upper one

@@ -1,0 +1,62 @@
+-- What is no further out than a point of an arc in the arc's first and last direction is below the arc.
+use Rattle.std.proofs.Common.{◌≡◌, refl, sym, subst, inl, inr, ℕ, zero, suc, ◌+◌, ◌-◌, ◌<◌, ◌≤◌, pos, ◌≤ℤ◌, arith, add-one}
+use Rattle.integers.proofs.Order.{nonneg_from_positive, le_trans_ℤ, le_of_same}
+use Rattle.bounds_model.specs.Plane.{PlanePoint, dot, cross}
+use Rattle.fan_test.specs.Chains.{Turns, IsWithinEach, IsArc}
+use Rattle.fan_test.proofs.Arcs.{between, below_or_same, falls, inner, of_parts}
+use Rattle.fan_test.proofs.Steps.{beside}
+
+-- no direction of an arc is to the right of the first
+not_right : (D H : ℕ → PlanePoint) (from to i : ℕ) → IsArc D H from to → from ≤ i → i < to → pos 0 ≤ℤ cross (D from) (D i)
+not_right D H from to i arc low high = beside D H from (i + 1) i refl (omega arith) (shorter arc)
+  where
+    shorter : IsArc D H from to → IsArc D H from (i + 1)
+    shorter arc = record { left = λ k l h. arc.left k l (omega (arith, high)); edges = λ k l h. arc.edges k l (omega (arith, high)) }
+
+-- where q is as far out as p in the first direction and in another one, it is in all between them
+nearer : (D H : ℕ → PlanePoint) (from to : ℕ) (p q : PlanePoint) → Turns D to → IsArc D H from to → dot (D from) p ≤ℤ dot (D from) q
+    → (j : ℕ) → j < to → dot (D j) p ≤ℤ dot (D j) q → (i : ℕ) → from ≤ i → i ≤ j → dot (D i) p ≤ℤ dot (D i) q
+nearer D H from to p q turns arc first zero high last i low below = subst (λ k. dot (D k) p ≤ℤ dot (D k) q) (none i below) last
+  where
+    none : (i : ℕ) → i ≤ 0 → 0 ≡ i
+    none i h = omega arith
+nearer D H from to p q turns arc first (suc j) high last i low below = elim (below_or_same i j below) [
+  | inl less ↦ nearer D H from to p q turns arc first j (omega arith)
+      (between (D from) (D j) (D (j + 1)) p q (arc.left j (omega arith) (omega arith)) (not_right D H from to j arc (omega arith) (omega arith))
+      (nonneg_from_positive (turns j (omega arith))) first (subst (λ k. dot (D k) p ≤ℤ dot (D k) q) (sym (add-one j)) last))
+      i low less
+  | inr same ↦ subst (λ k. dot (D k) p ≤ℤ dot (D k) q) (sym same) last
+]
+
+-- the points of an arc are below it
+on_arc : (D H : ℕ → PlanePoint) (from to k : ℕ) → Turns D to → IsArc D H from to → from ≤ k → k + 1 < to → IsWithinEach D H from to (H (k + 1))
+on_arc D H from to k turns arc low high =
+    of_parts D H from to (H (k + 1)) (falls D H from to arc from (k + 1) (omega arith) (omega arith) high)
+    (inner D H from to (H (k + 1)) k turns arc (record {
+      after = low;
+      before = high;
+      begin = inr (arc.edges k low high).falling;
+      end = inr (le_of_same refl);
+    }) (le_of_same refl))
+
+-- what one of them dominates is below the arc
+dominated_by : (D H : ℕ → PlanePoint) (from to k m : ℕ) (p : PlanePoint) → m ≡ k + 1 → Turns D to → IsArc D H from to → from ≤ k → k + 1 < to
+    → dot (D from) p ≤ℤ dot (D from) (H m) → dot (D (to - 1)) p ≤ℤ dot (D (to - 1)) (H m) → IsWithinEach D H from to p
+dominated_by D H from to k m p is turns arc low high first last i above below =
+    le_trans_ℤ (nearer D H from to p (H m) turns arc first (to - 1) (omega arith) last i above (omega arith))
+    (subst (λ j. dot (D i) (H j) ≤ℤ dot (D i) (H i)) (sym is) (on_arc D H from to k turns arc low high i above below))
+
+dominated : (D H : ℕ → PlanePoint) (from to m : ℕ) (p : PlanePoint) → Turns D to → IsArc D H from to → from < m → m < to
+    → dot (D from) p ≤ℤ dot (D from) (H m) → dot (D (to - 1)) p ≤ℤ dot (D (to - 1)) (H m) → IsWithinEach D H from to p
+dominated D H from to m p turns arc low high first last =
+    dominated_by D H from to (m - 1) m p (omega arith) turns arc (omega arith) (omega arith) first last
+
+-- a direction and a point under other names
+no_further : (d e p q r : PlanePoint) → d ≡ e → q ≡ r → dot d p ≤ℤ dot d q → dot e p ≤ℤ dot e r
+no_further d e p q r same is h = subst (λ z. dot e p ≤ℤ dot e z) is (subst (λ z. dot z p ≤ℤ dot z q) same h)
+
+-- what a point of the arc dominates in its first and its last direction is below the arc
+pub dominated_at : (D H : ℕ → PlanePoint) (from to m : ℕ) (first last q p : PlanePoint) → Turns D to → IsArc D H from to → from < m → m < to
+    → first ≡ D from → last ≡ D (to - 1) → q ≡ H m → (dot first p ≤ℤ dot first q) × (dot last p ≤ℤ dot last q) → IsWithinEach D H from to p
+dominated_at D H from to m first last q p turns arc low high is_first is_last is_q both =
+    dominated D H from to m p turns arc low high (no_further first (D from) p q (H m) is_first is_q both.0) (no_further last (D (to - 1)) p q (H m) is_last is_q both.1)
