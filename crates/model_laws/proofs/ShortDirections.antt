@@ -26,7 +26,8 @@ use Rattle.model_laws.proofs.DecideFans.{short}
 side : (p q x y limit : ℕ) → IsGcd y x 1 → x * p ≡ y * q → 0 < p + q → p ≤ limit → y ≤ limit
 side zero zero x y limit g e some h = absurd (omega (arith, some))
 side zero (suc q) x y limit g e some h = omega (arith, e)
-side (suc p) q x y limit g e some h = up y (suc p) limit (le_of_dvd (positive p) (dvd_of_dvd-mul y x (suc p) g (subst (λ n. y ∣ n) (other y q ∙ sym e) (dvd-mul_left y q)))) h
+side (suc p) q x y limit g e some h =
+    up y (suc p) limit (le_of_dvd (positive p) (dvd_of_dvd-mul y x (suc p) g (subst (λ n. y ∣ n) (other y q ∙ sym e) (dvd-mul_left y q)))) h
   where
     positive : (p : ℕ) → 0 < suc p
     positive p = omega arith
@@ -39,7 +40,8 @@ side (suc p) q x y limit g e some h = up y (suc p) limit (le_of_dvd (positive p)
 
 -- a sum of two products that is 0 has products of one magnitude
 magnitudes : (p q x y : ℤ) → p *ℤ x +ℤ q *ℤ y ≡ pos 0 → nat_abs x * nat_abs p ≡ nat_abs y * nat_abs q
-magnitudes p q x y e = turned (nat_abs x) (nat_abs p) ∙ sym (unsigned_abs-mul p x) ∙ opposite (p *ℤ x) (q *ℤ y) e ∙ unsigned_abs-mul q y ∙ turned (nat_abs q) (nat_abs y)
+magnitudes p q x y e =
+    turned (nat_abs x) (nat_abs p) ∙ sym (unsigned_abs-mul p x) ∙ opposite (p *ℤ x) (q *ℤ y) e ∙ unsigned_abs-mul q y ∙ turned (nat_abs q) (nat_abs y)
   where
     turned : (a b : ℕ) → a * b ≡ b * a
     turned a b = omega arith
@@ -64,11 +66,16 @@ IsSmall limit d = (nat_abs d.x ≤ limit) × (nat_abs d.y ≤ limit)
 within_limit : (p q : ℤ) (d : PlanePoint) (limit : ℕ) → HaveNoCommonFactor (d.x ∷ d.y ∷ []) → 0 < nat_abs p + nat_abs q → p *ℤ d.x +ℤ q *ℤ d.y ≡ pos 0
     → nat_abs p ≤ limit → nat_abs q ≤ limit → IsSmall limit d
 within_limit p q d limit lowest some e hp hq = (
-  side (nat_abs q) (nat_abs p) (nat_abs d.y) (nat_abs d.x) limit (IsGcd-one (nat_abs d.x) (nat_abs d.y) (λ k a b. common k a b)) (sym (magnitudes p q d.x d.y e)) (other (nat_abs p) (nat_abs q) some) hq,
-  side (nat_abs p) (nat_abs q) (nat_abs d.x) (nat_abs d.y) limit (IsGcd-one (nat_abs d.y) (nat_abs d.x) (λ k b a. common k a b)) (magnitudes p q d.x d.y e) some hp)
+  side (nat_abs q) (nat_abs p) (nat_abs d.y) (nat_abs d.x) limit (IsGcd-one (nat_abs d.x) (nat_abs d.y) (λ k a b. common k a b)) (sym
+      (magnitudes p q d.x d.y e)) (other (nat_abs p) (nat_abs q) some) hq,
+  side (nat_abs p) (nat_abs q) (nat_abs d.x) (nat_abs d.y) limit (IsGcd-one (nat_abs d.y) (nat_abs d.x) (λ k b a. common k a b))
+      (magnitudes p q d.x d.y e) some hp,
+)
   where
     common : (k : ℕ) → k ∣ nat_abs d.x → k ∣ nat_abs d.y → k ≡ 1
-    common k a b = lowest k (All-cons (λ (z : ℤ). k ∣ nat_abs z) d.x (d.y ∷ []) a (All-cons (λ (z : ℤ). k ∣ nat_abs z) d.y [] b (All-nil (λ (z : ℤ). k ∣ nat_abs z))))
+    common k a b =
+        lowest k (All-cons (λ (z : ℤ). k ∣ nat_abs z) d.x (d.y ∷ []) a (All-cons (λ (z : ℤ). k ∣ nat_abs z) d.y [] b (All-nil (λ
+        (z : ℤ). k ∣ nat_abs z))))
 
     other : (a b : ℕ) → 0 < a + b → 0 < b + a
     other a b h = omega arith
@@ -79,7 +86,8 @@ corner_in_plane : (corners : List PlanePoint) → All IsInPlane corners → 0 < 
 corner_in_plane corners all some i = all (i % length corners) origin (grind arith)
 
 edge_is_small : (corners : List PlanePoint) → All IsInPlane corners → 0 < length corners → (i : ℕ) → IsSmall 400000 (edge corners i)
-edge_is_small corners all some i = between (around corners i) (around corners (i + 1)) (corner_in_plane corners all some i) (corner_in_plane corners all some (i + 1))
+edge_is_small corners all some i =
+    between (around corners i) (around corners (i + 1)) (corner_in_plane corners all some i) (corner_in_plane corners all some (i + 1))
   where
     apart : (a b : ℤ) → IsWithin 200000 a → IsWithin 200000 b → nat_abs (b -ℤ a) ≤ 400000
     apart a b h k = let hl = h.low in let hh = h.high in let kl = k.low in let kh = k.high in omega (arith, ints)
@@ -93,7 +101,8 @@ is_short d h = record { x = within d.x h.0; y = within d.y h.1 }
     within : (z : ℤ) → nat_abs z ≤ 400000 → IsWithin 400000 z
     within z h = record { low = omega (arith, ints); high = omega (arith, ints) }
 
-upright_is_short : (corners : List PlanePoint) → All IsInPlane corners → (d : PlanePoint) → HaveNoCommonFactor (d.x ∷ d.y ∷ []) → SomeIndex corners (λ i. IsUpright (edge corners i) d) → IsShort d
+upright_is_short : (corners : List PlanePoint) → All IsInPlane corners → (d : PlanePoint) → HaveNoCommonFactor (d.x ∷ d.y ∷ [])
+    → SomeIndex corners (λ i. IsUpright (edge corners i) d) → IsShort d
 upright_is_short corners all d lowest s =
     let e = edge corners s.0 in
     let small = edge_is_small corners all (some s.0 (length corners) s.1) s.0 in
@@ -102,7 +111,8 @@ upright_is_short corners all d lowest s =
     some : (i n : ℕ) → i < n → 0 < n
     some i n l = omega arith
 
-either_is_short : (corners : List PlanePoint) → All IsInPlane corners → (d : PlanePoint) → HaveNoCommonFactor (d.x ∷ d.y ∷ []) → SomeIndex corners (λ i. IsUprightOrAlong (edge corners i) d) → IsShort d
+either_is_short : (corners : List PlanePoint) → All IsInPlane corners → (d : PlanePoint) → HaveNoCommonFactor (d.x ∷ d.y ∷ [])
+    → SomeIndex corners (λ i. IsUprightOrAlong (edge corners i) d) → IsShort d
 either_is_short corners all d lowest s =
     let small = edge_is_small corners all (some s.0 (length corners) s.1) s.0 in
     by_side (edge corners s.0) d lowest s.2.long small s.2.upright
@@ -119,11 +129,13 @@ either_is_short corners all d lowest s =
     other : (p q q' : ℕ) → q' ≡ q → 0 < p + q → 0 < q' + p
     other p q q' e h = omega arith
 
-    by_side : (e d : PlanePoint) → HaveNoCommonFactor (d.x ∷ d.y ∷ []) → e ≢ origin → IsSmall 400000 e → (dot e d ≡ pos 0) ⊎ (cross e d ≡ pos 0) → IsShort d
+    by_side : (e d : PlanePoint) → HaveNoCommonFactor (d.x ∷ d.y ∷ []) → e ≢ origin → IsSmall 400000 e → (dot e d ≡ pos 0) ⊎ (cross e d ≡ pos 0)
+        → IsShort d
     by_side e d lowest long small (inl upright) = is_short d (within_limit e.x e.y d 400000 lowest (some_part e long) upright small.0 small.1)
     by_side e d lowest long small (inr along) =
         is_short d
-        (within_limit (neg_ℤ e.y) e.x d 400000 lowest (other (nat_abs e.x) (nat_abs e.y) (nat_abs (neg_ℤ e.y)) (same_size e.y) (some_part e long)) (turned e.x e.y d.x d.y ∙ along)
+        (within_limit (neg_ℤ e.y) e.x d 400000 lowest (other (nat_abs e.x) (nat_abs e.y) (nat_abs (neg_ℤ e.y)) (same_size e.y)
+        (some_part e long)) (turned e.x e.y d.x d.y ∙ along)
         (subst (λ n. n ≤ 400000) (sym (same_size e.y)) small.1) small.0)
 
 -- ---- all directions: the first, the last and those between
@@ -138,15 +150,22 @@ each_direction ds first last turning at_first at_last inner i d l = subst IsShor
     by_place : (i : ℕ) → i < length ds → IsShort (point_at ds i)
     by_place zero l = subst IsShort (sym turning.begins) at_first
     by_place (suc i) l =
-        elim (last_or_inner (suc i) (length ds) (omega arith) l) [ inl m ↦ inner (suc i) (omega arith) m | inr e ↦ subst (λ j. IsShort (point_at ds j)) (sym e) (subst IsShort (sym turning.ends) at_last) ]
+        elim (last_or_inner (suc i) (length ds) (omega arith) l) [
+          | inl m ↦ inner (suc i) (omega arith) m
+          | inr e ↦ subst (λ j. IsShort (point_at ds j)) (sym e) (subst IsShort (sym turning.ends) at_last)
+        ]
 
-lowest_at : (ds : List PlanePoint) → All (λ d. HaveNoCommonFactor (d.x ∷ d.y ∷ [])) ds → (i : ℕ) → i + 1 < length ds → HaveNoCommonFactor ((point_at ds i).x ∷ (point_at ds i).y ∷ [])
+lowest_at : (ds : List PlanePoint) → All (λ d. HaveNoCommonFactor (d.x ∷ d.y ∷ [])) ds → (i : ℕ) → i + 1 < length ds
+    → HaveNoCommonFactor ((point_at ds i).x ∷ (point_at ds i).y ∷ [])
 lowest_at ds all i l = all i origin (omega (arith, l))
 
 pub half_is_short : PlainHalfFansAreShort
 half_is_short corners ds bounds turning plain =
     each_direction ds east west turning (by_test (short east) refl) (by_test (short west) refl)
-    (λ i p l. elim (plain.no_others i p l) [ inl e ↦ subst IsShort (sym e) (by_test (short north) refl) | inr s ↦ upright_is_short corners bounds (point_at ds i) (lowest_at ds plain.lowest i l) s ])
+    (λ i p l. elim (plain.no_others i p l) [
+      | inl e ↦ subst IsShort (sym e) (by_test (short north) refl)
+      | inr s ↦ upright_is_short corners bounds (point_at ds i) (lowest_at ds plain.lowest i l) s
+    ])
 
 pub quarter_is_short : PlainQuarterFansAreShort
 quarter_is_short corners ds bounds turning plain =

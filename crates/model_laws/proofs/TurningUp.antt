@@ -30,12 +30,17 @@ abbrev pub Turns : List PlanePoint → Type 0
 Turns ds = EachBelow (length ds - 1) (λ i. pos 0 <ℤ cross (point_at ds i) (point_at ds (i + 1)))
 
 -- so each later direction is to the left of an earlier one
-pub ordered : (ds : List PlanePoint) → Turns ds → EachInner ds (λ d. pos 0 <ℤ d.y) → (i k : ℕ) → 0 < i → i < k → k + 1 < length ds → pos 0 <ℤ cross (point_at ds i) (point_at ds k)
+pub ordered : (ds : List PlanePoint) → Turns ds → EachInner ds (λ d. pos 0 <ℤ d.y) → (i k : ℕ) → 0 < i → i < k → k + 1 < length ds
+    → pos 0 <ℤ cross (point_at ds i) (point_at ds k)
 ordered ds turns above i zero p l b = absurd (none i l)
   where
     none : (i : ℕ) → i < 0 → ⊥
     none i l = omega arith
-ordered ds turns above i (suc k) p l b = elim (split i k l) [ inl m ↦ onward m (ordered ds turns above i k p m (omega (arith, b))) | inr e ↦ subst (λ j. pos 0 <ℤ cross (point_at ds j) (point_at ds (suc k))) (sym e) next ]
+ordered ds turns above i (suc k) p l b =
+    elim (split i k l) [
+      | inl m ↦ onward m (ordered ds turns above i k p m (omega (arith, b)))
+      | inr e ↦ subst (λ j. pos 0 <ℤ cross (point_at ds j) (point_at ds (suc k))) (sym e) next
+    ]
   where
     split : (i k : ℕ) → i < suc k → (i < k) ⊎ (i ≡ k)
     split i k l = grind arith
@@ -53,12 +58,14 @@ ordered ds turns above i (suc k) p l b = elim (split i k l) [ inl m ↦ onward m
 
 -- ---- two directions at right angles to one vector are on one line, and one at right angles to it and one along it are at right angles
 
-pub parallel : (p q ux uy wx wy : ℤ) → pos 0 <ℤ (p *ℤ p +ℤ q *ℤ q) → p *ℤ ux +ℤ q *ℤ uy ≡ pos 0 → p *ℤ wx +ℤ q *ℤ wy ≡ pos 0 → ux *ℤ wy -ℤ uy *ℤ wx ≡ pos 0
+pub parallel : (p q ux uy wx wy : ℤ) → pos 0 <ℤ (p *ℤ p +ℤ q *ℤ q) → p *ℤ ux +ℤ q *ℤ uy ≡ pos 0 → p *ℤ wx +ℤ q *ℤ wy ≡ pos 0
+    → ux *ℤ wy -ℤ uy *ℤ wx ≡ pos 0
 parallel p q ux uy wx wy long hu hw =
     same_of_mul (p *ℤ p +ℤ q *ℤ q) long (combine2 (p *ℤ wy -ℤ q *ℤ wx) (q *ℤ ux -ℤ p *ℤ uy) hu hw
     (read (p ∷ q ∷ ux ∷ uy ∷ wx ∷ wy ∷ []) (λ xs a b c d e f. simp (a, b, c, d, e, f, lits xs, polys) (den-ring xs _ _ tt))))
 
-pub across : (p q ux uy wx wy : ℤ) → pos 0 <ℤ (p *ℤ p +ℤ q *ℤ q) → p *ℤ ux +ℤ q *ℤ uy ≡ pos 0 → p *ℤ wy -ℤ q *ℤ wx ≡ pos 0 → ux *ℤ wx +ℤ uy *ℤ wy ≡ pos 0
+pub across : (p q ux uy wx wy : ℤ) → pos 0 <ℤ (p *ℤ p +ℤ q *ℤ q) → p *ℤ ux +ℤ q *ℤ uy ≡ pos 0 → p *ℤ wy -ℤ q *ℤ wx ≡ pos 0
+    → ux *ℤ wx +ℤ uy *ℤ wy ≡ pos 0
 across p q ux uy wx wy long hu hw =
     same_of_mul (p *ℤ p +ℤ q *ℤ q) long (combine2 (p *ℤ wx +ℤ q *ℤ wy) (p *ℤ uy -ℤ q *ℤ ux) hu hw
     (read (p ∷ q ∷ ux ∷ uy ∷ wx ∷ wy ∷ []) (λ xs a b c d e f. simp (a, b, c, d, e, f, lits xs, polys) (den-ring xs _ _ tt))))
