@@ -128,20 +128,3 @@ too_heavy = by_one_failure (annulus_passes (at 0 0 ∷ []) (around_origin (pos 1
 
 second_beyond : ¬ PassesAnnulus (at 0 0 ∷ []) (around_origin (pos 1) (pos 0) 1 (fraction 1 1) (pair 0 9 1))
 second_beyond = by_one_failure (annulus_passes (at 0 0 ∷ []) (around_origin (pos 1) (pos 0) 1 (fraction 1 1) (pair 0 9 1))) refl refl
-
--- ---- places
-
-in_places : AnnulusPlaces (with_pairs (pair 9999 9999 (2 ^ 126) ∷ []))
-in_places = by_test (annulus_places (with_pairs (pair 9999 9999 (2 ^ 126) ∷ []))) refl
-
-first_past : ¬ AnnulusPlaces (with_pairs (pair 10000 0 1 ∷ []))
-first_past = by_one_failure (annulus_places (with_pairs (pair 10000 0 1 ∷ []))) refl refl
-
-second_past : ¬ AnnulusPlaces (with_pairs (pair 0 10000 1 ∷ []))
-second_past = by_one_failure (annulus_places (with_pairs (pair 0 10000 1 ∷ []))) refl refl
-
-weight_past : ¬ AnnulusPlaces (with_pairs (pair 0 0 (2 ^ 126 + 1) ∷ []))
-weight_past = by_one_failure (annulus_places (with_pairs (pair 0 0 (2 ^ 126 + 1) ∷ []))) refl refl
-
-negative_weight : ¬ AnnulusPlaces (with_pairs (signed_pair 0 0 (minus 1) ∷ []))
-negative_weight = by_one_failure (annulus_places (with_pairs (signed_pair 0 0 (minus 1) ∷ []))) refl refl

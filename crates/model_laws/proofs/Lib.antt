@@ -70,3 +70,4 @@ pub mod ExampleClaims
 pub mod ExampleBest
 pub mod ExampleAsks
 pub mod ExampleChosenClaims
+pub mod ExampleAnnulusPlaces
