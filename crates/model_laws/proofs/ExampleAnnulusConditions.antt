@@ -2,10 +2,10 @@
 use Rattle.std.proofs.Common.{refl, ℕ, ◌+◌, ◌*◌, ◌^◌, ℤ, pos, List, [], ◌∷◌}
 use Rattle.bounds_model.specs.Plane.{PlanePoint, PlaneRatio}
 use Rattle.bounds_model.specs.Fractions.{Fraction}
-use Rattle.bounds_model.specs.AnnulusAnswer.{WeightedPair, AnnulusAnswer, AnnulusPlaces, PassesAnnulus}
+use Rattle.bounds_model.specs.AnnulusAnswer.{WeightedPair, AnnulusAnswer, PassesAnnulus}
 use Rattle.model_laws.proofs.Decisions.{by_test, by_one_failure}
-use Rattle.model_laws.proofs.DecideDistance.{annulus_places, annulus_passes}
-use Rattle.model_laws.proofs.Literals.{minus, at, over, signed_over, fraction, pair, signed_pair}
+use Rattle.model_laws.proofs.DecideDistance.{annulus_passes}
+use Rattle.model_laws.proofs.Literals.{minus, at, over, signed_over, fraction, pair}
 
 abbrev ring : Fraction → PlaneRatio → Fraction → Fraction → List WeightedPair → AnnulusAnswer
 ring size centre inner outer pairs = record { size = size; centre = centre; inner = inner; outer = outer; pairs = pairs }

@@ -1,14 +1,13 @@
 -- A plain fan has few directions: each edge of the hull calls for one at most.
-use Rattle.std.proofs.Common.{◌≡◌, ◌≢◌, refl, sym, ◌∙◌, subst, ℕ, zero, suc, ◌+◌, ◌-◌, ◌<◌, ◌≤◌, ℤ, pos, neg_ℤ, ◌+ℤ◌, ◌-ℤ◌, ◌*ℤ◌, ◌≤ℤ◌, ◌<ℤ◌, List, [], ◌∷◌, length, arith}
+use Rattle.std.proofs.Common.{◌≡◌, ◌≢◌, sym, ◌∙◌, subst, ℕ, suc, ◌+◌, ◌-◌, ◌<◌, ◌≤◌, ℤ, pos, neg_ℤ, ◌+ℤ◌, ◌-ℤ◌, ◌*ℤ◌, ◌<ℤ◌, List, [], ◌∷◌, length, arith}
 use mathlib.Core.Logic.{inl, inr}
 use Rattle.std.specs.Prelude.{◌⊎◌, SomeIndex}
 use Rattle.std.proofs.lemmas.Int.{ints}
 use Rattle.integers.proofs.Identities.{den-ring, read, polys, lits}
-use Rattle.integers.proofs.Order.{positive_mul, positive_add, nonneg_from_positive, lt_of_mul_lt, same_of_mul, combine2}
-use Rattle.bounds_model.specs.Numbers.{EachBelow}
+use Rattle.integers.proofs.Order.{positive_mul, positive_add, nonneg_from_positive}
 use Rattle.bounds_model.specs.Plane.{PlanePoint, origin, point_at, dot, cross}
-use Rattle.bounds_model.specs.Fans.{TurnLeft, east, west, north}
-use Rattle.bounds_model.specs.PlainFans.{edge, IsUpright, IsUprightOrAlong, EachInner, IsPlainHalf, IsPlainQuarter}
+use Rattle.bounds_model.specs.Fans.{north}
+use Rattle.bounds_model.specs.PlainFans.{edge, IsUpright, IsUprightOrAlong}
 use Rattle.model_laws.specs.Laws.{PlainHalfFansAreFew, PlainQuarterFansAreFew}
 use Rattle.model_laws.proofs.Pigeonhole.{pigeonhole}
 use Rattle.model_laws.proofs.TurningUp.{ordered, parallel, across}

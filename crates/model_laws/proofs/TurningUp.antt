@@ -1,14 +1,13 @@
 -- Directions that point upwards: among them the left turn is an order. Directions at right angles to a vector, or along it.
-use Rattle.std.proofs.Common.{◌≡◌, ◌≢◌, refl, sym, ◌∙◌, subst, ℕ, zero, suc, ◌+◌, ◌-◌, ◌<◌, ◌≤◌, ℤ, pos, neg_ℤ, ◌+ℤ◌, ◌-ℤ◌, ◌*ℤ◌, ◌≤ℤ◌, ◌<ℤ◌, List, [], ◌∷◌, length, arith}
+use Rattle.std.proofs.Common.{◌≡◌, sym, subst, ℕ, zero, suc, ◌+◌, ◌-◌, ◌<◌, ℤ, pos, ◌+ℤ◌, ◌-ℤ◌, ◌*ℤ◌, ◌<ℤ◌, List, [], ◌∷◌, length, arith}
 use mathlib.Core.Logic.{inl, inr}
-use Rattle.std.specs.Prelude.{◌⊎◌, SomeIndex}
+use Rattle.std.specs.Prelude.{◌⊎◌}
 use Rattle.std.proofs.lemmas.Int.{ints}
 use Rattle.integers.proofs.Identities.{den-ring, read, polys, lits}
 use Rattle.integers.proofs.Order.{positive_mul, positive_add, nonneg_from_positive, lt_of_mul_lt, same_of_mul, combine2}
 use Rattle.bounds_model.specs.Numbers.{EachBelow}
-use Rattle.bounds_model.specs.Plane.{PlanePoint, origin, point_at, dot, cross}
-use Rattle.bounds_model.specs.Fans.{TurnLeft, east, west, north}
-use Rattle.bounds_model.specs.PlainFans.{edge, IsUpright, IsUprightOrAlong, EachInner, IsPlainHalf, IsPlainQuarter}
+use Rattle.bounds_model.specs.Plane.{PlanePoint, point_at, cross}
+use Rattle.bounds_model.specs.PlainFans.{EachInner}
 
 -- ---- turning left is an order among directions that point upwards
 
