@@ -147,12 +147,3 @@ fits_distance ps qs weights =
     (most_ℤ (pos 1) (total (λ w. w) weights.first)))))))
     (λ h. record { for_first = h.0; for_second = h.1.0; first = h.1.1.0; second = h.1.1.1.0; same_sum = h.1.1.1.1.0; sum = h.1.1.1.1.1 })
     (λ h. (h.for_first, (h.for_second, (h.first, (h.second, (h.same_sum, h.sum))))))
-
-abbrev pub dependence : (vectors : List SpacePoint) (numbers : List ℤ) → Decision (IsDependence vectors numbers)
-dependence vectors numbers =
-    like
-    (both (equal_ℕ (length numbers) (length vectors))
-    (both (negated (all (λ number. equal_ℤ number (pos 0)) numbers))
-    (both (equal_ℤ (total (λ number. number) numbers) (pos 0))
-    (same_space_point (weighted_sum (λ pair. pair.0) (λ pair. pair.1) (zip numbers vectors)) Space.origin))))
-    (λ h. record { as_many = h.0; some = h.1.0; sum = h.1.1.0; weighted = h.1.1.1 }) (λ h. (h.as_many, (h.some, (h.sum, h.weighted))))

@@ -16,6 +16,7 @@ pub mod Literals
 pub mod Pigeonhole
 pub mod TurningUp
 pub mod PlainFanLaw
+pub mod LowestDirections
 pub mod ShortDirections
 pub mod Turning
 pub mod CornerLaw
