@@ -27,7 +27,8 @@ turn_left first last ds =
 
 abbrev pub at_both_ends : {Cone : Type 0} {P : PlanePoint → Cone → Type 0} (ds : List PlanePoint) → ((d : PlanePoint) (cone : Cone) → Decision (P d cone)) → (cones : List Cone) → Decision (AtBothEnds ds P cones)
 at_both_ends {P = P} ds each cones =
-    all_numbered {P = λ i cone. P (point_at ds i) cone × P (point_at ds (i + 1)) cone} (λ i cone. together (each (point_at ds i) cone) (each (point_at ds (i + 1)) cone)) cones
+    all_numbered {P = λ i cone. P (point_at ds i) cone × P (point_at ds (i + 1)) cone} (λ i cone. together (each (point_at ds i) cone) (each
+    (point_at ds (i + 1)) cone)) cones
 
 abbrev pub holds_half : (points : List PlanePoint) (fan : HalfFan) → Decision (HoldsHalf points fan)
 holds_half points fan =
@@ -142,7 +143,8 @@ parallelogram_passes points a =
     (both (all short_chord a.chords)
     (both (holds_half points a.fan)
     (both (all_numbered {P = λ i chord. IsAcross points (point_at (half_directions a.fan) i) chord} (λ i chord. same_point _ _) a.chords)
-    (both (all_numbered {P = λ i cone. IsNotSmallerAt points a i cone × IsNotSmallerAt points a (i + 1) cone} (λ i cone. together (not_smaller_at points a i cone) (not_smaller_at points a (i + 1) cone)) a.fan.cones)
+    (both (all_numbered {P = λ i cone. IsNotSmallerAt points a i cone × IsNotSmallerAt points a (i + 1) cone} (λ i cone. together
+    (not_smaller_at points a i cone) (not_smaller_at points a (i + 1) cone)) a.fan.cones)
     (both (negated (equal_ℤ (cross a.first a.second) (pos 0)))
     (both (all (λ p. in_span a.first_bounds (dot a.first p)) points)
     (both (all (λ p. in_span a.second_bounds (dot a.second p)) points)

@@ -22,7 +22,9 @@ abbrev pub is_in_plane : (p : PlanePoint) → Decision (IsInPlane p)
 is_in_plane p = like (both (within plane_limit p.x) (within plane_limit p.y)) (λ h. record { x = h.0; y = h.1 }) (λ h. (h.x, h.y))
 
 abbrev pub is_in_space : (p : SpacePoint) → Decision (IsInSpace p)
-is_in_space p = like (both (within space_limit p.x) (both (within space_limit p.y) (within space_limit p.z))) (λ h. record { x = h.0; y = h.1.0; z = h.1.1 }) (λ h. (h.x, (h.y, h.z)))
+is_in_space p =
+    like (both (within space_limit p.x) (both (within space_limit p.y) (within space_limit p.z)))
+    (λ h. record { x = h.0; y = h.1.0; z = h.1.1 }) (λ h. (h.x, (h.y, h.z)))
 
 abbrev pub printed : (size p : Fraction) → Decision (IsPrintedSize size p)
 printed size p = like (both (lowest p) (same_value p size)) (λ h. record { lowest = h.0; same = h.1 }) (λ h. (h.lowest, h.same))
@@ -33,7 +35,9 @@ fits_ball points ball =
     (λ h. record { denominator = h.0; radius = h.1.0; inside = h.1.1 }) (λ h. (h.denominator, (h.radius, h.inside)))
 
 abbrev pub fits_circle : (points : List PlanePoint) (circle : Ball) → Decision (FitsCircle points circle)
-fits_circle points circle = like (both (equal_ℤ circle.centre.z (pos 0)) (fits_ball (map flat points) circle)) (λ h. record { in_plane = h.0; ball = h.1 }) (λ h. (h.in_plane, h.ball))
+fits_circle points circle =
+    like (both (equal_ℤ circle.centre.z (pos 0)) (fits_ball (map flat points) circle))
+    (λ h. record { in_plane = h.0; ball = h.1 }) (λ h. (h.in_plane, h.ball))
 
 abbrev pub fits_strip : (points : List PlanePoint) (strip : Strip) → Decision (FitsStrip points strip)
 fits_strip points strip =
@@ -53,7 +57,15 @@ fits_rectangle points rectangle =
     (both (most_ℤ (pos 1) rectangle.w)
     (both (all (λ p. in_span rectangle.along (rectangle.w *ℤ dot rectangle.direction p)) points)
     (all (λ p. in_span rectangle.across (rectangle.w *ℤ dot (quarter_turn rectangle.direction) p)) points))))))
-    (λ h. record { direction = h.0; along = h.1.0; across = h.1.1.0; denominator = h.1.1.1.0; inside_along = h.1.1.1.1.0; inside_across = h.1.1.1.1.1 })
+    (λ h. record {
+      direction =
+          h.0;
+      along = h.1.0;
+      across = h.1.1.0;
+      denominator = h.1.1.1.0;
+      inside_along = h.1.1.1.1.0;
+      inside_across = h.1.1.1.1.1;
+    })
     (λ h. (h.direction, (h.along, (h.across, (h.denominator, (h.inside_along, h.inside_across))))))
 
 abbrev pub fits_parallelogram : (points : List PlanePoint) (object : Parallelogram) → Decision (FitsParallelogram points object)
@@ -65,15 +77,26 @@ fits_parallelogram points object =
     (both (most_ℤ (pos 1) object.w)
     (both (all (λ p. in_span object.first_bounds (object.w *ℤ dot object.first p)) points)
     (all (λ p. in_span object.second_bounds (object.w *ℤ dot object.second p)) points))))))
-    (λ h. record { normals = h.0; first_bounds = h.1.0; second_bounds = h.1.1.0; denominator = h.1.1.1.0; inside_first = h.1.1.1.1.0; inside_second = h.1.1.1.1.1 })
+    (λ h. record {
+      normals =
+          h.0;
+      first_bounds = h.1.0;
+      second_bounds = h.1.1.0;
+      denominator = h.1.1.1.0;
+      inside_first = h.1.1.1.1.0;
+      inside_second = h.1.1.1.1.1;
+    })
     (λ h. (h.normals, (h.first_bounds, (h.second_bounds, (h.denominator, (h.inside_first, h.inside_second))))))
 
 abbrev pub in_ring : (ring : Annulus) (p : PlanePoint) → Decision (IsInRing ring p)
-in_ring ring p = like (both (most_ℤ _ _) (most_ℤ _ _)) (λ h. record { outside_inner = h.0; inside_outer = h.1 }) (λ h. (h.outside_inner, h.inside_outer))
+in_ring ring p =
+    like (both (most_ℤ _ _) (most_ℤ _ _))
+    (λ h. record { outside_inner = h.0; inside_outer = h.1 }) (λ h. (h.outside_inner, h.inside_outer))
 
 abbrev pub fits_annulus : (points : List PlanePoint) (ring : Annulus) → Decision (FitsAnnulus points ring)
 fits_annulus points ring =
-    like (both (most_ℤ (pos 1) ring.centre.w) (both (not_negative ring.inner) (both (not_negative ring.outer) (all {P = IsInRing ring} (in_ring ring) points))))
+    like (both (most_ℤ (pos 1) ring.centre.w) (both (not_negative ring.inner) (both (not_negative ring.outer) (all {P = IsInRing ring}
+    (in_ring ring) points))))
     (λ h. record { denominator = h.0; inner = h.1.0; outer = h.1.1.0; inside = h.1.1.1 }) (λ h. (h.denominator, (h.inner, (h.outer, h.inside))))
 
 abbrev pub is_frame : (box : Box) → Decision (IsFrame box)
@@ -97,8 +120,20 @@ fits_empty frame points rectangle =
     (both (most_ℤ rectangle.box.right (rectangle.w *ℤ frame.right))
     (both (most_ℤ (rectangle.w *ℤ frame.bottom) rectangle.box.bottom)
     (both (most_ℤ rectangle.box.top (rectangle.w *ℤ frame.top))
-    (all {P = λ p. ¬ IsStrictlyInside rectangle.box (times rectangle.w p)} (λ p. negated (strictly_inside rectangle.box (times rectangle.w p))) points))))))))
-    (λ h. record { denominator = h.0; width = h.1.0; height = h.1.1.0; left = h.1.1.1.0; right = h.1.1.1.1.0; bottom = h.1.1.1.1.1.0; top = h.1.1.1.1.1.1.0; empty = h.1.1.1.1.1.1.1 })
+    (all {P =
+    λ p. ¬ IsStrictlyInside rectangle.box (times rectangle.w p)} (λ p. negated (strictly_inside rectangle.box (times rectangle.w p))) points))))))))
+    (λ h. record {
+      denominator =
+          h.0;
+      width =
+          h.1.0;
+      height = h.1.1.0;
+      left = h.1.1.1.0;
+      right = h.1.1.1.1.0;
+      bottom = h.1.1.1.1.1.0;
+      top = h.1.1.1.1.1.1.0;
+      empty = h.1.1.1.1.1.1.1;
+    })
     (λ h. (h.denominator, (h.width, (h.height, (h.left, (h.right, (h.bottom, (h.top, h.empty))))))))
 
 abbrev pub fits_distance : (ps qs : List SpacePoint) (weights : Weights) → Decision (FitsDistance ps qs weights)
@@ -112,12 +147,3 @@ fits_distance ps qs weights =
     (most_ℤ (pos 1) (total (λ w. w) weights.first)))))))
     (λ h. record { for_first = h.0; for_second = h.1.0; first = h.1.1.0; second = h.1.1.1.0; same_sum = h.1.1.1.1.0; sum = h.1.1.1.1.1 })
     (λ h. (h.for_first, (h.for_second, (h.first, (h.second, (h.same_sum, h.sum))))))
-
-abbrev pub dependence : (vectors : List SpacePoint) (numbers : List ℤ) → Decision (IsDependence vectors numbers)
-dependence vectors numbers =
-    like
-    (both (equal_ℕ (length numbers) (length vectors))
-    (both (negated (all (λ number. equal_ℤ number (pos 0)) numbers))
-    (both (equal_ℤ (total (λ number. number) numbers) (pos 0))
-    (same_space_point (weighted_sum (λ pair. pair.0) (λ pair. pair.1) (zip numbers vectors)) Space.origin))))
-    (λ h. record { as_many = h.0; some = h.1.0; sum = h.1.1.0; weighted = h.1.1.1 }) (λ h. (h.as_many, (h.some, (h.sum, h.weighted))))

@@ -10,10 +10,13 @@ use Rattle.model_laws.proofs.Decisions.{Decision, like, both, together, most_ℕ
 use Rattle.model_laws.proofs.CommonFactors.{no_common_factor}
 
 abbrev pub same_point : (a b : PlanePoint) → Decision (a ≡ b)
-same_point a b = like (together (equal_ℤ a.x b.x) (equal_ℤ a.y b.y)) (λ h. λ i. record { x = h.0 i; y = h.1 i }) (λ e. ((λ i. (e i).x), (λ i. (e i).y)))
+same_point a b =
+    like (together (equal_ℤ a.x b.x) (equal_ℤ a.y b.y)) (λ h. λ i. record { x = h.0 i; y = h.1 i }) (λ e. ((λ i. (e i).x), (λ i. (e i).y)))
 
 abbrev pub same_space_point : (a b : SpacePoint) → Decision (a ≡ b)
-same_space_point a b = like (together (equal_ℤ a.x b.x) (together (equal_ℤ a.y b.y) (equal_ℤ a.z b.z))) (λ h. λ i. record { x = h.0 i; y = h.1.0 i; z = h.1.1 i }) (λ e. ((λ i. (e i).x), ((λ i. (e i).y), (λ i. (e i).z))))
+same_space_point a b =
+    like (together (equal_ℤ a.x b.x) (together (equal_ℤ a.y b.y) (equal_ℤ a.z b.z))) (λ h. λ i. record { x = h.0 i; y = h.1.0 i; z = h.1.1 i })
+    (λ e. ((λ i. (e i).x), ((λ i. (e i).y), (λ i. (e i).z))))
 
 abbrev pub within : (limit : ℕ) (z : ℤ) → Decision (IsWithin limit z)
 within limit z = like (both (most_ℤ _ z) (most_ℤ z (pos limit))) (λ h. record { low = h.0; high = h.1 }) (λ h. (h.low, h.high))

@@ -148,7 +148,8 @@ impossible {P} n = whole false ((λ e. absurd (false-not_true e)), (λ p. absurd
 -- a test for each place and element
 abbrev pub all_numbered : {X : Type 0} {P : ℕ → X → Type 0} → ((k : ℕ) (x : X) → Decision (P k x)) → (xs : List X) → Decision (AllNumbered P xs)
 all_numbered {P = P} each [] = sure (numbered-nil P)
-all_numbered {P = P} each (x ∷ xs) = like (together (each 0 x) (all_numbered (λ k. each (suc k)) xs)) (λ h. numbered-cons P x xs h.0 h.1) (numbered-uncons P x xs)
+all_numbered {P =
+    P} each (x ∷ xs) = like (together (each 0 x) (all_numbered (λ k. each (suc k)) xs)) (λ h. numbered-cons P x xs h.0 h.1) (numbered-uncons P x xs)
 
 -- one more number below the bound
 pub below-cons : (P : ℕ → Type 0) (n : ℕ) → P n → EachBelow n P → EachBelow (suc n) P
@@ -166,7 +167,8 @@ each_below each zero = sure (λ k h. absurd (no_less k h))
   where
     no_less : (k : ℕ) → k < 0 → ⊥
     no_less k h = omega arith
-each_below {P} each (suc n) = like (together (each n) (each_below each n)) (λ h. below-cons P n h.0 h.1) (λ h. (h n (here n), λ k l. h k (there k n l)))
+each_below {P} each (suc n) =
+    like (together (each n) (each_below each n)) (λ h. below-cons P n h.0 h.1) (λ h. (h n (here n), λ k l. h k (there k n l)))
   where
     here : (n : ℕ) → n < suc n
     here n = omega arith

@@ -2,10 +2,10 @@
 use Rattle.std.proofs.Common.{refl, ℕ, ◌+◌, ◌*◌, ◌^◌, ℤ, pos, List, [], ◌∷◌}
 use Rattle.bounds_model.specs.Plane.{PlanePoint, PlaneRatio}
 use Rattle.bounds_model.specs.Fractions.{Fraction}
-use Rattle.bounds_model.specs.AnnulusAnswer.{WeightedPair, AnnulusAnswer, AnnulusPlaces, PassesAnnulus}
+use Rattle.bounds_model.specs.AnnulusAnswer.{WeightedPair, AnnulusAnswer, PassesAnnulus}
 use Rattle.model_laws.proofs.Decisions.{by_test, by_one_failure}
-use Rattle.model_laws.proofs.DecideDistance.{annulus_places, annulus_passes}
-use Rattle.model_laws.proofs.Literals.{minus, at, over, signed_over, fraction, pair, signed_pair}
+use Rattle.model_laws.proofs.DecideDistance.{annulus_passes}
+use Rattle.model_laws.proofs.Literals.{minus, at, over, signed_over, fraction, pair}
 
 abbrev ring : Fraction → PlaneRatio → Fraction → Fraction → List WeightedPair → AnnulusAnswer
 ring size centre inner outer pairs = record { size = size; centre = centre; inner = inner; outer = outer; pairs = pairs }
@@ -128,20 +128,3 @@ too_heavy = by_one_failure (annulus_passes (at 0 0 ∷ []) (around_origin (pos 1
 
 second_beyond : ¬ PassesAnnulus (at 0 0 ∷ []) (around_origin (pos 1) (pos 0) 1 (fraction 1 1) (pair 0 9 1))
 second_beyond = by_one_failure (annulus_passes (at 0 0 ∷ []) (around_origin (pos 1) (pos 0) 1 (fraction 1 1) (pair 0 9 1))) refl refl
-
--- ---- places
-
-in_places : AnnulusPlaces (with_pairs (pair 9999 9999 (2 ^ 126) ∷ []))
-in_places = by_test (annulus_places (with_pairs (pair 9999 9999 (2 ^ 126) ∷ []))) refl
-
-first_past : ¬ AnnulusPlaces (with_pairs (pair 10000 0 1 ∷ []))
-first_past = by_one_failure (annulus_places (with_pairs (pair 10000 0 1 ∷ []))) refl refl
-
-second_past : ¬ AnnulusPlaces (with_pairs (pair 0 10000 1 ∷ []))
-second_past = by_one_failure (annulus_places (with_pairs (pair 0 10000 1 ∷ []))) refl refl
-
-weight_past : ¬ AnnulusPlaces (with_pairs (pair 0 0 (2 ^ 126 + 1) ∷ []))
-weight_past = by_one_failure (annulus_places (with_pairs (pair 0 0 (2 ^ 126 + 1) ∷ []))) refl refl
-
-negative_weight : ¬ AnnulusPlaces (with_pairs (signed_pair 0 0 (minus 1) ∷ []))
-negative_weight = by_one_failure (annulus_places (with_pairs (signed_pair 0 0 (minus 1) ∷ []))) refl refl

@@ -26,7 +26,8 @@ two_squares_pass = by_test (passes (ask_centres 2) (plane four_points) (centres 
 
 -- a leaf left out, and one with points that are near each other
 too_few_leaves_fail : ¬ Passes (ask_centres 2) (plane four_points) (centres (with_leaves (leaf 2 3 ∷ leaf 0 3 ∷ leaf 0 3 ∷ [])))
-too_few_leaves_fail = by_one_failure (passes (ask_centres 2) (plane four_points) (centres (with_leaves (leaf 2 3 ∷ leaf 0 3 ∷ leaf 0 3 ∷ [])))) refl refl
+too_few_leaves_fail =
+    by_one_failure (passes (ask_centres 2) (plane four_points) (centres (with_leaves (leaf 2 3 ∷ leaf 0 3 ∷ leaf 0 3 ∷ [])))) refl refl
 
 near_points_fail : ¬ Passes (ask_centres 2) (plane four_points) (centres (with_leaves (leaf 0 1 ∷ leaf 0 3 ∷ leaf 0 3 ∷ leaf 0 2 ∷ [])))
 near_points_fail = by_failed_test (passes (ask_centres 2) (plane four_points) (centres (with_leaves (leaf 0 1 ∷ leaf 0 3 ∷ leaf 0 3 ∷ leaf 0 2 ∷ [])))) refl

@@ -39,7 +39,8 @@ turned_fails : ¬ Passes ask_distance (two corner facing) (distance (in_directio
 turned_fails = by_one_failure (passes ask_distance (two corner facing) (distance (in_direction (in_space 1 1 1)))) refl refl
 
 unreduced_fails : ¬ Passes ask_distance (two corner facing) (distance (in_direction (record { x = minus 2; y = minus 2; z = minus 2 })))
-unreduced_fails = by_one_failure (passes ask_distance (two corner facing) (distance (in_direction (record { x = minus 2; y = minus 2; z = minus 2 })))) refl refl
+unreduced_fails =
+    by_one_failure (passes ask_distance (two corner facing) (distance (in_direction (record { x = minus 2; y = minus 2; z = minus 2 })))) refl refl
 
 no_direction_fails : ¬ Passes ask_distance (two corner facing) (distance (in_direction (in_space 0 0 0)))
 no_direction_fails = by_one_failure (passes ask_distance (two corner facing) (distance (in_direction (in_space 0 0 0)))) refl refl

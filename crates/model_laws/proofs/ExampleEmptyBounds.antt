@@ -130,3 +130,6 @@ right_point_past = by_one_failure (empty_places (record whole { right = point 10
 
 top_point_past : ¬ EmptyPlaces (record whole { top = point 10000 })
 top_point_past = by_one_failure (empty_places (record whole { top = point 10000 })) refl refl
+
+size_past : ¬ EmptyPlaces (record whole { size = fraction past 1 })
+size_past = by_one_failure (empty_places (record whole { size = fraction past 1 })) refl refl

@@ -67,10 +67,12 @@ whole_passes : Passes (ask_kgon 5) (plane square) (kgon whole)
 whole_passes = by_test (passes (ask_kgon 5) (plane square) (kgon whole)) refl
 
 shifted_fails : ¬ Passes (ask_kgon 5) (plane square) (kgon (with_layers (0 ∷ 4 ∷ 4 ∷ 0 ∷ 8 ∷ 4 ∷ 0 ∷ 4 ∷ 0 ∷ 4 ∷ 0 ∷ 0 ∷ [])))
-shifted_fails = by_one_failure (passes (ask_kgon 5) (plane square) (kgon (with_layers (0 ∷ 4 ∷ 4 ∷ 0 ∷ 8 ∷ 4 ∷ 0 ∷ 4 ∷ 0 ∷ 4 ∷ 0 ∷ 0 ∷ [])))) refl refl
+shifted_fails =
+    by_one_failure (passes (ask_kgon 5) (plane square) (kgon (with_layers (0 ∷ 4 ∷ 4 ∷ 0 ∷ 8 ∷ 4 ∷ 0 ∷ 4 ∷ 0 ∷ 4 ∷ 0 ∷ 0 ∷ [])))) refl refl
 
 layers_exchanged_fails : ¬ Passes (ask_kgon 5) (plane square) (kgon (with_layers (0 ∷ 4 ∷ 8 ∷ 0 ∷ 4 ∷ 4 ∷ 0 ∷ 4 ∷ 0 ∷ 4 ∷ 0 ∷ 0 ∷ [])))
-layers_exchanged_fails = by_one_failure (passes (ask_kgon 5) (plane square) (kgon (with_layers (0 ∷ 4 ∷ 8 ∷ 0 ∷ 4 ∷ 4 ∷ 0 ∷ 4 ∷ 0 ∷ 4 ∷ 0 ∷ 0 ∷ [])))) refl refl
+layers_exchanged_fails =
+    by_one_failure (passes (ask_kgon 5) (plane square) (kgon (with_layers (0 ∷ 4 ∷ 8 ∷ 0 ∷ 4 ∷ 4 ∷ 0 ∷ 4 ∷ 0 ∷ 4 ∷ 0 ∷ 0 ∷ [])))) refl refl
 
 -- ---- points on a line, and one point
 

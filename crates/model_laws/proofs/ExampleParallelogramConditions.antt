@@ -67,6 +67,9 @@ turned = by_one_failure (parallelogram_passes triangle (with_chords first_chord 
 short : ¬ PassesParallelogram triangle (with_chords first_chord (chord 0 2 0 1 1 (minus 3)))
 short = by_one_failure (parallelogram_passes triangle (with_chords first_chord (chord 0 2 0 1 1 (minus 3)))) refl refl
 
+short_first : ¬ PassesParallelogram triangle (with_chords (chord 0 2 0 1 1 (pos 3)) last_chord)
+short_first = by_one_failure (parallelogram_passes triangle (with_chords (chord 0 2 0 1 1 (pos 3)) last_chord)) refl refl
+
 -- numbers that are no points', of the origin or without weight
 a_beyond : ¬ PassesParallelogram triangle (with_chords (chord 9 2 2 1 0 (pos 3)) last_chord)
 a_beyond = by_one_failure (parallelogram_passes triangle (with_chords (chord 9 2 2 1 0 (pos 3)) last_chord)) refl refl

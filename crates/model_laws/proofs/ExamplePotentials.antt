@@ -1,10 +1,11 @@
 -- Potentials of weighted vectors, for balls and for distances, and affine dependences.
-use Rattle.std.proofs.Common.{◌≡◌, refl, ℤ, pos, ◌<ℤ◌, List, [], ◌∷◌}
+use Rattle.std.proofs.Common.{length, zip, ◌≡◌, refl, ℤ, pos, ◌<ℤ◌, List, [], ◌∷◌}
 use Rattle.std.specs.Prelude.{All}
-use Rattle.bounds_model.specs.Space.{SpacePoint}
+use Rattle.integers.specs.Total.{total}
+use Rattle.bounds_model.specs.Space.{SpacePoint, origin, weighted_sum}
 use Rattle.bounds_model.specs.Potentials.{WeightedVector, AreEqualPotentials, IsLow, IsDependence, value, potential}
-use Rattle.model_laws.proofs.Decisions.{Decision, by_test, by_one_failure, all, equal_ℤ, less_ℤ}
-use Rattle.model_laws.proofs.DecideFits.{dependence}
+use Rattle.model_laws.proofs.Decisions.{Decision, by_test, by_one_failure, all, equal_ℤ, less_ℤ, like, both, negated, equal_ℕ}
+use Rattle.model_laws.proofs.DecideParts.{same_space_point}
 use Rattle.model_laws.proofs.Literals.{minus, in_space, signed_in_space, fraction, signed_fraction}
 
 abbrev equal_potentials : (square : ℤ) (items : List WeightedVector) → Decision (AreEqualPotentials square items)
@@ -14,6 +15,15 @@ equal_potentials square items =
 
 abbrev low : (square : ℤ) (items : List WeightedVector) (v : SpacePoint) → Decision (IsLow square items v)
 low square items v = all {P = λ item. potential square items v <ℤ potential square items item.vector} (λ item. less_ℤ _ _) items
+
+abbrev dependence : (vectors : List SpacePoint) (numbers : List ℤ) → Decision (IsDependence vectors numbers)
+dependence vectors numbers =
+    like
+    (both (equal_ℕ (length numbers) (length vectors))
+    (both (negated (all (λ number. equal_ℤ number (pos 0)) numbers))
+    (both (equal_ℤ (total (λ number. number) numbers) (pos 0))
+    (same_space_point (weighted_sum (λ pair. pair.0) (λ pair. pair.1) (zip numbers vectors)) origin))))
+    (λ h. record { as_many = h.0; some = h.1.0; sum = h.1.1.0; weighted = h.1.1.1 }) (λ h. (h.as_many, (h.some, (h.sum, h.weighted))))
 
 abbrev item : ℤ → SpacePoint → WeightedVector
 item weight vector = record { weight = weight; vector = vector }

@@ -16,6 +16,8 @@ pub mod Literals
 pub mod Pigeonhole
 pub mod TurningUp
 pub mod PlainFanLaw
+pub mod LowestDirections
+pub mod ShortDirections
 pub mod Turning
 pub mod CornerLaw
 pub mod NextCorner
@@ -69,3 +71,4 @@ pub mod ExampleClaims
 pub mod ExampleBest
 pub mod ExampleAsks
 pub mod ExampleChosenClaims
+pub mod ExampleAnnulusPlaces

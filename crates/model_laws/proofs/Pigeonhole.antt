@@ -21,7 +21,10 @@ moved_other last a x h = grind (arith, nat_tests)
 -- where a is another place than x, the place after the move is before the last
 moved_below : (last a x : ℕ) → a < suc last → x < suc last → (x ≡ a → ⊥) → moved last a x < last
 moved_below last a x la lx n =
-    elim (split x last lx) [ inl l ↦ subst (λ z. z < last) (sym (moved_other last a x l)) l | inr e ↦ subst (λ z. z < last) (sym (moved_last last a x e)) (before last a x la e n) ]
+    elim (split x last lx) [
+      | inl l ↦ subst (λ z. z < last) (sym (moved_other last a x l)) l
+      | inr e ↦ subst (λ z. z < last) (sym (moved_last last a x e)) (before last a x la e n)
+    ]
   where
     before : (last a x : ℕ) → a < suc last → x ≡ last → (x ≡ a → ⊥) → a < last
     before last a x la e n = grind arith

@@ -1,14 +1,13 @@
 -- A plain fan has few directions: each edge of the hull calls for one at most.
-use Rattle.std.proofs.Common.{◌≡◌, ◌≢◌, refl, sym, ◌∙◌, subst, ℕ, zero, suc, ◌+◌, ◌-◌, ◌<◌, ◌≤◌, ℤ, pos, neg_ℤ, ◌+ℤ◌, ◌-ℤ◌, ◌*ℤ◌, ◌≤ℤ◌, ◌<ℤ◌, List, [], ◌∷◌, length, arith}
+use Rattle.std.proofs.Common.{◌≡◌, ◌≢◌, sym, ◌∙◌, subst, ℕ, suc, ◌+◌, ◌-◌, ◌<◌, ◌≤◌, ℤ, pos, neg_ℤ, ◌+ℤ◌, ◌-ℤ◌, ◌*ℤ◌, ◌<ℤ◌, List, [], ◌∷◌, length, arith}
 use mathlib.Core.Logic.{inl, inr}
 use Rattle.std.specs.Prelude.{◌⊎◌, SomeIndex}
 use Rattle.std.proofs.lemmas.Int.{ints}
 use Rattle.integers.proofs.Identities.{den-ring, read, polys, lits}
-use Rattle.integers.proofs.Order.{positive_mul, positive_add, nonneg_from_positive, lt_of_mul_lt, same_of_mul, combine2}
-use Rattle.bounds_model.specs.Numbers.{EachBelow}
+use Rattle.integers.proofs.Order.{positive_mul, positive_add, nonneg_from_positive}
 use Rattle.bounds_model.specs.Plane.{PlanePoint, origin, point_at, dot, cross}
-use Rattle.bounds_model.specs.Fans.{TurnLeft, east, west, north}
-use Rattle.bounds_model.specs.PlainFans.{edge, IsUpright, IsUprightOrAlong, EachInner, IsPlainHalf, IsPlainQuarter}
+use Rattle.bounds_model.specs.Fans.{north}
+use Rattle.bounds_model.specs.PlainFans.{edge, IsUpright, IsUprightOrAlong}
 use Rattle.model_laws.specs.Laws.{PlainHalfFansAreFew, PlainQuarterFansAreFew}
 use Rattle.model_laws.proofs.Pigeonhole.{pigeonhole}
 use Rattle.model_laws.proofs.TurningUp.{ordered, parallel, across}
@@ -44,7 +43,8 @@ half_below corners d (inr s) = let l : s.0 < length corners = s.1 in omega (arit
 one_upright : (e u w : PlanePoint) → pos 0 <ℤ cross u w → IsUpright e u → IsUpright e w → ⊥
 one_upright e u w h a b = not_parallel u w h (parallel e.x e.y u.x u.y w.x w.y (long_vector e a.long) a.right_angle b.right_angle)
 
-half_apart : (corners : List PlanePoint) (u w : PlanePoint) → pos 0 <ℤ cross u w → (a : IsCalledFor corners u) (b : IsCalledFor corners w) → half_place corners u a ≡ half_place corners w b → ⊥
+half_apart : (corners : List PlanePoint) (u w : PlanePoint) → pos 0 <ℤ cross u w → (a : IsCalledFor corners u) (b : IsCalledFor corners w)
+    → half_place corners u a ≡ half_place corners w b → ⊥
 half_apart corners u w h (inl a) (inl b) e = not_same u w h (a ∙ sym b)
 half_apart corners u w h (inl a) (inr b) e = let l : b.0 < length corners = b.1 in absurd (omega (arith, l, e))
 half_apart corners u w h (inr a) (inl b) e = let l : a.0 < length corners = a.1 in absurd (omega (arith, l, e))
@@ -54,7 +54,8 @@ pub half_is_few : PlainHalfFansAreFew
 half_is_few corners ds turning plain =
     few (length ds) (length corners) (pigeonhole (length ds - 2) (suc (length corners)) (λ i l. half_place corners (point_at ds (suc i)) (called i l))
     (λ i l. half_below corners (point_at ds (suc i)) (called i l))
-    (λ i k l l' h. half_apart corners (point_at ds (suc i)) (point_at ds (suc k)) (ordered ds turning.turns plain.in_range (suc i) (suc k) (omega arith) (omega (arith, h)) (omega (arith, l'))) (called i l) (called k l')))
+    (λ i k l l' h. half_apart corners (point_at ds (suc i)) (point_at ds (suc k)) (ordered ds turning.turns plain.in_range (suc i) (suc k)
+    (omega arith) (omega (arith, h)) (omega (arith, l'))) (called i l) (called k l')))
   where
     called : (i : ℕ) → i < length ds - 2 → IsCalledFor corners (point_at ds (suc i))
     called i l = plain.no_others (suc i) (omega arith) (omega (arith, l))
@@ -98,7 +99,8 @@ one_of_both e u w h bu bw n (inl a) (inl b) = not_parallel u w h (parallel e.x e
 one_of_both e u w h bu bw n (inl a) (inr b) = not_across u w bu bw (across e.x e.y u.x u.y w.x w.y (long_vector e n) a b)
 one_of_both e u w h bu bw n (inr a) (inl b) = not_across u w bu bw (sym (dot_other u w) ∙ across e.x e.y w.x w.y u.x u.y (long_vector e n) b a)
 one_of_both e u w h bu bw n (inr a) (inr b) =
-    not_parallel u w h (parallel (neg_ℤ e.y) e.x u.x u.y w.x w.y (turned_long e.x e.y (long_vector e n)) (along_line e.x e.y u.x u.y a) (along_line e.x e.y w.x w.y b))
+    not_parallel u w h (parallel (neg_ℤ e.y) e.x u.x u.y w.x w.y (turned_long e.x e.y (long_vector e n)) (along_line e.x e.y u.x u.y a)
+    (along_line e.x e.y w.x w.y b))
 
 pub quarter_is_few : PlainQuarterFansAreFew
 quarter_is_few corners ds turning plain =
@@ -106,7 +108,8 @@ quarter_is_few corners ds turning plain =
     (λ i k l l' h e.
     one_of_both (edge corners (called k l').0) (point_at ds (suc i)) (point_at ds (suc k))
     (ordered ds turning.turns (λ j p m. (plain.in_range j p m).1) (suc i) (suc k) (omega arith) (omega (arith, h)) (omega (arith, l')))
-    (between i l) (between k l') (called k l').2.long (subst (λ j. IsUprightOrAlong (edge corners j) (point_at ds (suc i))) e (called i l).2).upright (called k l').2.upright))
+    (between i l) (between k l') (called k l').2.long (subst (λ j. IsUprightOrAlong (edge corners j) (point_at ds (suc i))) e
+    (called i l).2).upright (called k l').2.upright))
   where
     called : (i : ℕ) → i < length ds - 2 → SomeIndex corners (λ j. IsUprightOrAlong (edge corners j) (point_at ds (suc i)))
     called i l = plain.no_others (suc i) (omega arith) (omega (arith, l))

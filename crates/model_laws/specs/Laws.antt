@@ -1,9 +1,9 @@
 -- What shows that the definitions are the right ones: statements on the definitions alone.
 use Rattle.std.specs.Prelude.{◌≡◌, ⊤, ℕ, ◌+◌, ◌≤◌, List, length, All, Contains, IsPermutation}
-use Rattle.bounds_model.specs.Plane.{PlanePoint}
+use Rattle.bounds_model.specs.Plane.{PlanePoint, IsInPlane}
 use Rattle.bounds_model.specs.Fractions.{Fraction}
 use Rattle.bounds_model.specs.Hull.{AreCorners}
-use Rattle.bounds_model.specs.Fans.{TurnLeft, east, north, west}
+use Rattle.bounds_model.specs.Fans.{TurnLeft, east, north, west, IsShort}
 use Rattle.bounds_model.specs.PlainFans.{IsPlainHalf, IsPlainQuarter}
 use Rattle.bounds_model.specs.CornerTest.{CornersPass}
 use Rattle.bounds_model.specs.KgonAnswer.{KgonAnswer, corner_points, PassesKgon}
@@ -68,8 +68,19 @@ BestAnswersHaveNoOrder = (ask : Ask) (sets other : Sets) (answer : Answer) → �
 
 -- a plain fan over half a turn has at most three directions more than the hull has corners
 abbrev pub PlainHalfFansAreFew : Type 0
-PlainHalfFansAreFew = (corners directions : List PlanePoint) → TurnLeft east west directions → IsPlainHalf corners directions → length directions ≤ length corners + 3
+PlainHalfFansAreFew = (corners directions : List PlanePoint) → TurnLeft east west directions → IsPlainHalf corners directions
+    → length directions ≤ length corners + 3
 
 -- and one over a quarter turn at most two
 abbrev pub PlainQuarterFansAreFew : Type 0
-PlainQuarterFansAreFew = (corners directions : List PlanePoint) → TurnLeft east north directions → IsPlainQuarter corners directions → length directions ≤ length corners + 2
+PlainQuarterFansAreFew = (corners directions : List PlanePoint) → TurnLeft east north directions → IsPlainQuarter corners directions
+    → length directions ≤ length corners + 2
+
+-- where the corners are in bounds, no coordinate of a plain fan's direction is past the checker's limit
+abbrev pub PlainHalfFansAreShort : Type 0
+PlainHalfFansAreShort = (corners directions : List PlanePoint) → All IsInPlane corners → TurnLeft east west directions
+    → IsPlainHalf corners directions → All IsShort directions
+
+abbrev pub PlainQuarterFansAreShort : Type 0
+PlainQuarterFansAreShort = (corners directions : List PlanePoint) → All IsInPlane corners → TurnLeft east north directions
+    → IsPlainQuarter corners directions → All IsShort directions

@@ -1,6 +1,6 @@
 //! Laws of the definitions.
 
-ghost use Rattle.model_laws.specs.Laws.{PassingAnswersHavePlaces, FittingPointsSuit, PassingAnswersAreBest, PassingCornersAreCorners, PassingKgonsListCorners, CornersAreUnique, BestSizeIsUnique, OptimumIsUnique, BestSizeHasNoOrder, BestAnswersHaveNoOrder, PlainHalfFansAreFew, PlainQuarterFansAreFew};
+ghost use Rattle.model_laws.specs.Laws.{PassingAnswersHavePlaces, FittingPointsSuit, PassingAnswersAreBest, PassingCornersAreCorners, PassingKgonsListCorners, CornersAreUnique, BestSizeIsUnique, OptimumIsUnique, BestSizeHasNoOrder, BestAnswersHaveNoOrder, PlainHalfFansAreFew, PlainQuarterFansAreFew, PlainHalfFansAreShort, PlainQuarterFansAreShort};
 ghost use Rattle.bounds_model.specs.Asks.Ask.{ask_circle, ask_sphere, ask_centres};
 
 /// An answer that passes has all its numbers in their places.
@@ -71,4 +71,14 @@ pub fn plain_half_fans_are_few()
 /// A plain fan over a quarter turn has at most two directions more than the hull has corners.
 pub fn plain_quarter_fans_are_few()
     ensures { PlainQuarterFansAreFew }
+{}
+
+/// A plain fan over half a turn keeps its directions within the checker's limit, where the corners are in bounds.
+pub fn plain_half_fans_are_short()
+    ensures { PlainHalfFansAreShort }
+{}
+
+/// A plain fan over a quarter turn keeps its directions within the checker's limit, where the corners are in bounds.
+pub fn plain_quarter_fans_are_short()
+    ensures { PlainQuarterFansAreShort }
 {}
