@@ -19,7 +19,7 @@ use Rattle.corral.specs.Items.{IsItem, item}
 use Rattle.corral.specs.WeightedItems.{names, weights, AreSupportItems, weighted_items}
 use Rattle.corral.specs.Balances.{IsBalance, vectors, candidate_names, AreCandidates, IsFound, AreRefuted}
 use Rattle.corral.proofs.Parts.{part_all, part_map, part_of_map, part_length}
-use Rattle.corral.proofs.Settling.{not_all_are_refuted, value_rises}
+use Rattle.corral.proofs.Settled.{not_all_are_refuted, value_rises}
 use Rattle.corral.proofs.TooMany.{independent_are_few}
 use Rattle.corral.proofs.Mapped.{all_unmap}
 

@@ -14,7 +14,7 @@ pub mod Walk
 pub mod Places
 pub mod SmallSteps
 pub mod SupportedParts
-pub mod Settling
+pub mod Settled
 pub mod Measure
 pub mod TooMany
 pub mod MomentSizes

@@ -4,7 +4,7 @@ use Rattle.bounds_model.specs.Space.{SpacePoint}
 use Rattle.bounds_model.specs.Potentials.{WeightedVector}
 use Rattle.corral.specs.declared.items.Items.{Items}
 use Rattle.corral.specs.declared.support.WeightedItem.{WeightedItem}
-use Rattle.corral.specs.declared.corrals.Corral.{Corral}
+use Rattle.corral.specs.declared.unsettled.Corral.{Corral}
 use Rattle.corral.specs.WeightedItems.{weighted_items}
 
 -- the items that the supports are chosen from

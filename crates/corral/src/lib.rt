@@ -4,13 +4,12 @@
 //! - `support`: weighted items
 //! - `sums`: what potentials are computed from
 //! - `search`: the part of a few items whose supports settle them
-//! - `corrals`: supports that are exchanged for greater ones
+//! - `unsettled`: supports that are exchanged for greater ones
 //! - `lowest`: an item of least potential
 //! - `settling`: the exchange until no item is low
 //! - `laws`: why an exchange finds its supports, why their value rises, and why that ends
 #![tactic(auto)]
 
-mod corrals;
 mod items;
 pub mod laws;
 mod lowest;
@@ -20,8 +19,9 @@ mod sums;
 mod support;
 #[cfg(test)]
 mod tests;
+mod unsettled;
 
-pub use corrals::Corral;
 pub use items::{Id, Items};
 pub use settling::settle;
 pub use support::Support;
+pub use unsettled::Corral;

@@ -7,9 +7,9 @@ ghost use Rattle.corral.specs.WeightedItems.{AreSupportItems, weighted_items};
 ghost use Rattle.corral.specs.Supports.{AreSupports};
 ghost use Rattle.corral.specs.Supported.{items_of, supports_of};
 
-use crate::corrals::Corral;
 use crate::items::{Id, Items};
 use crate::support::Support;
+use crate::unsettled::Corral;
 use kernel_laws::{Kernel, Potential};
 
 /// Supports under which no item is low. It begins with an item that is lowest under the first one, so that the first exchange

@@ -8,7 +8,7 @@ use Rattle.corral.specs.Items.{IsItem}
 use Rattle.corral.specs.WeightedItems.{AreSupportItems, weighted_items}
 use Rattle.corral.specs.Balances.{IsBalance}
 use Rattle.corral.proofs.Balancing.{one_within, sums_of_one, balance_of_one}
-use Rattle.corral.proofs.corrals.Corral.start.Goals as goal
+use Rattle.corral.proofs.unsettled.Corral.start.Goals as goal
 
 pub potential-level-requires-clause-within : goal.potential-level-requires-clause-within
 potential-level-requires-clause-within g c =

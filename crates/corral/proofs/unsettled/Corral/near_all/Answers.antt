@@ -7,7 +7,7 @@ use Rattle.corral.specs.Balances.{IsNear}
 use Rattle.corral.proofs.Blanks.{blank}
 use Rattle.corral.proofs.Mapped.{take_whole}
 use Rattle.corral.proofs.Nearness.{near_points}
-use Rattle.corral.proofs.corrals.Corral.near_all.Goals as goal
+use Rattle.corral.proofs.unsettled.Corral.near_all.Goals as goal
 
 pub tell-preserved : goal.tell-preserved
 tell-preserved g c =

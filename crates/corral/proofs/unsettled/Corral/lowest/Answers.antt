@@ -1,6 +1,6 @@
 use Rattle.corral.specs.WeightedItems.{weighted_items}
 use Rattle.corral.proofs.Balancing.{balance_within}
-use Rattle.corral.proofs.corrals.Corral.lowest.Goals as goal
+use Rattle.corral.proofs.unsettled.Corral.lowest.Goals as goal
 
 pub lowest_point-requires : goal.lowest_point-requires
 lowest_point-requires g c =

@@ -10,7 +10,7 @@ use Rattle.corral.proofs.Blanks.{blank_support}
 use Rattle.corral.proofs.Filling.{filled_first, filled_more}
 use Rattle.corral.proofs.Mapped.{take_whole}
 use Rattle.corral.proofs.Nearness.{candidates_are_items}
-use Rattle.corral.proofs.corrals.Corral.candidates.Goals as goal
+use Rattle.corral.proofs.unsettled.Corral.candidates.Goals as goal
 
 pub fill-init : goal.fill-init
 fill-init g c =

@@ -5,7 +5,7 @@ use Rattle.corral.specs.declared.search.Candidate.{Candidate}
 use Rattle.corral.specs.Balances.{IsNear}
 use Rattle.corral.proofs.Blanks.{blank}
 use Rattle.corral.proofs.Mapped.{take_whole}
-use Rattle.corral.proofs.corrals.Corral.near_pairs.Goals as goal
+use Rattle.corral.proofs.unsettled.Corral.near_pairs.Goals as goal
 
 pub pair-preserved : goal.pair-preserved
 pair-preserved g c square =

@@ -3,7 +3,7 @@ use Rattle.corral.specs.Parts.{IsPart}
 use Rattle.corral.specs.Balances.{vectors, AreRefuted}
 use Rattle.corral.proofs.Parts.{part_whole}
 use Rattle.corral.proofs.Exchanging.{exchange_is, new_part, new_balance, new_held, new_none_low, new_value, search_finds}
-use Rattle.corral.proofs.corrals.Corral.exchange.Goals as goal
+use Rattle.corral.proofs.unsettled.Corral.exchange.Goals as goal
 
 pub search-requires-clause-chosen : goal.search-requires-clause-chosen
 search-requires-clause-chosen g c =

@@ -4,7 +4,7 @@ use Rattle.corral.specs.WeightedItems.{weighted_items}
 use Rattle.corral.specs.Moments.{potential_at}
 use Rattle.corral.specs.Items.{item}
 use Rattle.corral.proofs.Balancing.{balance_within, is_low_by_level}
-use Rattle.corral.proofs.corrals.Corral.is_low.Goals as goal
+use Rattle.corral.proofs.unsettled.Corral.is_low.Goals as goal
 
 pub potential-requires-clause-within : goal.potential-requires-clause-within
 potential-requires-clause-within g c =
