@@ -57,7 +57,9 @@ fn held_ball<K: Kernel>(
     supports: &[Weighted],
     size: &Frac,
 ) -> Option<Sums>
-    ensures { MatchOption result (HoldsBall K.DIM (map K.place (points_of cloud.entry)) (map weighted_of supports.now) size.now → ⊥) (λ h. HoldsBall K.DIM (map K.place (points_of cloud.entry)) (map weighted_of supports.now) size.now × AreSupportSums K.DIM (map K.place (points_of cloud.entry)) (map weighted_of supports.now) h) }
+    ensures { MatchOption result (HoldsBall K.DIM (map K.place (points_of cloud.entry)) (map weighted_of supports.now) size.now → ⊥)
+        (λ h. HoldsBall K.DIM (map K.place (points_of cloud.entry)) (map weighted_of supports.now) size.now
+        × AreSupportSums K.DIM (map K.place (points_of cloud.entry)) (map weighted_of supports.now) h) }
 {
     let held = sums(kernel, cloud, supports)?;
     if !is_size(size, &held) {
@@ -77,7 +79,9 @@ fn held_ball<K: Kernel>(
 /// The sums over the supports, as seen from the first. None where there are none, one is no point's, or a weight or their sum
 /// is not within the limits.
 fn sums<K: Kernel>(kernel: &K, cloud: Cloud<'_, K::P>, supports: &[Weighted]) -> Option<Sums>
-    ensures { MatchOption result (HasBallLimits K.DIM (length (points_of cloud.entry)) (map weighted_of supports.now) → ⊥) (λ h. HasBallLimits K.DIM (length (points_of cloud.entry)) (map weighted_of supports.now) × AreSupportSums K.DIM (map K.place (points_of cloud.entry)) (map weighted_of supports.now) h) }
+    ensures { MatchOption result (HasBallLimits K.DIM (length (points_of cloud.entry)) (map weighted_of supports.now) → ⊥)
+        (λ h. HasBallLimits K.DIM (length (points_of cloud.entry)) (map weighted_of supports.now)
+        × AreSupportSums K.DIM (map K.place (points_of cloud.entry)) (map weighted_of supports.now) h) }
 {
     if supports.is_empty() {
         return None;
@@ -143,7 +147,8 @@ fn is_none_outside<K: Kernel>(
 ) -> bool
     requires limits { HasBallLimits K.DIM (length (points_of cloud)) (map weighted_of supports.now) }
     requires held { AreSupportSums K.DIM (map K.place (points_of cloud)) (map weighted_of supports.now) held.now }
-    ensures { IsTrue result ↔ All (IsNotOutside (map K.place (points_of cloud.entry)) (map weighted_of supports.now)) (map K.place (points_of cloud.entry)) }
+    ensures { IsTrue result ↔ All (IsNotOutside (map K.place (points_of cloud.entry)) (map weighted_of supports.now))
+        (map K.place (points_of cloud.entry)) }
 {
     let first = cloud.at(supports[0].point);
     for i in 0..cloud.len() {

@@ -54,7 +54,8 @@ impl Sums {
     pub fn checked_with<K: Kernel>(self, kernel: &K, weight: u128, to: Vector) -> Option<Sums>
         requires range { IsInRange K.DIM self }
         requires vector { IsDifference K.DIM (vector_of to) }
-        ensures { MatchOption result ((weight ≡ 0) ⊎ (ball_limit K.DIM < self.weight + weight)) (λ s. (1 ≤ weight) × IsInRange K.DIM s × Adds weight (vector_of to) self s) }
+        ensures { MatchOption result ((weight ≡ 0) ⊎ (ball_limit K.DIM < self.weight + weight))
+            (λ s. (1 ≤ weight) × IsInRange K.DIM s × Adds weight (vector_of to) self s) }
     {
         if weight == 0 || weight > weight_limit::<K>() - self.weight {
             return None;

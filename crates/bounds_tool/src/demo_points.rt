@@ -99,7 +99,11 @@ impl Draws {
     /// The next point of space, with its x in this place.
     fn space_point(&mut self, place: Across) -> Point3
         ensures state { self.new.state ≡ state_after 3 self.old.state }
-        ensures point { result ≡ record { x = across place (state_after 1 self.old.state); y = space_coordinate (state_after 2 self.old.state); z = space_coordinate (state_after 3 self.old.state) } }
+        ensures point { result ≡ record {
+          x = across place (state_after 1 self.old.state);
+          y = space_coordinate (state_after 2 self.old.state);
+          z = space_coordinate (state_after 3 self.old.state);
+        } }
     {
         let x = self.space_coordinate(place);
         let y = self.space_coordinate(Across::Whole);

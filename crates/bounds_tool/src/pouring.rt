@@ -107,11 +107,13 @@ pub(crate) fn pour_points<F: Files>(
     ensures continues { Continues (F.state files.old) (F.state files.new) }
     ensures reads { ReadsOnly (name.now ∷ []) (most_of points_file) (F.state files.old) (F.state files.new) }
     ensures no_fault { IfErr result (λ cause. ¬ IsOfFault (meant cause)) → NoFault (F.state files.old) (F.state files.new) }
-    ensures points { IfOk result (λ sets. IfSome (F.state files.old).told (λ folder. points_in Text (asked ask.now) (bytes_of folder name.now) ≡ Ok sets)) }
+    ensures points { IfOk result (λ sets. IfSome (F.state files.old).told
+        (λ folder. points_in Text (asked ask.now) (bytes_of folder name.now) ≡ Ok sets)) }
     ensures suits { IfOk result (λ sets. Suits (asked ask.now) sets) }
     ensures to_its_end { OnOk result (IsReadToEnd name.now (F.state files.new)) }
     ensures most { (F.state files.new).taken ≤ max (F.state files.old).taken (limit_of points_file + 1) }
-    ensures cause { IfErr result (λ cause. PointsCause F.last_count Text (asked ask.now) name.now (F.state files.old) (F.state files.new) (meant cause)) }
+    ensures cause { IfErr result
+        (λ cause. PointsCause F.last_count Text (asked ask.now) name.now (F.state files.old) (F.state files.new) (meant cause)) }
 {
     let mut reader = Reader::new(alloc, ask);
     pour_file(&mut reader, name, files)?;

@@ -67,11 +67,13 @@ fn load_points<F: Files>(
     ensures continues { Continues (F.state files.old) (F.state files.new) }
     ensures reads { ReadsOnly (name.now ∷ []) (most_of points_file) (F.state files.old) (F.state files.new) }
     ensures no_fault { IfErr result (λ cause. ¬ IsOfFault (meant cause)) → NoFault (F.state files.old) (F.state files.new) }
-    ensures points { IfOk result (λ sets. IfSome (F.state files.old).told (λ folder. points_in forms.Csv (asked ask.now) (bytes_of folder name.now) ≡ Ok sets)) }
+    ensures points { IfOk result (λ sets. IfSome (F.state files.old).told
+        (λ folder. points_in forms.Csv (asked ask.now) (bytes_of folder name.now) ≡ Ok sets)) }
     ensures suits { IfOk result (λ sets. Suits (asked ask.now) sets) }
     ensures to_its_end { OnOk result (IsReadToEnd name.now (F.state files.new)) }
     ensures most { (F.state files.new).taken ≤ max (F.state files.old).taken (limit_of points_file + 1) }
-    ensures cause { IfErr result (λ cause. PointsCause F.last_count forms.Csv (asked ask.now) name.now (F.state files.old) (F.state files.new) (meant cause)) }
+    ensures cause { IfErr result
+        (λ cause. PointsCause F.last_count forms.Csv (asked ask.now) name.now (F.state files.old) (F.state files.new) (meant cause)) }
 {
     let bytes = read_file(alloc, InputFile::Points, name, files)?;
     match parse(alloc, bytes.as_slice(), Form::Csv, ask) {
@@ -92,11 +94,13 @@ pub(crate) fn read_points<F: Files>(
     ensures continues { Continues (F.state files.old) (F.state files.new) }
     ensures reads { ReadsOnly (name.now ∷ []) (most_of points_file) (F.state files.old) (F.state files.new) }
     ensures no_fault { IfErr result (λ cause. ¬ IsOfFault (meant cause)) → NoFault (F.state files.old) (F.state files.new) }
-    ensures points { IfOk result (λ sets. IfSome (F.state files.old).told (λ folder. points_in form (asked ask.now) (bytes_of folder name.now) ≡ Ok sets)) }
+    ensures points { IfOk result (λ sets. IfSome (F.state files.old).told
+        (λ folder. points_in form (asked ask.now) (bytes_of folder name.now) ≡ Ok sets)) }
     ensures suits { IfOk result (λ sets. Suits (asked ask.now) sets) }
     ensures to_its_end { OnOk result (IsReadToEnd name.now (F.state files.new)) }
     ensures most { (F.state files.new).taken ≤ max (F.state files.old).taken (limit_of points_file + 1) }
-    ensures cause { IfErr result (λ cause. PointsCause F.last_count form (asked ask.now) name.now (F.state files.old) (F.state files.new) (meant cause)) }
+    ensures cause { IfErr result
+        (λ cause. PointsCause F.last_count form (asked ask.now) name.now (F.state files.old) (F.state files.new) (meant cause)) }
 {
     match form {
         Form::Text => pour_points(alloc, ask, name, files),
@@ -113,7 +117,8 @@ pub(crate) fn read_answer<F: Files>(
     ensures continues { Continues (F.state files.old) (F.state files.new) }
     ensures reads { ReadsOnly (name.now ∷ []) (most_of answer_file) (F.state files.old) (F.state files.new) }
     ensures no_fault { IfErr result (λ cause. ¬ IsOfFault (meant cause)) → NoFault (F.state files.old) (F.state files.new) }
-    ensures answer { IfOk result (λ answer. IfSome (F.state files.old).told (λ folder. answer_in (bytes_of folder name.now) ≡ Ok (answer_of answer))) }
+    ensures answer { IfOk result (λ answer. IfSome (F.state files.old).told
+        (λ folder. answer_in (bytes_of folder name.now) ≡ Ok (answer_of answer))) }
     ensures to_its_end { OnOk result (IsReadToEnd name.now (F.state files.new)) }
     ensures most { (F.state files.new).taken ≤ max (F.state files.old).taken (limit_of answer_file + 1) }
     ensures cause { IfErr result (λ cause. AnswerCause F.last_count name.now (F.state files.old) (F.state files.new) (meant cause)) }

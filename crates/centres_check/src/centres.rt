@@ -52,7 +52,8 @@ fn is_within_limits(
     squares: &[Homog2],
     leaves: &[Leaf],
 ) -> bool
-    ensures { IsTrue result ↔ IsWithinLimits p (points_of cloud.entry) (record { size = radius.now; squares = squares.now; leaves = map leaf_of leaves.now }) }
+    ensures { IsTrue result ↔ IsWithinLimits p (points_of cloud.entry)
+        (record { size = radius.now; squares = squares.now; leaves = map leaf_of leaves.now }) }
 {
     squares.len() == usize::from(p)
         && is_small_radius(radius)
@@ -197,7 +198,8 @@ fn are_leaves_below(
     requires names { All (NamesPoints (length (points_of cloud))) (map leaf_of leaves.now) }
     requires limit { side ≤ 2000000 }
     requires room { array_vec_len placed.old + depth ≤ 2 }
-    ensures leaves { IsTrue result ↔ AreLeavesAt side depth (points_of cloud.entry) (left_over placed.old.items (points_of cloud.entry)) (map leaf_of leaves.now) }
+    ensures leaves { IsTrue result
+        ↔ AreLeavesAt side depth (points_of cloud.entry) (left_over placed.old.items (points_of cloud.entry)) (map leaf_of leaves.now) }
     ensures same { IsTrue result → placed.new.items ≡ placed.old.items }
 {
     if depth == 0 {
@@ -222,7 +224,8 @@ fn are_leaves_below(
 /// Whether the leaf's points are in none of the squares, and differ by more than a side in x or in y.
 fn is_leaf(leaf: &Leaf, side: u32, placed: &[Square], cloud: Cloud2<'_>) -> bool
     requires { NamesPoints (length (points_of cloud)) (leaf_of leaf.now) }
-    ensures { IsTrue result ↔ IsFreePair side placed.now (point_at (points_of cloud.entry) leaf.now.first) (point_at (points_of cloud.entry) leaf.now.second) }
+    ensures { IsTrue result ↔ IsFreePair side placed.now (point_at (points_of cloud.entry) leaf.now.first)
+        (point_at (points_of cloud.entry) leaf.now.second) }
 {
     let (p, q) = (cloud.at(leaf.first), cloud.at(leaf.second));
     if is_held(placed, p) {

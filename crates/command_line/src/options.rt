@@ -102,7 +102,8 @@ pub(crate) fn number(
     ensures number { IfOk result (λ n. option_and_then (model.number_within low high) (text_within value.entry) ≡ Some n) }
     ensures low { IfOk result (λ n. low ≤ n) }
     ensures high { IfOk result (λ n. n ≤ high) }
-    ensures fault { HasFault result (fault_by (λ word. is_some (model.number_within low high word)) needed (meant_option option) (text_within value.entry)) }
+    ensures fault { HasFault result (fault_by
+        (λ word. is_some (model.number_within low high word)) needed (meant_option option) (text_within value.entry)) }
 {
     let word = needed(option, value)?;
     number_within(low, high, word).ok_or(UsageFault::BadValue(option))

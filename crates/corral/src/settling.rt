@@ -20,7 +20,8 @@ pub fn settle<'a, K: Kernel, T: Potential>(kernel: K, items: Items<'a, K>) -> Su
     ensures held { AreSupportItems K.DIM items.entry (supports_of result) }
     ensures supports { AreSupports T.SQUARE (weighted_items K.place items.entry (supports_of result)) }
     ensures limit { mass (weighted_items K.place items.entry (supports_of result)) ≤ℤ pos (weight_limit T.SQUARE K.DIM) }
-    ensures none_low { (id : _) → IsItem items.entry id → ¬ IsLow T.SQUARE (weighted_items K.place items.entry (supports_of result)) (item K.place items.entry id) }
+    ensures none_low { (id : _) → IsItem items.entry id
+        → ¬ IsLow T.SQUARE (weighted_items K.place items.entry (supports_of result)) (item K.place items.entry id) }
 {
     let origin = Corral::<K, T>::start(kernel, items, Id::default());
     let mut corral = Corral::<K, T>::start(kernel, items, origin.lowest());

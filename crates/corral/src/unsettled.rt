@@ -64,7 +64,9 @@ impl<'a, K: Kernel, T: Potential> Corral<'a, K, T> {
     /// An item of least potential. This is one pass over the points of each cloud.
     pub fn lowest(&self) -> Id
         ensures item { IsItem (all_items self.now) result }
-        ensures least { (other : _) → IsItem (all_items self.now) other → potential T.SQUARE (supports_in K.place self.now) (item K.place (all_items self.now) result) ≤ℤ potential T.SQUARE (supports_in K.place self.now) (item K.place (all_items self.now) other) }
+        ensures least { (other : _) → IsItem (all_items self.now) other
+            → potential T.SQUARE (supports_in K.place self.now) (item K.place (all_items self.now) result) ≤ℤ potential T.SQUARE
+            (supports_in K.place self.now) (item K.place (all_items self.now) other) }
     {
         match self.items {
             Items::Points(cloud) => {
@@ -92,7 +94,8 @@ impl<'a, K: Kernel, T: Potential> Corral<'a, K, T> {
         ensures kernel { self.new.kernel ≡ self.old.kernel }
         ensures items { all_items self.new ≡ all_items self.old }
         ensures part { IsPart (names (held_in self.new)) (id ∷ names (held_in self.old)) }
-        ensures none_low { All (λ other. ¬ IsLow T.SQUARE (supports_in K.place self.new) (item K.place (all_items self.new) other)) (id ∷ names (held_in self.old)) }
+        ensures none_low { All (λ other. ¬ IsLow T.SQUARE (supports_in K.place self.new) (item K.place (all_items self.new) other))
+            (id ∷ names (held_in self.old)) }
         ensures risen { IsBelow (value T.SQUARE (supports_in K.place self.old)) (value T.SQUARE (supports_in K.place self.new)) }
     {
         let all = self.candidates(id);

@@ -15,7 +15,10 @@ pub fn span(cloud: Cloud2<'_>, d: Dir, hi: u32, lo: u32) -> Span
     requires direction { IsShort (vector_of d) }
     requires hi { hi < length (points_of cloud) }
     requires lo { lo < length (points_of cloud) }
-    ensures bounds { span_of result ≡ record { low = dot (vector_of d) (point_at (points_of cloud.entry) lo); high = dot (vector_of d) (point_at (points_of cloud.entry) hi) } }
+    ensures bounds { span_of result ≡ record {
+      low = dot (vector_of d) (point_at (points_of cloud.entry) lo);
+      high = dot (vector_of d) (point_at (points_of cloud.entry) hi);
+    } }
     ensures short { IsShortSpan (span_of result) }
 {
     Span {

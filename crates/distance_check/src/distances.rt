@@ -38,7 +38,9 @@ pub fn check_distance(p: Cloud3<'_>, q: Cloud3<'_>, a: &DistanceAnswer) -> bool
 /// The sums over the pairs. None where there are none, one names no point of its set, or a weight or their sum is not within
 /// the limits.
 fn sums(p: Cloud3<'_>, q: Cloud3<'_>, pairs: &[WeightedPair]) -> Option<PairSums>
-    ensures { MatchOption result (HasPairLimits (length (points_of p.entry)) (length (points_of q.entry)) (map pair_of pairs.now) → ⊥) (λ s. HasPairLimits (length (points_of p.entry)) (length (points_of q.entry)) (map pair_of pairs.now) × ArePairSums (points_of p.entry) (points_of q.entry) (map pair_of pairs.now) s) }
+    ensures { MatchOption result (HasPairLimits (length (points_of p.entry)) (length (points_of q.entry)) (map pair_of pairs.now) → ⊥)
+        (λ s. HasPairLimits (length (points_of p.entry)) (length (points_of q.entry)) (map pair_of pairs.now)
+        × ArePairSums (points_of p.entry) (points_of q.entry) (map pair_of pairs.now) s) }
 {
     if pairs.is_empty() {
         return None;
@@ -110,7 +112,9 @@ fn are_level(
 ) -> bool
     requires limits { HasPairLimits (length (points_of p)) (length (points_of q)) (map pair_of pairs.now) }
     requires range { IsInRange held.now }
-    ensures { IsTrue result ↔ All (λ pair. dot (pull_of held.now) (difference (points_of p.entry) (points_of q.entry) (pair_of pair)) ≡ dot (pull_of held.now) (vector second.now first.now)) pairs.now }
+    ensures { IsTrue result ↔ All
+        (λ pair. dot (pull_of held.now) (difference (points_of p.entry) (points_of q.entry) (pair_of pair)) ≡ dot (pull_of held.now)
+        (vector second.now first.now)) pairs.now }
 {
     for pair in pairs {
         if !is_level(held, p.at(pair.first), q.at(pair.second), first, second) {

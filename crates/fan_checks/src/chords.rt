@@ -80,7 +80,8 @@ fn is_short(chord: Chord) -> bool
 pub(crate) fn are_across(cloud: Cloud2<'_>, fan: &HalfFan, chords: &Chords) -> bool
     requires directions { All IsShort (half_directions (half_fan_of fan.now)) }
     requires limits { HasChordLimits (points_of cloud) (length fan.now.cones + 1) (map chord_of chords.now) }
-    ensures { IsTrue result ↔ AllNumbered (λ i chord. IsAcross (points_of cloud.entry) (point_at (half_directions (half_fan_of fan.now)) i) chord) (map chord_of chords.now) }
+    ensures { IsTrue result ↔ AllNumbered
+        (λ i chord. IsAcross (points_of cloud.entry) (point_at (half_directions (half_fan_of fan.now)) i) chord) (map chord_of chords.now) }
 {
     for i in 0..chords.len() {
         if !is_across(cloud, half_direction(fan, i), chords.at(i)) {

@@ -76,7 +76,8 @@ fn has_size(a: &ParaAnswer) -> bool
     requires second { IsShort (vector_of a.now.second) }
     requires first_span { IsShortSpan (span_of a.now.first_span) }
     requires second_span { IsShortSpan (span_of a.now.second_span) }
-    ensures value { IsTrue result ↔ ((cross (vector_of a.now.first) (vector_of a.now.second) ≢ pos 0) × SameValue a.now.size (parallelogram_size (model.parallelogram_of (parallelogram_of a.now)))) }
+    ensures value { IsTrue result ↔ ((cross (vector_of a.now.first) (vector_of a.now.second) ≢ pos 0)
+        × SameValue a.now.size (parallelogram_size (model.parallelogram_of (parallelogram_of a.now)))) }
     ensures lowest { IsTrue result → IsFraction a.now.size }
     ensures numerator { IsTrue result → a.now.size.n ≤ℤ pos (2 ^ 82) }
     ensures denominator { IsTrue result → a.now.size.d ≤ℤ pos (2 ^ 39) }
@@ -100,7 +101,8 @@ fn is_none_smaller(cloud: Cloud2<'_>, a: &ParaAnswer) -> bool
     requires holds { HoldsHalf (points_of cloud) (half_fan_of a.now.fan) }
     requires numerator { a.now.size.n ≤ℤ pos (2 ^ 82) }
     requires denominator { a.now.size.d ≤ℤ pos (2 ^ 39) }
-    ensures { let p = parallelogram_of a.now in IsTrue result ↔ AllNumbered (λ i cone. IsNotSmallerAt (points_of cloud.entry) p i cone × IsNotSmallerAt (points_of cloud.entry) p (i + 1) cone) p.fan.cones }
+    ensures { let p = parallelogram_of a.now in IsTrue result ↔ AllNumbered
+        (λ i cone. IsNotSmallerAt (points_of cloud.entry) p i cone × IsNotSmallerAt (points_of cloud.entry) p (i + 1) cone) p.fan.cones }
 {
     for i in 0..a.fan.cones.len() {
         let cone = a.fan.cones.at(i);

@@ -72,7 +72,8 @@ fn is_none_smaller(cloud: Cloud2<'_>, fan: &QuarterFan, size: &Frac) -> bool
     requires holds { HoldsQuarter (points_of cloud) (quarter_fan_of fan.now) }
     requires numerator { size.now.n ≤ℤ pos (2 ^ 82) }
     requires denominator { size.now.d ≤ℤ pos (2 ^ 39) }
-    ensures { IsTrue result ↔ AtBothEnds (quarter_directions (quarter_fan_of fan.now)) (IsNotSmaller (points_of cloud.entry) size.now) (quarter_fan_of fan.now).cones }
+    ensures { IsTrue result ↔ AtBothEnds (quarter_directions (quarter_fan_of fan.now)) (IsNotSmaller (points_of cloud.entry) size.now)
+        (quarter_fan_of fan.now).cones }
 {
     for i in 0..fan.cones.len() {
         let cone = fan.cones.at(i);

@@ -64,7 +64,8 @@ fn is_none_narrower(cloud: Cloud2<'_>, fan: &HalfFan, size: &Frac) -> bool
     requires limits { HasHalfLimits (points_of cloud) (half_fan_of fan.now) }
     requires numerator { size.now.n ≤ℤ pos (2 ^ 82) }
     requires denominator { size.now.d ≤ℤ pos (2 ^ 39) }
-    ensures { IsTrue result ↔ AtBothEnds (half_directions (half_fan_of fan.now)) (IsNotThinner (points_of cloud.entry) size.now) (half_fan_of fan.now).cones }
+    ensures { IsTrue result ↔ AtBothEnds (half_directions (half_fan_of fan.now)) (IsNotThinner (points_of cloud.entry) size.now)
+        (half_fan_of fan.now).cones }
 {
     for i in 0..fan.cones.len() {
         let cone = fan.cones.at(i);

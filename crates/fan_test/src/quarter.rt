@@ -39,7 +39,8 @@ fn are_ends(cloud: Cloud2<'_>, fan: &QuarterFan, across: bool) -> bool
     requires numbers { NamesAllPoints (points_of cloud) (quarter_fan_of fan.now) }
     requires short { All IsShort (quarter_directions (quarter_fan_of fan.now)) }
     requires turns { Turns (point_at (quarter_directions (quarter_fan_of fan.now))) (length fan.now.cones) }
-    ensures { let f = quarter_fan_of fan.now in IsTrue result ↔ AreEnds (points_of cloud.entry) (λ i. turned across (point_at (quarter_directions f) i)) (quarter_number across High f) (quarter_number across Low f) (length fan.now.cones) }
+    ensures { let f = quarter_fan_of fan.now in IsTrue result ↔ AreEnds (points_of cloud.entry)
+        (λ i. turned across (point_at (quarter_directions f) i)) (quarter_number across High f) (quarter_number across Low f) (length fan.now.cones) }
 {
     let high = QuarterChain {
         fan,

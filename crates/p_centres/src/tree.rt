@@ -28,7 +28,8 @@ pub(crate) fn cover<L: Ledger>(
     requires room { array_vec_len placed.old + depth < 3 }
     requires leaf_room { array_vec_len leaves.old + 4 ^ depth ≤ 16 }
     ensures covered { IsTrue result → IsCover (counted_points cloud.entry) side (array_vec_len placed.old + depth + 1) placed.new.items }
-    ensures refuted { result ≡ false → IsRefuted (counted_points cloud.entry) side depth placed.old.items placed.new.items leaves.old.items leaves.new.items }
+    ensures refuted { result ≡ false
+        → IsRefuted (counted_points cloud.entry) side depth placed.old.items placed.new.items leaves.old.items leaves.new.items }
     ensures steps { steps.new ≤ steps.old + nodes depth * length (counted_points cloud.entry) }
 {
     if depth == 0 {
@@ -60,7 +61,8 @@ fn cover_rest<L: Ledger>(
     requires room { array_vec_len placed.old < 3 }
     requires leaf_room { array_vec_len leaves.old < 16 }
     ensures covered { IsTrue result → IsCover (counted_points cloud.entry) side (array_vec_len placed.old + 1) placed.new.items }
-    ensures refuted { result ≡ false → IsRefuted (counted_points cloud.entry) side 0 placed.old.items placed.new.items leaves.old.items leaves.new.items }
+    ensures refuted { result ≡ false
+        → IsRefuted (counted_points cloud.entry) side 0 placed.old.items placed.new.items leaves.old.items leaves.new.items }
     ensures steps { steps.new ≤ steps.old + length (counted_points cloud.entry) }
 {
     match survey(cloud, placed.as_slice(), side, steps) {

@@ -53,7 +53,8 @@ impl PairSums {
     /// With one pair more, of any weight. None where it has no weight, or the weights come past their limit.
     pub fn checked_with(self, weight: u128, p: &Point3, q: &Point3) -> Option<PairSums>
         requires { IsInRange self }
-        ensures { MatchOption result ((weight ≡ 0) ⊎ (2 ^ 66 < self.weight + weight)) (λ s. (1 ≤ weight) × IsInRange s × Adds weight p.now q.now self s) }
+        ensures { MatchOption result ((weight ≡ 0) ⊎ (2 ^ 66 < self.weight + weight))
+            (λ s. (1 ≤ weight) × IsInRange s × Adds weight p.now q.now self s) }
     {
         if weight == 0 || weight > WEIGHT_LIMIT - self.weight {
             return None;

@@ -82,7 +82,8 @@ fn near(cloud: Cloud2<'_>, fan: &HalfFan, j: u32, from: u32) -> u32
     requires listed { j < length fan.now.cones }
     requires after { j ≤ from }
     requires before { from < j + length fan.now.cones }
-    requires ahead { pos 0 ≤ℤ reach_of (points_of cloud) (cone_of_number (half_fan_of fan.now) j).direction (cone_of_number (half_fan_of fan.now) from) }
+    requires ahead { pos 0 ≤ℤ reach_of (points_of cloud) (cone_of_number (half_fan_of fan.now) j).direction
+        (cone_of_number (half_fan_of fan.now) from) }
     ensures { IsNear (points_of cloud.entry) (half_fan_of fan.now) j result }
 {
     let d = fan.cones.at(j).dir;
@@ -119,7 +120,8 @@ pub(crate) fn crossing_at(cloud: Cloud2<'_>, fan: &HalfFan, j: u32, from: u32) -
     requires listed { j < length fan.now.cones }
     requires after { j ≤ from }
     requires before { from < j + length fan.now.cones }
-    requires ahead { pos 0 ≤ℤ reach_of (points_of cloud) (cone_of_number (half_fan_of fan.now) j).direction (cone_of_number (half_fan_of fan.now) from) }
+    requires ahead { pos 0 ≤ℤ reach_of (points_of cloud) (cone_of_number (half_fan_of fan.now) j).direction
+        (cone_of_number (half_fan_of fan.now) from) }
     ensures direction { result.direction ≡ j }
     ensures crossing { IsCrossing (points_of cloud.entry) (half_fan_of fan.now) result }
 {

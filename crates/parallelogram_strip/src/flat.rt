@@ -15,7 +15,8 @@ use std::alloc::Global;
 /// The number of the first direction along which the points have no extent, if there is one.
 pub(crate) fn flat_direction(cloud: Cloud2<'_>, fan: &HalfFan) -> Option<u32>
     requires { IsPlainFan (points_of cloud) (half_fan_of fan.now) }
-    ensures { MatchOption result (AreWide (points_of cloud.entry) (half_fan_of fan.now)) (λ j. IsFlatAt (points_of cloud.entry) (half_fan_of fan.now) j) }
+    ensures { MatchOption result (AreWide (points_of cloud.entry) (half_fan_of fan.now))
+        (λ j. IsFlatAt (points_of cloud.entry) (half_fan_of fan.now) j) }
 {
     for j in 0..fan.cones.len() {
         let cone = fan.cones.at(j);

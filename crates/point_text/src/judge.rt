@@ -98,7 +98,8 @@ impl<P: TextPoint> Judge<P> {
     /// Judges the next line, given whole and without its line feed. Behind the first fault it is not looked at.
     pub(crate) fn take_line(&mut self, line: &[u8])
         requires { self.old.lines + 2 < 2 ^ 32 }
-        ensures judged { (before : List (Meaning P)) → HasJudged self.old before → HasJudged self.new (before ++ line_meaning P.numbers_meaning line.now ∷ []) }
+        ensures judged { (before : List (Meaning P)) → HasJudged self.old before
+            → HasJudged self.new (before ++ line_meaning P.numbers_meaning line.now ∷ []) }
         ensures lines { self.new.lines ≤ self.old.lines + 1 }
         ensures failed { self.old.fault ≡ Some fault.OutOfMemory → self.new.fault ≡ Some fault.OutOfMemory }
     {

@@ -52,7 +52,8 @@ impl Judgement {
     /// Judges the next line, whose fields come to this.
     pub(crate) fn take(&mut self, fields: Fields)
         requires { lines_judged self.old + 2 < 2 ^ 32 }
-        ensures judged { (ask : asks.Ask) (before : List (List (List ℕ))) (line : List (List ℕ)) → IsJudgement self.old ask before → AreFields fields line
+        ensures judged { (ask : asks.Ask) (before : List (List (List ℕ))) (line : List (List ℕ)) → IsJudgement self.old ask before
+            → AreFields fields line
             → IsJudgement self.new ask (before ++ line ∷ []) }
         ensures lines { lines_judged self.new ≤ lines_judged self.old + 1 }
         ensures failed { WantsMemory self.old → WantsMemory self.new }

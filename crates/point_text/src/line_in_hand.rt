@@ -79,7 +79,8 @@ pub(crate) enum LineInHand {
 
 /// The line of this content and one byte more.
 fn opened(content: ContentInHand, byte: u8) -> LineInHand
-    ensures { (bytes : List ℕ) → All (λ b. is_comment_sign b ≡ false) bytes → IsContentInHand content bytes → IsLineInHand result (bytes ++ byte ∷ []) }
+    ensures { (bytes : List ℕ) → All (λ b. is_comment_sign b ≡ false) bytes → IsContentInHand content bytes
+        → IsLineInHand result (bytes ++ byte ∷ []) }
 {
     match byte {
         b'#' => LineInHand::Commented(content),

@@ -13,6 +13,8 @@ pub(crate) enum Over {
     Sure,
     /// The files of the system, beside the tables.
     Real,
+    /// The same, with an output that takes nothing.
+    Full,
 }
 
 /// A file of a row.
@@ -250,6 +252,8 @@ fn read_over(rest: &str) -> Result<Over> {
         Ok(Over::Sure)
     } else if rest == "real" {
         Ok(Over::Real)
+    } else if rest == "full" {
+        Ok(Over::Full)
     } else {
         bail!("no files are named {rest}")
     }

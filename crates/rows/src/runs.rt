@@ -3,11 +3,13 @@ ghost use Rattle.std.specs.Prelude.{◌≡◌, ◌<◌, ◌≤◌, IsFalse, IfOk
 
 use crate::row::{Cut, NamedFile, Over, Row, Table};
 use anyhow::Result;
-use bnd_io::{Files, MemFiles, MemSink, RealFiles, RealSink, Sink, SureFiles, SureSink};
+use bnd_io::{Files, MemFiles, MemSink, Sink, SureFiles, SureSink};
 use bounded_coords::{OutOfMemory, Steps};
+use bounds_start::run_words;
 use bounds_tool::{Status, run};
 use std::alloc::{AllocError, Global};
 use std::fs;
+use std::io::Write;
 use std::marker::Brand;
 use std::sync::ledger::{Blank, Ledger};
 
@@ -55,7 +57,11 @@ pub(crate) fn run_row(
             add_surely(&mut files, table, row)?;
             run_to_end(rt.alloc(), words, &mut files)
         }
-        Over::Real => run_really(rt, words),
+        Over::Real => run_really(rt, words, fs::create(rt, OUT)?),
+        Over::Full => {
+            fs::create(rt, OUT)?;
+            run_really(rt, words, fs::open(rt, OUT)?)
+        }
     }
 }
 
@@ -145,14 +151,12 @@ fn run_to_end<F: Files>(alloc: Global, words: &[&str], files: &mut F) -> Result<
     Ending::new(alloc, status, out.as_slice(), err.as_slice())
 }
 
-/// Runs words over the files of the system, with two of them as sinks.
-fn run_really(rt: &HostRuntime, words: &[&str]) -> Result<Ending> {
-    let mut files = RealFiles::new(*rt);
-    let mut out = RealSink::new(fs::create(rt, OUT)?);
-    let mut err = RealSink::new(fs::create(rt, ERR)?);
-    let status = run_over(rt.alloc(), words, &mut files, &mut out, &mut err);
+/// Runs words as the program does, over the files of the system. What it writes goes to this stream, which is that of a file, and to
+/// another file.
+fn run_really<O: Write + Drop>(rt: &HostRuntime, words: &[&str], out: O) -> Result<Ending> {
+    let status = run_words(rt, words, out, fs::create(rt, ERR)?);
     Ok(Ending {
-        status: status.number(),
+        status,
         out: fs::read(rt, OUT)?,
         err: fs::read(rt, ERR)?,
     })

@@ -46,7 +46,8 @@ pub(crate) fn push_chorded(
     chords: &[Chord],
 ) -> Result<(), AllocError>
     requires { length cones.now ≤ length chords.now }
-    ensures { OnOk result (text.new.items ≡ text.old.items ++ flat_map (format_line (untitled chorded_fields)) (map chorded_values (zip cones.now chords.now))) }
+    ensures { OnOk result (text.new.items ≡ text.old.items ++ flat_map (format_line (untitled chorded_fields))
+        (map chorded_values (zip cones.now chords.now))) }
 {
     let count = cones.len();
     for i in 0..count {

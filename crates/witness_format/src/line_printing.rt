@@ -65,7 +65,8 @@ pub(crate) fn push_counted<T: Line>(
     lines: &[T],
 ) -> Result<(), AllocError>
     requires { length lines.now + less < 2 ^ 32 }
-    ensures { OnOk result (text.new.items ≡ text.old.items ++ counted_bytes word.now less T.Fields.fields (map (λ v. T.Fields.values (T.parts v)) lines.now)) }
+    ensures { OnOk result (text.new.items ≡ text.old.items ++ counted_bytes word.now less T.Fields.fields (map
+        (λ v. T.Fields.values (T.parts v)) lines.now)) }
 {
     push_count(text, word, lines.len() + less)?;
     push_lines(text, lines)
@@ -73,7 +74,8 @@ pub(crate) fn push_counted<T: Line>(
 
 /// These lines.
 fn push_lines<T: Line>(text: &mut Vec<u8>, lines: &[T]) -> Result<(), AllocError>
-    ensures { OnOk result (text.new.items ≡ text.old.items ++ flat_map (λ v. format_line (untitled T.Fields.fields) (T.Fields.values (T.parts v))) lines.now) }
+    ensures { OnOk result (text.new.items ≡ text.old.items ++ flat_map
+        (λ v. format_line (untitled T.Fields.fields) (T.Fields.values (T.parts v))) lines.now) }
 {
     for line in lines {
         push_line(text, line)?;

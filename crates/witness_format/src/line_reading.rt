@@ -47,7 +47,8 @@ fn kind_named(words: Words<'_>) -> Option<AnswerKind>
 
 /// A line of a word and a value.
 pub(crate) fn read_titled<T: Line>(text: &mut Unread<'_>, word: &[u8]) -> Result<T, ReadFault>
-    ensures { Reads (λ value. (T.Fields.values (T.parts value), lines_left text.new)) result (line_at (titled word.now T.Fields.fields) (lines_left text.old)) }
+    ensures { Reads (λ value. (T.Fields.values (T.parts value), lines_left text.new)) result
+        (line_at (titled word.now T.Fields.fields) (lines_left text.old)) }
 {
     let number = text.number;
     let words = text.next_line()?;
@@ -73,7 +74,8 @@ fn value_of<T: Line>(words: Words<'_>) -> Option<Judged<T>>
 
 /// A line of a value alone.
 pub(crate) fn read_line<T: Line>(text: &mut Unread<'_>) -> Result<T, ReadFault>
-    ensures { Reads (λ value. (T.Fields.values (T.parts value), lines_left text.new)) result (line_at (untitled T.Fields.fields) (lines_left text.old)) }
+    ensures { Reads (λ value. (T.Fields.values (T.parts value), lines_left text.new)) result
+        (line_at (untitled T.Fields.fields) (lines_left text.old)) }
 {
     let number = text.number;
     let words = text.next_line()?;

@@ -31,7 +31,8 @@ pub(crate) fn read_rows(
 ) -> Result<Potentials, ReadFault>
     requires longest { longest ≤ 127 }
     requires layers { layers ≤ 10 }
-    ensures { ReadsOr (Unit {0}) (λ numbers. (map pos numbers, lines_left text.new)) result (rows_at (triangle longest layers) (lines_left text.old)) }
+    ensures { ReadsOr (Unit {0})
+        (λ numbers. (map pos numbers, lines_left text.new)) result (rows_at (triangle longest layers) (lines_left text.old)) }
 {
     let mut widths = RowWidths::new(longest, layers);
     let mut numbers = Potentials::new(alloc);
@@ -44,7 +45,8 @@ pub(crate) fn read_rows(
 /// Adds the numbers of a row.
 fn read_row(text: &mut Unread<'_>, width: u32, numbers: &mut Potentials) -> Result<(), ReadFault>
     requires { length numbers.old + width ≤ 1000000 }
-    ensures row { ReadsOr (Unit {0}) (λ _. (map pos numbers.new, lines_left text.new)) result (row_behind (map pos numbers.old) width (lines_left text.old)) }
+    ensures row { ReadsOr (Unit {0})
+        (λ _. (map pos numbers.new, lines_left text.new)) result (row_behind (map pos numbers.old) width (lines_left text.old)) }
     ensures amount { OnOk result (length numbers.new ≤ length numbers.old + width) }
 {
     let number = text.number;
@@ -60,7 +62,8 @@ fn add_naturals(
     numbers: &mut Potentials,
 ) -> Result<Option<Judged<()>>, ReadFault>
     requires { length numbers.old + count ≤ 1000000 }
-    ensures says { IfOk result (λ says. Finds (seen (λ _. map pos numbers.new)) says (naturals_behind (Ok (map pos numbers.old)) count (words_left words.entry))) }
+    ensures says { IfOk result
+        (λ says. Finds (seen (λ _. map pos numbers.new)) says (naturals_behind (Ok (map pos numbers.old)) count (words_left words.entry))) }
     ensures amount { IfOk result (λ says. length numbers.new ≤ length numbers.old + count) }
     ensures fault { IfErr result (λ fault. fault ≡ OutOfMemory) }
 {

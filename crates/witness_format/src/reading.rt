@@ -36,7 +36,8 @@ pub fn read(alloc: Global, bytes: &[u8]) -> Result<Answer, ReadFault>
     // What is read is spelled so.
     ensures spelled { IfOk result (λ answer. Spells bytes.now (answer_of answer)) }
     // What is spelled so is read, unless memory is wanting.
-    ensures found { (a : model.Answer) → Spells bytes.now a → IsFound (TextMayWant kinds (all_lines bytes.now)) result (λ answer. answer_of answer ≡ a) }
+    ensures found { (a : model.Answer) → Spells bytes.now a → IsFound (TextMayWant kinds (all_lines bytes.now)) result
+        (λ answer. answer_of answer ≡ a) }
 {
     read_lines(alloc, bytes)
 }
@@ -62,7 +63,8 @@ fn read_body(
     kind: AnswerKind,
     size: Frac,
 ) -> Result<Answer, ReadFault>
-    ensures { ReadsOr (MayWant (format_of kind)) (λ a. (answer_of a, lines_left text.new)) result (body_of (format_of kind) size (lines_left text.old)) }
+    ensures { ReadsOr (MayWant (format_of kind))
+        (λ a. (answer_of a, lines_left text.new)) result (body_of (format_of kind) size (lines_left text.old)) }
 {
     match kind {
         AnswerKind::Circle => read_circle(text, size),
