@@ -13,7 +13,7 @@ use Rattle.corral.specs.declared.items.Items.{Items}
 use Rattle.corral.specs.declared.items.Items.TheVariants.{Differences}
 use Rattle.corral.specs.declared.support.WeightedItem.{WeightedItem}
 use Rattle.corral.specs.Items.{IsItem, item, first_points, second_points}
-use Rattle.corral.specs.WeightedItem as corral
+use Rattle.corral.specs.WeightedItems as corral
 use Rattle.corral.specs.WeightedItems.{weighted_item, weighted_items}
 use Rattle.corral.proofs.Mapped.{all_unmap}
 use Rattle.corral.specs.Supports.{AreSupports}
