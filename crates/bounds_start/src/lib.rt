@@ -2,11 +2,13 @@
 //! The streams come from the caller, so that worked rows can look at what goes to each.
 #![tactic(auto)]
 
-ghost use Rattle.std.specs.Prelude.{◌≡◌, ◌<◌};
+ghost use Rattle.std.specs.Prelude.{◌≡◌, ◌⊎◌, ◌<◌, ◌≤◌, IsErr};
+ghost use Rattle.command_line.specs.Words.{task_of};
+ghost use Rattle.bounds_tool.specs.Run.{texts, IsCheck};
 
 use bnd_io::{RealFiles, RealSink, write_all};
 use bounded_coords::Steps;
-use bounds_tool::run;
+use bounds_tool::{Status, run};
 use std::alloc::AllocError;
 use std::env;
 use std::env::Args;
@@ -20,8 +22,10 @@ const NO_MEMORY: u8 = 6;
 const NO_WORDS: u8 = 7;
 
 /// Runs the words that the process was given over the files of the system, with these streams for the output and for the error
-/// line, and gives the status's number.
-pub fn start<O: Write + Drop, E: Write + Drop>(rt: &HostRuntime, out: O, err: E) -> u8 {
+/// line, and gives the status's number, or 7 where the system refuses the words. No clause can name the words of a process.
+pub fn start<O: Write + Drop, E: Write + Drop>(rt: &HostRuntime, out: O, err: E) -> u8
+    ensures { result ≤ 7 }
+{
     let args = match env::args(rt) {
         Ok(args) => args,
         Err(e) if e.kind() == ErrorKind::OutOfMemory => return no_memory(err),
@@ -29,7 +33,7 @@ pub fn start<O: Write + Drop, E: Write + Drop>(rt: &HostRuntime, out: O, err: E)
     };
     match kept(rt, args) {
         Ok(texts) => match lent(rt, &texts) {
-            Ok(words) => run_words(rt, &words, out, err),
+            Ok(words) => run_words(rt, &words, out, err).number(),
             Err(AllocError) => no_memory(err),
         },
         Err(AllocError) => no_memory(err),
@@ -37,7 +41,9 @@ pub fn start<O: Write + Drop, E: Write + Drop>(rt: &HostRuntime, out: O, err: E)
 }
 
 // The end where there is no memory for the words themselves.
-fn no_memory<E: Write + Drop>(err: E) -> u8 {
+fn no_memory<E: Write + Drop>(err: E) -> u8
+    ensures { result ≡ 6 }
+{
     let mut err = RealSink::new(err);
     let _ = write_all(&mut err, b"bounds: out of memory\n");
     NO_MEMORY
@@ -56,13 +62,18 @@ fn lent<'a>(rt: &HostRuntime, texts: &'a [String]) -> Result<Vec<&'a str>, Alloc
     Ok(words)
 }
 
-/// Runs these words over the files of the system, with these streams and a counter that was never used, and gives the status's number.
+/// Runs these words over the files of the system, with these streams and a counter that was never used. The files and the streams
+/// tell no bytes, so the clauses are those of `run` on the words alone.
 pub fn run_words<O: Write + Drop, E: Write + Drop>(
     rt: &HostRuntime,
     words: &[&str],
     out: O,
     err: E,
-) -> u8 {
+) -> Status
+    ensures usage { result ≡ Status.Usage → IsErr (task_of (texts words.now)) }
+    ensures words { IsErr (task_of (texts words.now)) → (result ≡ Status.Usage) ⊎ (result ≡ Status.Memory) }
+    ensures verdict { result ≡ Status.No → IsCheck (task_of (texts words.now)) }
+{
     run_counted::<O, E, Brand>(rt, words, out, err, Blank::new(1))
 }
 
@@ -72,10 +83,13 @@ fn run_counted<O: Write + Drop, E: Write + Drop, L: Ledger>(
     out: O,
     err: E,
     blank: Blank,
-) -> u8
+) -> Status
     requires name { blank.name ≡ L.name }
     requires parts { blank.parts ≡ L.parts }
     requires some { 0 < blank.parts }
+    ensures usage { result ≡ Status.Usage → IsErr (task_of (texts words.now)) }
+    ensures words { IsErr (task_of (texts words.now)) → (result ≡ Status.Usage) ⊎ (result ≡ Status.Memory) }
+    ensures verdict { result ≡ Status.No → IsCheck (task_of (texts words.now)) }
 {
     let mut steps = Steps::<L>::new(blank);
     let mut files = RealFiles::new(*rt);
@@ -89,5 +103,4 @@ fn run_counted<O: Write + Drop, E: Write + Drop, L: Ledger>(
         &mut err,
         &mut steps,
     )
-    .number()
 }

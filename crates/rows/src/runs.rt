@@ -156,7 +156,7 @@ fn run_to_end<F: Files>(alloc: Global, words: &[&str], files: &mut F) -> Result<
 fn run_really<O: Write + Drop>(rt: &HostRuntime, words: &[&str], out: O) -> Result<Ending> {
     let status = run_words(rt, words, out, fs::create(rt, ERR)?);
     Ok(Ending {
-        status,
+        status: status.number(),
         out: fs::read(rt, OUT)?,
         err: fs::read(rt, ERR)?,
     })
