@@ -1,5 +1,5 @@
 -- Directions in turning order, with points that are extreme for all directions between two neighbours.
-use Rattle.std.specs.Prelude.{◌≡◌, ℕ, ◌+◌, ◌-◌, ◌^◌, ◌≤◌, ℤ, pos, negsuc, ◌≤ℤ◌, ◌<ℤ◌, List, [], ◌∷◌, ◌++◌, length, map, All}
+use Rattle.std.specs.Prelude.{◌≡◌, ℕ, ◌+◌, ◌-◌, ◌^◌, ◌<◌, ◌≤◌, ℤ, pos, negsuc, ◌≤ℤ◌, ◌<ℤ◌, List, [], ◌∷◌, ◌++◌, length, map, All}
 use Rattle.bounds_model.specs.Numbers.{AllNumbered, EachBelow, IsWithin, HasCount}
 use Rattle.bounds_model.specs.Plane.{PlanePoint, point_at, vector, dot, cross, quarter_turn}
 use Rattle.bounds_model.specs.Places.{IsPair, fan_limit, point_limit}
@@ -75,13 +75,23 @@ IsHalfExtreme points d cone = AreExtreme points d cone.high cone.low
 abbrev pub IsQuarterExtreme : List PlanePoint → PlanePoint → QuarterCone → Type 0
 IsQuarterExtreme points d cone = AreExtreme points d cone.high cone.low × AreExtreme points (quarter_turn d) cone.over cone.under
 
+-- the numbers of a fan are numbers of points
+abbrev pub NamesPoints : List PlanePoint → HalfFan → Type 0
+NamesPoints points fan = All (λ cone. (cone.high < length points) × (cone.low < length points)) fan.cones
+
 -- a fan over half a turn holds for points
 pub record HoldsHalf (points : List PlanePoint) (fan : HalfFan) : Type 0 where
+  pub numbers : NamesPoints points fan
   pub directions : TurnLeft east west (half_directions fan)
   pub extremes : AtBothEnds (half_directions fan) (IsHalfExtreme points) fan.cones
 
+-- the numbers of a fan over a quarter turn are numbers of points
+abbrev pub NamesAllPoints : List PlanePoint → QuarterFan → Type 0
+NamesAllPoints points fan = All (λ cone. (cone.high < length points) × (cone.low < length points) × (cone.over < length points) × (cone.under < length points)) fan.cones
+
 -- a fan over a quarter turn holds for points
 pub record HoldsQuarter (points : List PlanePoint) (fan : QuarterFan) : Type 0 where
+  pub numbers : NamesAllPoints points fan
   pub directions : TurnLeft east north (quarter_directions fan)
   pub extremes : AtBothEnds (quarter_directions fan) (IsQuarterExtreme points) fan.cones
 

@@ -7,7 +7,7 @@ use Rattle.bounds_model.specs.Strip.{Span, IsInSpan}
 use Rattle.bounds_model.specs.Parallelogram.{Parallelogram, parallelogram_size}
 use Rattle.bounds_model.specs.Places.{IsFraction, IsPair, IsSpan, IsNumber, IsNatural, point_limit}
 use Rattle.bounds_model.specs.Fans.{HalfFan, HalfCone, half_directions, HoldsHalf, HalfPlaces, reach, IsShort}
-use Rattle.bounds_model.specs.StripAnswer.{IsShortSpan, NamesPoints}
+use Rattle.bounds_model.specs.StripAnswer.{IsShortSpan}
 
 -- from the point a to the mean of b and c with the weights beta and gamma: k / (beta + gamma) times a direction turned by a right angle
 pub record Chord : Type 0 where
@@ -83,7 +83,6 @@ IsNotSmallerAt points a i cone = IsSomeAnd (slice_get a.chords i) (IsNotSmaller 
 -- what a checker asks of a parallelogram
 pub record PassesParallelogram (points : List PlanePoint) (a : ParallelogramAnswer) : Type 0 where
   pub places : ParallelogramPlaces a
-  pub numbers : NamesPoints points a.fan
   pub chord_numbers : All (NamesEnds points) a.chords
   pub short_directions : All IsShort (half_directions a.fan)
   pub short_first : IsShort a.first

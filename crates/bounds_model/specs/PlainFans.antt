@@ -3,7 +3,7 @@ use Rattle.std.specs.Prelude.{◌≡◌, ◌≢◌, ◌⊎◌, ℕ, ◌+◌, ◌
 use Rattle.bounds_model.specs.Plane.{PlanePoint, origin, point_at, vector, dot, cross}
 use Rattle.bounds_model.specs.Fractions.{HaveNoCommonFactor}
 use Rattle.bounds_model.specs.Hull.{around}
-use Rattle.bounds_model.specs.Fans.{north}
+use Rattle.bounds_model.specs.Fans.{TurnLeft, east, north, west}
 
 -- the edge of the hull from the corner of this number to the next
 abbrev pub edge : List PlanePoint → ℕ → PlanePoint
@@ -27,16 +27,18 @@ EachInner directions P = (i : ℕ) → 0 < i → i + 1 < length directions → P
 abbrev pub AreLowest : List PlanePoint → Type 0
 AreLowest directions = All (λ d. HaveNoCommonFactor (d.x ∷ d.y ∷ [])) directions
 
--- a fan over half a turn has the upward direction and those at right angles to the edges, and no others but its ends
+-- a fan over half a turn has its ends, the upward direction and those at right angles to the edges, each once, and no others
 pub record IsPlainHalf (corners directions : List PlanePoint) : Type 0 where
+  pub once : TurnLeft east west directions
   pub lowest : AreLowest directions
   pub in_range : EachInner directions (λ d. pos 0 <ℤ d.y)
   pub up : Contains directions north
   pub edges : EachIndex corners (λ i. edge corners i ≢ origin → Any (IsUpright (edge corners i)) directions)
   pub no_others : EachInner directions (λ d. (d ≡ north) ⊎ SomeIndex corners (λ i. IsUpright (edge corners i) d))
 
--- a fan over a quarter turn has the directions at right angles to the edges and along them, and no others but its ends
+-- a fan over a quarter turn has its ends and the directions at right angles to the edges and along them, each once, and no others
 pub record IsPlainQuarter (corners directions : List PlanePoint) : Type 0 where
+  pub once : TurnLeft east north directions
   pub lowest : AreLowest directions
   pub in_range : EachInner directions (λ d. (pos 0 <ℤ d.x) × (pos 0 <ℤ d.y))
   pub edges : EachIndex corners (λ i. edge corners i ≢ origin → Any (IsUprightOrAlong (edge corners i)) directions)

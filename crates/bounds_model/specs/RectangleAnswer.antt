@@ -1,5 +1,5 @@
 -- The answers on rectangles, and what a checker asks of them.
-use Rattle.std.specs.Prelude.{◌≢◌, ◌<◌, ℤ, pos, ◌*ℤ◌, ◌≤ℤ◌, List, length, All}
+use Rattle.std.specs.Prelude.{◌≢◌, ℤ, pos, ◌*ℤ◌, ◌≤ℤ◌, List, All}
 use Rattle.bounds_model.specs.Plane.{PlanePoint, origin, dot, squared_length, quarter_turn}
 use Rattle.bounds_model.specs.Fractions.{Fraction, SameValue}
 use Rattle.bounds_model.specs.Strip.{Span, IsInSpan}
@@ -36,14 +36,9 @@ reached_area points d cone = reach points d cone.high cone.low *ℤ reach points
 abbrev pub IsNotSmaller : List PlanePoint → Fraction → PlanePoint → QuarterCone → Type 0
 IsNotSmaller points size d cone = (size.n *ℤ squared_length d) ≤ℤ (reached_area points d cone *ℤ size.d)
 
--- the numbers of a fan are numbers of points
-abbrev pub NamesAllPoints : List PlanePoint → QuarterFan → Type 0
-NamesAllPoints points fan = All (λ cone. (cone.high < length points) × (cone.low < length points) × (cone.over < length points) × (cone.under < length points)) fan.cones
-
 -- what a checker asks of a rectangle
 pub record PassesRectangle (points : List PlanePoint) (a : RectangleAnswer) : Type 0 where
   pub places : RectanglePlaces a
-  pub numbers : NamesAllPoints points a.fan
   pub short_directions : All IsShort (quarter_directions a.fan)
   pub short_direction : IsShort a.direction
   pub short_along : IsShortSpan a.along

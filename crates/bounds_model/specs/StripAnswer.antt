@@ -1,5 +1,5 @@
 -- The answers on strips, and what a checker asks of them.
-use Rattle.std.specs.Prelude.{◌≢◌, ◌<◌, pos, ◌*ℤ◌, ◌≤ℤ◌, List, length, All}
+use Rattle.std.specs.Prelude.{◌≢◌, pos, ◌*ℤ◌, ◌≤ℤ◌, List, All}
 use Rattle.bounds_model.specs.Numbers.{IsWithin}
 use Rattle.bounds_model.specs.Plane.{PlanePoint, origin, dot, squared_length}
 use Rattle.bounds_model.specs.Fractions.{Fraction, SameValue}
@@ -30,10 +30,6 @@ pub record IsShortSpan (span : Span) : Type 0 where
   pub low : IsWithin span_limit span.low
   pub high : IsWithin span_limit span.high
 
--- the numbers of a fan are numbers of points
-abbrev pub NamesPoints : List PlanePoint → HalfFan → Type 0
-NamesPoints points fan = All (λ cone. (cone.high < length points) × (cone.low < length points)) fan.cones
-
 -- the square of the width of the strip around the points with this normal is at least the size
 abbrev pub IsNotThinner : List PlanePoint → Fraction → PlanePoint → HalfCone → Type 0
 IsNotThinner points size d cone =
@@ -42,7 +38,6 @@ IsNotThinner points size d cone =
 -- what a checker asks of a strip
 pub record PassesStrip (points : List PlanePoint) (a : StripAnswer) : Type 0 where
   pub places : StripPlaces a
-  pub numbers : NamesPoints points a.fan
   pub short_directions : All IsShort (half_directions a.fan)
   pub short_direction : IsShort a.direction
   pub short_bounds : IsShortSpan a.bounds

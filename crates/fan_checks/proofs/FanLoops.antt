@@ -5,8 +5,8 @@ use Rattle.std.proofs.lemmas.List.{length-map, length-append}
 use Rattle.std.proofs.lemmas.Option.{slice_get_within}
 use Rattle.bounds_model.specs.Plane.{PlanePoint, point_at, origin}
 use Rattle.bounds_model.specs.Fans.{IsShort, half_directions, quarter_directions}
-use Rattle.bounds_model.specs.StripAnswer.{NamesPoints}
-use Rattle.bounds_model.specs.RectangleAnswer.{NamesAllPoints}
+use Rattle.bounds_model.specs.Fans.{NamesPoints}
+use Rattle.bounds_model.specs.Fans.{NamesAllPoints}
 use Rattle.answers.specs.Answers.{vector_of, half_cone_of, half_fan_of, quarter_cone_of, quarter_fan_of}
 use Rattle.answers.specs.declared.fans.HalfCone.{HalfCone}
 use Rattle.answers.specs.declared.fans.QuarterCone.{QuarterCone}

@@ -57,7 +57,6 @@ parallelogram_passes points a few lowest fan first second first_bounds second_bo
     chord_for_each = chords.as_many ∙ sym (length_directions a.fan);
     chords = λ i d l. chord_places points (slice_index_or a.chords i d) few (chords.names i d l) (chords.short i d l) (natural i d l);
   };
-  numbers = fan.numbers;
   chord_numbers = chords.names;
   short_directions = fan.short;
   short_first = first;

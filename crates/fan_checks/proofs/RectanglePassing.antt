@@ -18,7 +18,6 @@ pub rectangle_passes : (points : List PlanePoint) (a : RectangleAnswer) → leng
     → All (λ p. IsInSpan a.along (dot a.direction p)) points → All (λ p. IsInSpan a.across (dot (quarter_turn a.direction) p)) points → PassesRectangle points a
 rectangle_passes points a few lowest fan normal across size holds not_smaller inside_along inside_across = record {
   places = record { size = lowest; direction = short_pair a.direction normal.short; along = short_span a.along normal.bounds; across = short_span a.across across; fan = quarter_places points a.fan few fan };
-  numbers = fan.numbers;
   short_directions = fan.short;
   short_direction = normal.short;
   short_along = normal.bounds;

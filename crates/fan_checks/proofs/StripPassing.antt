@@ -16,7 +16,6 @@ pub strip_passes : (points : List PlanePoint) (a : StripAnswer) → length point
     → All (λ p. IsInSpan a.bounds (dot a.direction p)) points → PassesStrip points a
 strip_passes points a few lowest fan normal size holds not_thinner inside = record {
   places = record { size = lowest; direction = short_pair a.direction normal.short; bounds = short_span a.bounds normal.bounds; fan = half_places points a.fan few fan };
-  numbers = fan.numbers;
   short_directions = fan.short;
   short_direction = normal.short;
   short_bounds = normal.bounds;

@@ -4,9 +4,8 @@ use Rattle.bounds_model.specs.Numbers.{HasCount}
 use Rattle.bounds_model.specs.Plane.{PlanePoint, origin}
 use Rattle.bounds_model.specs.Strip.{Span}
 use Rattle.bounds_model.specs.Places.{fan_limit}
-use Rattle.bounds_model.specs.Fans.{HalfFan, QuarterFan, QuarterCone, half_directions, quarter_directions, IsShort}
-use Rattle.bounds_model.specs.StripAnswer.{NamesPoints, IsShortSpan}
-use Rattle.bounds_model.specs.RectangleAnswer.{NamesAllPoints}
+use Rattle.bounds_model.specs.Fans.{HalfFan, QuarterFan, QuarterCone, half_directions, quarter_directions, IsShort, NamesPoints, NamesAllPoints}
+use Rattle.bounds_model.specs.StripAnswer.{IsShortSpan}
 use Rattle.bounds_model.specs.ParallelogramAnswer.{Chord, NamesEnds, IsShortChord}
 
 -- the cone names four of so many points

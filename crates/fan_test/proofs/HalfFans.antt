@@ -3,8 +3,7 @@ use Rattle.std.proofs.Common.{◌≡◌, sym, ◌∙◌, ap, subst, ◌↔◌, �
 use Rattle.std.specs.Prelude.{List, [], ◌∷◌, map}
 use Rattle.std.proofs.lemmas.List.{get_or_default, length-map, length-append}
 use Rattle.bounds_model.specs.Plane.{PlanePoint, point_at, origin}
-use Rattle.bounds_model.specs.Fans.{HalfFan, HalfCone, half_directions, TurnLeft, AtBothEnds, IsHalfExtreme, AreExtreme, east, west}
-use Rattle.bounds_model.specs.StripAnswer.{NamesPoints}
+use Rattle.bounds_model.specs.Fans.{HalfFan, HalfCone, half_directions, TurnLeft, AtBothEnds, IsHalfExtreme, AreExtreme, east, west, NamesPoints}
 use Rattle.fan_test.specs.Chains.{Leads, AreListed}
 use Rattle.fan_test.specs.Ends.{AreEnds, half_number, chosen}
 use Rattle.fan_test.specs.declared.ends.End.{End}

@@ -3,8 +3,7 @@ use Rattle.std.proofs.Common.{◌≡◌, sym, ◌∙◌, ap, subst, ◌↔◌, �
 use Rattle.std.specs.Prelude.{List, [], ◌∷◌, map}
 use Rattle.std.proofs.lemmas.List.{get_or_default, length-map, length-append}
 use Rattle.bounds_model.specs.Plane.{PlanePoint, point_at, origin, quarter_turn}
-use Rattle.bounds_model.specs.Fans.{QuarterFan, QuarterCone, quarter_directions, TurnLeft, AtBothEnds, IsQuarterExtreme, east, north}
-use Rattle.bounds_model.specs.RectangleAnswer.{NamesAllPoints}
+use Rattle.bounds_model.specs.Fans.{QuarterFan, QuarterCone, quarter_directions, TurnLeft, AtBothEnds, IsQuarterExtreme, east, north, NamesAllPoints}
 use Rattle.fan_test.specs.Chains.{Leads, AreListed, Turns}
 use Rattle.fan_test.specs.Ends.{AreEnds, quarter_number, quarter_end, turned}
 use Rattle.fan_test.specs.declared.ends.End.{End}

@@ -1,7 +1,6 @@
 //! Whether a fan over half a turn holds.
 ghost use Rattle.std.specs.Prelude.{◌≡◌, ◌↔◌, IsTrue, length, All};
-ghost use Rattle.bounds_model.specs.Fans.{IsShort, HoldsHalf, half_directions};
-ghost use Rattle.bounds_model.specs.StripAnswer.{NamesPoints};
+ghost use Rattle.bounds_model.specs.Fans.{IsShort, HoldsHalf, half_directions, NamesPoints};
 ghost use Rattle.bounded_coords.specs.Clouds.{points_of};
 ghost use Rattle.answers.specs.Answers.{half_fan_of};
 

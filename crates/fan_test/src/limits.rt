@@ -1,8 +1,6 @@
 //! What is to be known of a fan before it is tested: its numbers are those of points, and its directions are short.
 ghost use Rattle.std.specs.Prelude.{◌≡◌, ◌↔◌, ◌<◌, IsTrue, All, length};
-ghost use Rattle.bounds_model.specs.Fans.{IsShort, half_directions, quarter_directions};
-ghost use Rattle.bounds_model.specs.StripAnswer.{NamesPoints};
-ghost use Rattle.bounds_model.specs.RectangleAnswer.{NamesAllPoints};
+ghost use Rattle.bounds_model.specs.Fans.{IsShort, half_directions, quarter_directions, NamesPoints, NamesAllPoints};
 ghost use Rattle.bounded_coords.specs.Clouds.{points_of};
 ghost use Rattle.answers.specs.Answers.{vector_of, half_cone_of, half_fan_of, quarter_cone_of, quarter_fan_of};
 

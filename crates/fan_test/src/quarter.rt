@@ -1,8 +1,7 @@
 //! Whether a fan over a quarter turn holds.
 ghost use Rattle.std.specs.Prelude.{◌≡◌, ◌↔◌, IsTrue, length, All};
 ghost use Rattle.bounds_model.specs.Plane.{point_at};
-ghost use Rattle.bounds_model.specs.Fans.{IsShort, HoldsQuarter, quarter_directions};
-ghost use Rattle.bounds_model.specs.RectangleAnswer.{NamesAllPoints};
+ghost use Rattle.bounds_model.specs.Fans.{IsShort, HoldsQuarter, quarter_directions, NamesAllPoints};
 ghost use Rattle.bounded_coords.specs.Clouds.{points_of};
 ghost use Rattle.fan_test.specs.Chains.{Turns};
 ghost use Rattle.fan_test.specs.Ends.{AreEnds, turned, quarter_end, quarter_number};

@@ -112,8 +112,8 @@ abbrev InQuarter : List PlanePoint → List PlanePoint → ℕ → ℕ → Type 
 InQuarter corners ds i j = IsUprightOrAlong (edge corners j) (point_at ds (i + 1))
 
 -- a plain fan over half a turn has at most three directions more than there are corners
-pub few_half : (corners ds : List PlanePoint) → TurnLeft east west ds → IsPlainHalf corners ds → length ds ≤ length corners + 3
-few_half corners ds turns plain = elim (cases_order (length ds) 1) [
+pub few_half : (corners ds : List PlanePoint) → IsPlainHalf corners ds → length ds ≤ length corners + 3
+few_half corners ds plain = elim (cases_order (length ds) 1) [
   | inl one ↦ omega (arith, one)
   | inr rest ↦ elim rest [
     | inl less ↦ omega (arith, less)
@@ -142,14 +142,14 @@ few_half corners ds turns plain = elim (cases_order (length ds) 1) [
     ]
       where
         left : pos 0 <ℤ cross (point_at ds (i + 1)) (point_at ds (k + 1))
-        left = left_of_all ds (length ds - 2) (λ i l. plain.in_range (i + 1) (omega arith) (omega arith)) (inner_turns west ds (length ds - 2) turns (omega arith)) i k less l
+        left = left_of_all ds (length ds - 2) (λ i l. plain.in_range (i + 1) (omega arith) (omega arith)) (inner_turns west ds (length ds - 2) plain.once (omega arith)) i k less l
 
         no_turn : pos 0 <ℤ cross north north → ⊥
         no_turn h = omega (arith, ints)
 
 -- a plain fan over a quarter turn has at most two more
-pub few_quarter : (corners ds : List PlanePoint) → TurnLeft east north ds → IsPlainQuarter corners ds → length ds ≤ length corners + 2
-few_quarter corners ds turns plain = elim (cases_order (length ds) 1) [
+pub few_quarter : (corners ds : List PlanePoint) → IsPlainQuarter corners ds → length ds ≤ length corners + 2
+few_quarter corners ds plain = elim (cases_order (length ds) 1) [
   | inl one ↦ omega (arith, one)
   | inr rest ↦ elim rest [
     | inl less ↦ omega (arith, less)
@@ -175,7 +175,7 @@ few_quarter corners ds turns plain = elim (cases_order (length ds) 1) [
         inner i l = plain.in_range (i + 1) (omega arith) (omega arith)
 
         left : pos 0 <ℤ cross (point_at ds (i + 1)) (point_at ds (k + 1))
-        left = left_of_all ds (length ds - 2) (λ i l. (inner i l).1) (inner_turns north ds (length ds - 2) turns (omega arith)) i k less l
+        left = left_of_all ds (length ds - 2) (λ i l. (inner i l).1) (inner_turns north ds (length ds - 2) plain.once (omega arith)) i k less l
 
         sharp : (d t : PlanePoint) → (pos 0 <ℤ d.x) × (pos 0 <ℤ d.y) → (pos 0 <ℤ t.x) × (pos 0 <ℤ t.y) → pos 0 <ℤ dot d t
         sharp d t hd ht = positive_add (positive_mul hd.0 ht.0) (nonneg_from_positive (positive_mul hd.1 ht.1))

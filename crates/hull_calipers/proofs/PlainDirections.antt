@@ -3,8 +3,7 @@ use Rattle.std.proofs.Common.{◌≡◌, ◌⊎◌, inl, inr, ◌+◌, ◌-◌, 
 use Rattle.std.specs.Prelude.{All, SomeIndex}
 use Rattle.std.proofs.lemmas.Int.{ints}
 use Rattle.bounds_model.specs.Plane.{PlanePoint, point_at, cross}
-use Rattle.bounds_model.specs.Fans.{IsShort, HalfCone, HalfFan, QuarterCone, QuarterFan, half_directions, quarter_directions, HoldsHalf, HoldsQuarter, east, west, north}
-use Rattle.bounds_model.specs.RectangleAnswer.{NamesAllPoints}
+use Rattle.bounds_model.specs.Fans.{IsShort, HalfCone, HalfFan, QuarterCone, QuarterFan, half_directions, quarter_directions, NamesPoints, NamesAllPoints, HoldsHalf, HoldsQuarter, east, west, north}
 use Rattle.bounds_model.specs.PlainFans.{edge, IsUpright, IsUprightOrAlong, EachInner, AreLowest}
 use Rattle.hull_calipers.specs.Fans.{path, IsHalfPath, IsHalfSupport, IsHalfDirection, IsQuarterPath, IsQuarterSupport, IsQuarterDirection}
 use Rattle.hull_calipers.proofs.Paths.{length_path, path_turns, path_each}
@@ -51,9 +50,14 @@ inner_half points corners cones last h = λ i some below.
     (subst (λ j. pos 0 <ℤ cross (point_at (path (λ c. c.direction) cones last) (i - 1)) (point_at (path (λ c. c.direction) cones last) j)) back (h.turns (i - 1) (omega (arith, count))))
     (h.turns i (omega (arith, count)))
 
+-- the cones of a path name points
+half_names : (points corners : List PlanePoint) (fan : HalfFan) → IsHalfPath points corners fan.cones fan.last → NamesPoints points fan
+half_names points corners fan h = λ i c l. let s = (h.extremes i c l).0 in (s.high, s.low)
+
 -- a path to the left is a fan that holds
 pub half_holds : (points corners : List PlanePoint) (fan : HalfFan) → IsHalfPath points corners fan.cones fan.last → fan.last ≡ west → HoldsHalf points fan
 half_holds points corners fan h is = record {
+  numbers = half_names points corners fan h;
   directions = path_turns (λ c. c.direction) (IsHalfSupport points) (IsHalfDirection corners) fan.cones fan.last west h is;
   extremes = λ i c l. ((h.extremes i c l).0.extreme, (h.extremes i c l).1.extreme);
 }
@@ -94,9 +98,14 @@ inner_quarter points corners cones last h = λ i some below.
     (subst (λ j. pos 0 <ℤ cross (point_at (path (λ c. c.direction) cones last) (i - 1)) (point_at (path (λ c. c.direction) cones last) j)) back (h.turns (i - 1) (omega (arith, count))))
     (h.turns i (omega (arith, count)))
 
+-- the cones of a path name points
+quarter_names : (points corners : List PlanePoint) (fan : QuarterFan) → IsQuarterPath points corners fan.cones fan.last → NamesAllPoints points fan
+quarter_names points corners fan h = λ i c l. let s = (h.extremes i c l).0 in (s.high, s.low, s.over, s.under)
+
 -- a path upwards is a fan that holds
 pub quarter_holds : (points corners : List PlanePoint) (fan : QuarterFan) → IsQuarterPath points corners fan.cones fan.last → fan.last ≡ north → HoldsQuarter points fan
 quarter_holds points corners fan h is = record {
+  numbers = quarter_names points corners fan h;
   directions = path_turns (λ c. c.direction) (IsQuarterSupport points) (IsQuarterDirection corners) fan.cones fan.last north h is;
   extremes = λ i c l. ((h.extremes i c l).0.extreme, (h.extremes i c l).1.extreme);
 }
@@ -106,6 +115,3 @@ quarter_lowest points corners fan h = λ i d l. (h.each i d l).lowest
 
 pub quarter_short : (points corners : List PlanePoint) (fan : QuarterFan) → IsQuarterPath points corners fan.cones fan.last → All IsShort (quarter_directions fan)
 quarter_short points corners fan h = λ i d l. (h.each i d l).short
-
-pub quarter_names : (points corners : List PlanePoint) (fan : QuarterFan) → IsQuarterPath points corners fan.cones fan.last → NamesAllPoints points fan
-quarter_names points corners fan h = λ i c l. let s = (h.extremes i c l).0 in (s.high, s.low, s.over, s.under)

@@ -2,7 +2,6 @@
 ghost use Rattle.std.specs.Prelude.{◌≡◌, ◌+◌, ◌*◌, ◌<◌, ◌≤◌, length, map, All, Contains, IfOk, OnOk};
 ghost use Rattle.bounds_model.specs.Fans.{HoldsHalf, HalfPlaces, half_directions, east, north, IsShort};
 ghost use Rattle.bounds_model.specs.PlainFans.{IsPlainHalf};
-ghost use Rattle.bounds_model.specs.StripAnswer.{NamesPoints};
 ghost use Rattle.answers.specs.Answers.{half_cone_of, half_fan_of};
 ghost use Rattle.hull_calipers.specs.CornerLists.{corners_in, points_in};
 ghost use Rattle.hull_calipers.specs.Supports.{turned, next_side, StartsAt, IsUpper};
@@ -68,7 +67,6 @@ pub fn half_fan<L: Ledger>(
     ensures few { IfOk result (λ fan. length (half_directions (half_fan_of fan)) ≤ length (corners_in corners.now) + 3) }
     ensures short { IfOk result (λ fan. All IsShort (half_directions (half_fan_of fan))) }
     ensures places { IfOk result (λ fan. HalfPlaces (half_fan_of fan)) }
-    ensures numbers { IfOk result (λ fan. NamesPoints (points_in corners.now) (half_fan_of fan)) }
     ensures steps { steps.new ≤ steps.old + 16 * length (corners_in corners.now) + 64 }
 {
     let bottom = start(corners, Side::Left, 0, steps);

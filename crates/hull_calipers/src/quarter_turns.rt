@@ -2,7 +2,6 @@
 ghost use Rattle.std.specs.Prelude.{◌≡◌, ◌+◌, ◌*◌, ◌<◌, ◌≤◌, length, map, All, IfOk};
 ghost use Rattle.bounds_model.specs.Fans.{HoldsQuarter, QuarterPlaces, quarter_directions, IsShort, north};
 ghost use Rattle.bounds_model.specs.PlainFans.{IsPlainQuarter};
-ghost use Rattle.bounds_model.specs.RectangleAnswer.{NamesAllPoints};
 ghost use Rattle.answers.specs.Answers.{quarter_cone_of, quarter_fan_of};
 ghost use Rattle.hull_calipers.specs.CornerLists.{corners_in, points_in};
 ghost use Rattle.hull_calipers.specs.Supports.{StartsAt};
@@ -71,7 +70,6 @@ pub fn quarter_fan<L: Ledger>(
     ensures few { IfOk result (λ fan. length (quarter_directions (quarter_fan_of fan)) ≤ length (corners_in corners.now) + 2) }
     ensures short { IfOk result (λ fan. All IsShort (quarter_directions (quarter_fan_of fan))) }
     ensures places { IfOk result (λ fan. QuarterPlaces (quarter_fan_of fan)) }
-    ensures numbers { IfOk result (λ fan. NamesAllPoints (points_in corners.now) (quarter_fan_of fan)) }
     ensures steps { steps.new ≤ steps.old + 16 * length (corners_in corners.now) + 64 }
 {
     let bottom = start(corners, Side::Left, 0, steps);

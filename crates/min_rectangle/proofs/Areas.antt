@@ -66,7 +66,6 @@ rectangle_passes points fan best size along across h is_best seen fraction same 
         across = short_span across bounds_across.short;
         fan = h.places;
       };
-      numbers = h.numbers;
       short_directions = h.short;
       short_direction = own.short;
       short_along = bounds.short;

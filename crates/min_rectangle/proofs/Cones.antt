@@ -72,7 +72,7 @@ pub record IsCone (points : List PlanePoint) (cone : QuarterCone) : Type 0 where
 
 pub is_cone : (points : List PlanePoint) (fan : QuarterFan) → IsPlainFan points fan → (i : ℕ) → i < length fan.cones → IsCone points (cone_at fan i)
 is_cone points fan h i l =
-    let names = h.numbers i no_cone l in
+    let names = h.holds.numbers i no_cone l in
     let extreme = subst (λ d. IsQuarterExtreme points d (cone_at fan i)) (direction_is fan i l) (h.holds.extremes i no_cone l).0 in
     record {
       short = of_direction fan IsShort h.short i l;

@@ -6,9 +6,9 @@ use Rattle.bounds_model.specs.Strip.{Span, strip_size}
 use Rattle.bounds_model.specs.Rectangle.{rectangle_size}
 use Rattle.bounds_model.specs.Parallelogram.{parallelogram_size}
 use Rattle.bounds_model.specs.Places.{point_limit, fan_limit, number_limit}
-use Rattle.bounds_model.specs.Fans.{HalfFan, HalfCone, QuarterFan, half_directions, quarter_directions, AreExtreme, IsHalfExtreme, IsQuarterExtreme, TurnLeft, AtBothEnds, HoldsHalf, HoldsQuarter, IsShort, HalfPlaces, QuarterPlaces, east, west, north, direction_limit, span_limit}
-use Rattle.bounds_model.specs.StripAnswer.{StripAnswer, StripPlaces, IsShortSpan, NamesPoints, IsNotThinner, PassesStrip, strip_of}
-use Rattle.bounds_model.specs.RectangleAnswer.{RectangleAnswer, RectanglePlaces, NamesAllPoints, PassesRectangle, rectangle_of}
+use Rattle.bounds_model.specs.Fans.{HalfFan, HalfCone, QuarterFan, half_directions, quarter_directions, AreExtreme, IsHalfExtreme, IsQuarterExtreme, TurnLeft, AtBothEnds, NamesPoints, NamesAllPoints, HoldsHalf, HoldsQuarter, IsShort, HalfPlaces, QuarterPlaces, east, west, north, direction_limit, span_limit}
+use Rattle.bounds_model.specs.StripAnswer.{StripAnswer, StripPlaces, IsShortSpan, IsNotThinner, PassesStrip, strip_of}
+use Rattle.bounds_model.specs.RectangleAnswer.{RectangleAnswer, RectanglePlaces, PassesRectangle, rectangle_of}
 use Rattle.bounds_model.specs.RectangleAnswer
 use Rattle.bounds_model.specs.ParallelogramAnswer.{Chord, chord_limit, ParallelogramAnswer, ParallelogramPlaces, ChordPlaces, IsShortChord, NamesEnds, IsAcross, IsNotSmallerAt, PassesParallelogram, parallelogram_of}
 use Rattle.bounds_model.specs.ParallelogramAnswer
@@ -30,15 +30,21 @@ at_both_ends {P = P} ds each cones =
     all_numbered {P = λ i cone. P (point_at ds i) cone × P (point_at ds (i + 1)) cone} (λ i cone. together (each (point_at ds i) cone) (each
     (point_at ds (i + 1)) cone)) cones
 
+abbrev pub names_points : (points : List PlanePoint) (fan : HalfFan) → Decision (NamesPoints points fan)
+names_points points fan = all (λ cone. both (less_ℕ cone.high (length points)) (less_ℕ cone.low (length points))) fan.cones
+
 abbrev pub holds_half : (points : List PlanePoint) (fan : HalfFan) → Decision (HoldsHalf points fan)
 holds_half points fan =
-    like (both (turn_left east west (half_directions fan)) (at_both_ends {P = IsHalfExtreme points} (half_directions fan) (λ d cone. extreme points d cone.high cone.low) fan.cones))
-    (λ h. record { directions = h.0; extremes = h.1 }) (λ h. (h.directions, h.extremes))
+    like (both (names_points points fan) (both (turn_left east west (half_directions fan)) (at_both_ends {P = IsHalfExtreme points} (half_directions fan) (λ d cone. extreme points d cone.high cone.low) fan.cones)))
+    (λ h. record { numbers = h.0; directions = h.1.0; extremes = h.1.1 }) (λ h. (h.numbers, (h.directions, h.extremes)))
+
+abbrev pub names_all_points : (points : List PlanePoint) (fan : QuarterFan) → Decision (NamesAllPoints points fan)
+names_all_points points fan = all (λ cone. four (less_ℕ cone.high (length points)) (less_ℕ cone.low (length points)) (less_ℕ cone.over (length points)) (less_ℕ cone.under (length points))) fan.cones
 
 abbrev pub holds_quarter : (points : List PlanePoint) (fan : QuarterFan) → Decision (HoldsQuarter points fan)
 holds_quarter points fan =
-    like (both (turn_left east north (quarter_directions fan)) (at_both_ends {P = IsQuarterExtreme points} (quarter_directions fan) (λ d cone. both (extreme points d cone.high cone.low) (extreme points (quarter_turn d) cone.over cone.under)) fan.cones))
-    (λ h. record { directions = h.0; extremes = h.1 }) (λ h. (h.directions, h.extremes))
+    like (both (names_all_points points fan) (both (turn_left east north (quarter_directions fan)) (at_both_ends {P = IsQuarterExtreme points} (quarter_directions fan) (λ d cone. both (extreme points d cone.high cone.low) (extreme points (quarter_turn d) cone.over cone.under)) fan.cones)))
+    (λ h. record { numbers = h.0; directions = h.1.0; extremes = h.1.1 }) (λ h. (h.numbers, (h.directions, h.extremes)))
 
 abbrev pub short : (d : PlanePoint) → Decision (IsShort d)
 short d = like (both (within direction_limit d.x) (within direction_limit d.y)) (λ h. record { x = h.0; y = h.1 }) (λ h. (h.x, h.y))
@@ -56,9 +62,6 @@ quarter_places fan =
     like (both (counted 1 (fan_limit - 1) fan.cones) (both (all pair_placed (quarter_directions fan)) (all (λ cone. four (most_ℕ cone.high point_limit) (most_ℕ cone.low point_limit) (most_ℕ cone.over point_limit) (most_ℕ cone.under point_limit)) fan.cones)))
     (λ h. record { count = h.0; directions = h.1.0; points = h.1.1 }) (λ h. (h.count, (h.directions, h.points)))
 
-abbrev pub names_points : (points : List PlanePoint) (fan : HalfFan) → Decision (NamesPoints points fan)
-names_points points fan = all (λ cone. both (less_ℕ cone.high (length points)) (less_ℕ cone.low (length points))) fan.cones
-
 abbrev pub strip_places : (a : StripAnswer) → Decision (StripPlaces a)
 strip_places a =
     like (both (fraction_placed a.size) (both (pair_placed a.direction) (both (span_placed a.bounds) (half_places a.fan))))
@@ -68,7 +71,6 @@ abbrev pub strip_passes : (points : List PlanePoint) (a : StripAnswer) → Decis
 strip_passes points a =
     like
     (both (strip_places a)
-    (both (names_points points a.fan)
     (both (all short (half_directions a.fan))
     (both (short a.direction)
     (both (short_span a.bounds)
@@ -76,12 +78,9 @@ strip_passes points a =
     (both (holds_half points a.fan)
     (both (at_both_ends {P = IsNotThinner points a.size} (half_directions a.fan) (λ d cone. most_ℤ _ _) a.fan.cones)
     (both (all (λ p. in_span a.bounds (dot a.direction p)) points)
-    (same_value a.size (strip_size (strip_of a))))))))))))
-    (λ h. record { places = h.0; numbers = h.1.0; short_directions = h.1.1.0; short_direction = h.1.1.1.0; short_bounds = h.1.1.1.1.0; normal = h.1.1.1.1.1.0; fan = h.1.1.1.1.1.1.0; not_thinner = h.1.1.1.1.1.1.1.0; inside = h.1.1.1.1.1.1.1.1.0; size = h.1.1.1.1.1.1.1.1.1 })
-    (λ h. (h.places, (h.numbers, (h.short_directions, (h.short_direction, (h.short_bounds, (h.normal, (h.fan, (h.not_thinner, (h.inside, h.size))))))))))
-
-abbrev pub names_all_points : (points : List PlanePoint) (fan : QuarterFan) → Decision (NamesAllPoints points fan)
-names_all_points points fan = all (λ cone. four (less_ℕ cone.high (length points)) (less_ℕ cone.low (length points)) (less_ℕ cone.over (length points)) (less_ℕ cone.under (length points))) fan.cones
+    (same_value a.size (strip_size (strip_of a)))))))))))
+    (λ h. record { places = h.0; short_directions = h.1.0; short_direction = h.1.1.0; short_bounds = h.1.1.1.0; normal = h.1.1.1.1.0; fan = h.1.1.1.1.1.0; not_thinner = h.1.1.1.1.1.1.0; inside = h.1.1.1.1.1.1.1.0; size = h.1.1.1.1.1.1.1.1 })
+    (λ h. (h.places, (h.short_directions, (h.short_direction, (h.short_bounds, (h.normal, (h.fan, (h.not_thinner, (h.inside, h.size)))))))))
 
 abbrev pub rectangle_places : (a : RectangleAnswer) → Decision (RectanglePlaces a)
 rectangle_places a =
@@ -92,7 +91,6 @@ abbrev pub rectangle_passes : (points : List PlanePoint) (a : RectangleAnswer) �
 rectangle_passes points a =
     like
     (both (rectangle_places a)
-    (both (names_all_points points a.fan)
     (both (all short (quarter_directions a.fan))
     (both (short a.direction)
     (both (short_span a.along)
@@ -102,9 +100,9 @@ rectangle_passes points a =
     (both (at_both_ends {P = RectangleAnswer.IsNotSmaller points a.size} (quarter_directions a.fan) (λ d cone. most_ℤ _ _) a.fan.cones)
     (both (all (λ p. in_span a.along (dot a.direction p)) points)
     (both (all (λ p. in_span a.across (dot (quarter_turn a.direction) p)) points)
-    (same_value a.size (rectangle_size (rectangle_of a))))))))))))))
-    (λ h. record { places = h.0; numbers = h.1.0; short_directions = h.1.1.0; short_direction = h.1.1.1.0; short_along = h.1.1.1.1.0; short_across = h.1.1.1.1.1.0; normal = h.1.1.1.1.1.1.0; fan = h.1.1.1.1.1.1.1.0; not_smaller = h.1.1.1.1.1.1.1.1.0; inside_along = h.1.1.1.1.1.1.1.1.1.0; inside_across = h.1.1.1.1.1.1.1.1.1.1.0; size = h.1.1.1.1.1.1.1.1.1.1.1 })
-    (λ h. (h.places, (h.numbers, (h.short_directions, (h.short_direction, (h.short_along, (h.short_across, (h.normal, (h.fan, (h.not_smaller, (h.inside_along, (h.inside_across, h.size))))))))))))
+    (same_value a.size (rectangle_size (rectangle_of a)))))))))))))
+    (λ h. record { places = h.0; short_directions = h.1.0; short_direction = h.1.1.0; short_along = h.1.1.1.0; short_across = h.1.1.1.1.0; normal = h.1.1.1.1.1.0; fan = h.1.1.1.1.1.1.0; not_smaller = h.1.1.1.1.1.1.1.0; inside_along = h.1.1.1.1.1.1.1.1.0; inside_across = h.1.1.1.1.1.1.1.1.1.0; size = h.1.1.1.1.1.1.1.1.1.1 })
+    (λ h. (h.places, (h.short_directions, (h.short_direction, (h.short_along, (h.short_across, (h.normal, (h.fan, (h.not_smaller, (h.inside_along, (h.inside_across, h.size)))))))))))
 
 abbrev pub chord_places : (chord : Chord) → Decision (ChordPlaces chord)
 chord_places chord =
@@ -133,7 +131,6 @@ abbrev pub parallelogram_passes : (points : List PlanePoint) (a : ParallelogramA
 parallelogram_passes points a =
     like
     (both (parallelogram_places a)
-    (both (names_points points a.fan)
     (both (all {P = NamesEnds points} (names_ends points) a.chords)
     (both (all short (half_directions a.fan))
     (both (short a.first)
@@ -148,6 +145,6 @@ parallelogram_passes points a =
     (both (negated (equal_ℤ (cross a.first a.second) (pos 0)))
     (both (all (λ p. in_span a.first_bounds (dot a.first p)) points)
     (both (all (λ p. in_span a.second_bounds (dot a.second p)) points)
-    (same_value a.size (parallelogram_size (parallelogram_of a))))))))))))))))))
-    (λ h. record { places = h.0; numbers = h.1.0; chord_numbers = h.1.1.0; short_directions = h.1.1.1.0; short_first = h.1.1.1.1.0; short_second = h.1.1.1.1.1.0; short_first_bounds = h.1.1.1.1.1.1.0; short_second_bounds = h.1.1.1.1.1.1.1.0; short_chords = h.1.1.1.1.1.1.1.1.0; fan = h.1.1.1.1.1.1.1.1.1.0; across = h.1.1.1.1.1.1.1.1.1.1.0; not_smaller = h.1.1.1.1.1.1.1.1.1.1.1.0; normals = h.1.1.1.1.1.1.1.1.1.1.1.1.0; inside_first = h.1.1.1.1.1.1.1.1.1.1.1.1.1.0; inside_second = h.1.1.1.1.1.1.1.1.1.1.1.1.1.1.0; size = h.1.1.1.1.1.1.1.1.1.1.1.1.1.1.1 })
-    (λ h. (h.places, (h.numbers, (h.chord_numbers, (h.short_directions, (h.short_first, (h.short_second, (h.short_first_bounds, (h.short_second_bounds, (h.short_chords, (h.fan, (h.across, (h.not_smaller, (h.normals, (h.inside_first, (h.inside_second, h.size))))))))))))))))
+    (same_value a.size (parallelogram_size (parallelogram_of a)))))))))))))))))
+    (λ h. record { places = h.0; chord_numbers = h.1.0; short_directions = h.1.1.0; short_first = h.1.1.1.0; short_second = h.1.1.1.1.0; short_first_bounds = h.1.1.1.1.1.0; short_second_bounds = h.1.1.1.1.1.1.0; short_chords = h.1.1.1.1.1.1.1.0; fan = h.1.1.1.1.1.1.1.1.0; across = h.1.1.1.1.1.1.1.1.1.0; not_smaller = h.1.1.1.1.1.1.1.1.1.1.0; normals = h.1.1.1.1.1.1.1.1.1.1.1.0; inside_first = h.1.1.1.1.1.1.1.1.1.1.1.1.0; inside_second = h.1.1.1.1.1.1.1.1.1.1.1.1.1.0; size = h.1.1.1.1.1.1.1.1.1.1.1.1.1.1 })
+    (λ h. (h.places, (h.chord_numbers, (h.short_directions, (h.short_first, (h.short_second, (h.short_first_bounds, (h.short_second_bounds, (h.short_chords, (h.fan, (h.across, (h.not_smaller, (h.normals, (h.inside_first, (h.inside_second, h.size)))))))))))))))

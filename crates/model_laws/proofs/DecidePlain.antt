@@ -4,10 +4,11 @@ use mathlib.Core.Logic.{inl, inr}
 use Rattle.std.specs.Prelude.{◌⊎◌, Any, SomeIndex}
 use Rattle.bounds_model.specs.Plane.{PlanePoint, origin, point_at, dot, cross}
 use Rattle.bounds_model.specs.Fractions.{HaveNoCommonFactor}
-use Rattle.bounds_model.specs.Fans.{north}
+use Rattle.bounds_model.specs.Fans.{east, north, west}
 use Rattle.bounds_model.specs.PlainFans.{edge, IsUpright, IsUprightOrAlong, EachInner, IsPlainHalf, IsPlainQuarter}
 use Rattle.model_laws.proofs.Decisions.{Decision, like, both, either, negated, implies, impossible, all, any, contains, each_below, less_ℕ, equal_ℤ, less_ℤ}
 use Rattle.model_laws.proofs.DecideParts.{same_point}
+use Rattle.model_laws.proofs.DecideFans.{turn_left}
 use Rattle.model_laws.proofs.CommonFactors.{no_common_factor}
 
 -- P holds of some number below a bound
@@ -59,20 +60,22 @@ upright_or_along edge d =
 abbrev pub plain_half : (corners ds : List PlanePoint) → Decision (IsPlainHalf corners ds)
 plain_half corners ds =
     like
+    (both (turn_left east west ds)
     (both (all {P = λ d. HaveNoCommonFactor (d.x ∷ d.y ∷ [])} (λ d. no_common_factor (d.x ∷ d.y ∷ [])) ds)
     (both (each_inner ds {P = λ d. pos 0 <ℤ d.y} (λ d. less_ℤ (pos 0) d.y))
     (both (contains same_point ds north)
     (both (each_below {P = λ i. edge corners i ≢ origin → Any (IsUpright (edge corners i)) ds} (λ i. implies (negated (same_point (edge corners i) origin)) (any {P = IsUpright (edge corners i)} (upright (edge corners i)) ds)) (length corners))
-    (each_inner ds {P = λ d. (d ≡ north) ⊎ SomeIndex corners (λ i. IsUpright (edge corners i) d)} (λ d. either (same_point d north) (some_below {P = λ i. IsUpright (edge corners i) d} (λ i. upright (edge corners i) d) (length corners))))))))
-    (λ h. record { lowest = h.0; in_range = h.1.0; up = h.1.1.0; edges = h.1.1.1.0; no_others = h.1.1.1.1 })
-    (λ h. (h.lowest, (h.in_range, (h.up, (h.edges, h.no_others)))))
+    (each_inner ds {P = λ d. (d ≡ north) ⊎ SomeIndex corners (λ i. IsUpright (edge corners i) d)} (λ d. either (same_point d north) (some_below {P = λ i. IsUpright (edge corners i) d} (λ i. upright (edge corners i) d) (length corners)))))))))
+    (λ h. record { once = h.0; lowest = h.1.0; in_range = h.1.1.0; up = h.1.1.1.0; edges = h.1.1.1.1.0; no_others = h.1.1.1.1.1 })
+    (λ h. (h.once, (h.lowest, (h.in_range, (h.up, (h.edges, h.no_others))))))
 
 abbrev pub plain_quarter : (corners ds : List PlanePoint) → Decision (IsPlainQuarter corners ds)
 plain_quarter corners ds =
     like
+    (both (turn_left east north ds)
     (both (all {P = λ d. HaveNoCommonFactor (d.x ∷ d.y ∷ [])} (λ d. no_common_factor (d.x ∷ d.y ∷ [])) ds)
     (both (each_inner ds {P = λ d. (pos 0 <ℤ d.x) × (pos 0 <ℤ d.y)} (λ d. both (less_ℤ (pos 0) d.x) (less_ℤ (pos 0) d.y)))
     (both (each_below {P = λ i. edge corners i ≢ origin → Any (IsUprightOrAlong (edge corners i)) ds} (λ i. implies (negated (same_point (edge corners i) origin)) (any {P = IsUprightOrAlong (edge corners i)} (upright_or_along (edge corners i)) ds)) (length corners))
-    (each_inner ds {P = λ d. SomeIndex corners (λ i. IsUprightOrAlong (edge corners i) d)} (λ d. some_below {P = λ i. IsUprightOrAlong (edge corners i) d} (λ i. upright_or_along (edge corners i) d) (length corners))))))
-    (λ h. record { lowest = h.0; in_range = h.1.0; edges = h.1.1.0; no_others = h.1.1.1 })
-    (λ h. (h.lowest, (h.in_range, (h.edges, h.no_others))))
+    (each_inner ds {P = λ d. SomeIndex corners (λ i. IsUprightOrAlong (edge corners i) d)} (λ d. some_below {P = λ i. IsUprightOrAlong (edge corners i) d} (λ i. upright_or_along (edge corners i) d) (length corners)))))))
+    (λ h. record { once = h.0; lowest = h.1.0; in_range = h.1.1.0; edges = h.1.1.1.0; no_others = h.1.1.1.1 })
+    (λ h. (h.once, (h.lowest, (h.in_range, (h.edges, h.no_others)))))

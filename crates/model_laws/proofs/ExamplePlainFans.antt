@@ -2,7 +2,7 @@
 use Rattle.std.proofs.Common.{refl, pos, [], ◌∷◌}
 use Rattle.bounds_model.specs.Fans.{half_directions, quarter_directions}
 use Rattle.bounds_model.specs.PlainFans.{IsUpright, IsUprightOrAlong, IsPlainHalf, IsPlainQuarter}
-use Rattle.model_laws.proofs.Decisions.{by_test, by_one_failure}
+use Rattle.model_laws.proofs.Decisions.{by_test, by_failed_test, by_one_failure}
 use Rattle.model_laws.proofs.DecidePlain.{upright, upright_or_along, plain_half, plain_quarter}
 use Rattle.model_laws.proofs.Literals.{minus, at, left_at, signed_at}
 use Rattle.model_laws.proofs.ExampleBalls.{triangle}
@@ -40,8 +40,19 @@ half_is_plain = by_test (plain_half triangle (half_directions along_longest.fan)
 unreduced : ¬ IsPlainHalf triangle (at 1 0 ∷ at 6 8 ∷ at 0 1 ∷ left_at 1 0 ∷ [])
 unreduced = by_one_failure (plain_half triangle (at 1 0 ∷ at 6 8 ∷ at 0 1 ∷ left_at 1 0 ∷ [])) refl refl
 
-turned_down : ¬ IsPlainHalf triangle (at 1 0 ∷ signed_at (minus 3) (minus 4) ∷ at 0 1 ∷ left_at 1 0 ∷ [])
-turned_down = by_one_failure (plain_half triangle (at 1 0 ∷ signed_at (minus 3) (minus 4) ∷ at 0 1 ∷ left_at 1 0 ∷ [])) refl refl
+-- twice around
+once_more_around : ¬ IsPlainHalf triangle (at 1 0 ∷ at 3 4 ∷ at 0 1 ∷ left_at 1 0 ∷ signed_at (pos 0) (minus 1) ∷ at 1 0 ∷ at 0 1 ∷ left_at 1 0 ∷ [])
+once_more_around = by_one_failure (plain_half triangle (at 1 0 ∷ at 3 4 ∷ at 0 1 ∷ left_at 1 0 ∷ signed_at (pos 0) (minus 1) ∷ at 1 0 ∷ at 0 1 ∷ left_at 1 0 ∷ [])) refl refl
+
+-- without the first direction, without the last, and with one twice
+begun_late : ¬ IsPlainHalf triangle (at 3 4 ∷ at 0 1 ∷ left_at 1 0 ∷ [])
+begun_late = by_one_failure (plain_half triangle (at 3 4 ∷ at 0 1 ∷ left_at 1 0 ∷ [])) refl refl
+
+ended_early : ¬ IsPlainHalf triangle (at 1 0 ∷ at 3 4 ∷ at 0 1 ∷ [])
+ended_early = by_one_failure (plain_half triangle (at 1 0 ∷ at 3 4 ∷ at 0 1 ∷ [])) refl refl
+
+repeated : ¬ IsPlainHalf triangle (at 1 0 ∷ at 3 4 ∷ at 3 4 ∷ at 0 1 ∷ left_at 1 0 ∷ [])
+repeated = by_one_failure (plain_half triangle (at 1 0 ∷ at 3 4 ∷ at 3 4 ∷ at 0 1 ∷ left_at 1 0 ∷ [])) refl refl
 
 -- the normal of the longest side left out, and a direction too many
 without_longest : ¬ IsPlainHalf triangle (at 1 0 ∷ at 0 1 ∷ left_at 1 0 ∷ [])
@@ -62,8 +73,8 @@ upright_line : IsPlainHalf (at 0 0 ∷ at 0 3 ∷ []) (at 1 0 ∷ at 0 1 ∷ lef
 upright_line = by_test (plain_half (at 0 0 ∷ at 0 3 ∷ []) (at 1 0 ∷ at 0 1 ∷ left_at 1 0 ∷ [])) refl
 
 -- the upward direction is there, though no edge calls for it
-without_up : ¬ IsPlainHalf (at 0 0 ∷ at 0 3 ∷ []) (at 1 0 ∷ left_at 1 0 ∷ [])
-without_up = by_one_failure (plain_half (at 0 0 ∷ at 0 3 ∷ []) (at 1 0 ∷ left_at 1 0 ∷ [])) refl refl
+without_up : ¬ IsPlainHalf (at 0 0 ∷ at 4 3 ∷ []) (at 1 0 ∷ left_at 3 4 ∷ left_at 1 0 ∷ [])
+without_up = by_one_failure (plain_half (at 0 0 ∷ at 4 3 ∷ []) (at 1 0 ∷ left_at 3 4 ∷ left_at 1 0 ∷ [])) refl refl
 
 one_corner : IsPlainHalf (at 5 5 ∷ []) (at 1 0 ∷ at 0 1 ∷ left_at 1 0 ∷ [])
 one_corner = by_test (plain_half (at 5 5 ∷ []) (at 1 0 ∷ at 0 1 ∷ left_at 1 0 ∷ [])) refl
@@ -72,8 +83,9 @@ one_corner = by_test (plain_half (at 5 5 ∷ []) (at 1 0 ∷ at 0 1 ∷ left_at 
 more_for_one : ¬ IsPlainHalf (at 5 5 ∷ []) (at 1 0 ∷ at 3 4 ∷ at 0 1 ∷ left_at 1 0 ∷ [])
 more_for_one = by_one_failure (plain_half (at 5 5 ∷ []) (at 1 0 ∷ at 3 4 ∷ at 0 1 ∷ left_at 1 0 ∷ [])) refl refl
 
+-- without the upward direction the last does not turn left from the first
 none_for_one : ¬ IsPlainHalf (at 5 5 ∷ []) (at 1 0 ∷ left_at 1 0 ∷ [])
-none_for_one = by_one_failure (plain_half (at 5 5 ∷ []) (at 1 0 ∷ left_at 1 0 ∷ [])) refl refl
+none_for_one = by_failed_test (plain_half (at 5 5 ∷ []) (at 1 0 ∷ left_at 1 0 ∷ [])) refl
 
 -- ---- over a quarter turn
 
@@ -83,11 +95,18 @@ quarter_is_plain = by_test (plain_quarter diamond (quarter_directions slanted.fa
 unreduced_quarter : ¬ IsPlainQuarter diamond (at 1 0 ∷ at 2 2 ∷ at 0 1 ∷ [])
 unreduced_quarter = by_one_failure (plain_quarter diamond (at 1 0 ∷ at 2 2 ∷ at 0 1 ∷ [])) refl refl
 
-turned_left : ¬ IsPlainQuarter diamond (at 1 0 ∷ left_at 1 1 ∷ at 0 1 ∷ [])
-turned_left = by_one_failure (plain_quarter diamond (at 1 0 ∷ left_at 1 1 ∷ at 0 1 ∷ [])) refl refl
+begun_slanting : ¬ IsPlainQuarter diamond (at 1 1 ∷ at 0 1 ∷ [])
+begun_slanting = by_one_failure (plain_quarter diamond (at 1 1 ∷ at 0 1 ∷ [])) refl refl
 
-turned_right : ¬ IsPlainQuarter diamond (at 1 0 ∷ signed_at (pos 1) (minus 1) ∷ at 0 1 ∷ [])
-turned_right = by_one_failure (plain_quarter diamond (at 1 0 ∷ signed_at (pos 1) (minus 1) ∷ at 0 1 ∷ [])) refl refl
+ended_slanting : ¬ IsPlainQuarter diamond (at 1 0 ∷ at 1 1 ∷ [])
+ended_slanting = by_one_failure (plain_quarter diamond (at 1 0 ∷ at 1 1 ∷ [])) refl refl
+
+slanting_twice : ¬ IsPlainQuarter diamond (at 1 0 ∷ at 1 1 ∷ at 1 1 ∷ at 0 1 ∷ [])
+slanting_twice = by_one_failure (plain_quarter diamond (at 1 0 ∷ at 1 1 ∷ at 1 1 ∷ at 0 1 ∷ [])) refl refl
+
+-- once more around
+all_around : ¬ IsPlainQuarter diamond (at 1 0 ∷ at 1 1 ∷ left_at 1 1 ∷ signed_at (minus 1) (minus 1) ∷ signed_at (pos 1) (minus 1) ∷ at 1 1 ∷ at 0 1 ∷ [])
+all_around = by_one_failure (plain_quarter diamond (at 1 0 ∷ at 1 1 ∷ left_at 1 1 ∷ signed_at (minus 1) (minus 1) ∷ signed_at (pos 1) (minus 1) ∷ at 1 1 ∷ at 0 1 ∷ [])) refl refl
 
 without_slant : ¬ IsPlainQuarter diamond (at 1 0 ∷ at 0 1 ∷ [])
 without_slant = by_one_failure (plain_quarter diamond (at 1 0 ∷ at 0 1 ∷ [])) refl refl

@@ -51,10 +51,10 @@ half_apart corners u w h (inr a) (inl b) e = let l : a.0 < length corners = a.1 
 half_apart corners u w h (inr a) (inr b) e = one_upright (edge corners b.0) u w h (subst (λ i. IsUpright (edge corners i) u) e a.2) b.2
 
 pub half_is_few : PlainHalfFansAreFew
-half_is_few corners ds turning plain =
+half_is_few corners ds plain =
     few (length ds) (length corners) (pigeonhole (length ds - 2) (suc (length corners)) (λ i l. half_place corners (point_at ds (suc i)) (called i l))
     (λ i l. half_below corners (point_at ds (suc i)) (called i l))
-    (λ i k l l' h. half_apart corners (point_at ds (suc i)) (point_at ds (suc k)) (ordered ds turning.turns plain.in_range (suc i) (suc k)
+    (λ i k l l' h. half_apart corners (point_at ds (suc i)) (point_at ds (suc k)) (ordered ds plain.once.turns plain.in_range (suc i) (suc k)
     (omega arith) (omega (arith, h)) (omega (arith, l'))) (called i l) (called k l')))
   where
     called : (i : ℕ) → i < length ds - 2 → IsCalledFor corners (point_at ds (suc i))
@@ -103,11 +103,11 @@ one_of_both e u w h bu bw n (inr a) (inr b) =
     (along_line e.x e.y w.x w.y b))
 
 pub quarter_is_few : PlainQuarterFansAreFew
-quarter_is_few corners ds turning plain =
+quarter_is_few corners ds plain =
     few (length ds) (length corners) (pigeonhole (length ds - 2) (length corners) (λ i l. (called i l).0) (λ i l. (called i l).1)
     (λ i k l l' h e.
     one_of_both (edge corners (called k l').0) (point_at ds (suc i)) (point_at ds (suc k))
-    (ordered ds turning.turns (λ j p m. (plain.in_range j p m).1) (suc i) (suc k) (omega arith) (omega (arith, h)) (omega (arith, l')))
+    (ordered ds plain.once.turns (λ j p m. (plain.in_range j p m).1) (suc i) (suc k) (omega arith) (omega (arith, h)) (omega (arith, l')))
     (between i l) (between k l') (called k l').2.long (subst (λ j. IsUprightOrAlong (edge corners j) (point_at ds (suc i))) e
     (called i l).2).upright (called k l').2.upright))
   where

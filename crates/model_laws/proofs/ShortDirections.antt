@@ -102,14 +102,14 @@ lowest_at : (ds : List PlanePoint) → All (λ d. HaveNoCommonFactor (d.x ∷ d.
 lowest_at ds all i l = all i origin (omega (arith, l))
 
 pub half_is_short : PlainHalfFansAreShort
-half_is_short corners ds bounds turning plain =
-    each_direction ds east west turning (by_test (short east) refl) (by_test (short west) refl)
+half_is_short corners ds bounds plain =
+    each_direction ds east west plain.once (by_test (short east) refl) (by_test (short west) refl)
     (λ i p l. elim (plain.no_others i p l) [
       | inl e ↦ subst IsShort (sym e) (by_test (short north) refl)
       | inr s ↦ upright_is_short corners bounds (point_at ds i) (lowest_at ds plain.lowest i l) s
     ])
 
 pub quarter_is_short : PlainQuarterFansAreShort
-quarter_is_short corners ds bounds turning plain =
-    each_direction ds east north turning (by_test (short east) refl) (by_test (short north) refl)
+quarter_is_short corners ds bounds plain =
+    each_direction ds east north plain.once (by_test (short east) refl) (by_test (short north) refl)
     (λ i p l. either_is_short corners bounds (point_at ds i) (lowest_at ds plain.lowest i l) (plain.no_others i p l))

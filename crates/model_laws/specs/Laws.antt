@@ -68,19 +68,17 @@ BestAnswersHaveNoOrder = (ask : Ask) (sets other : Sets) (answer : Answer) → �
 
 -- a plain fan over half a turn has at most three directions more than the hull has corners
 abbrev pub PlainHalfFansAreFew : Type 0
-PlainHalfFansAreFew = (corners directions : List PlanePoint) → TurnLeft east west directions → IsPlainHalf corners directions
+PlainHalfFansAreFew = (corners directions : List PlanePoint) → IsPlainHalf corners directions
     → length directions ≤ length corners + 3
 
 -- and one over a quarter turn at most two
 abbrev pub PlainQuarterFansAreFew : Type 0
-PlainQuarterFansAreFew = (corners directions : List PlanePoint) → TurnLeft east north directions → IsPlainQuarter corners directions
+PlainQuarterFansAreFew = (corners directions : List PlanePoint) → IsPlainQuarter corners directions
     → length directions ≤ length corners + 2
 
 -- where the corners are in bounds, no coordinate of a plain fan's direction is past the checker's limit
 abbrev pub PlainHalfFansAreShort : Type 0
-PlainHalfFansAreShort = (corners directions : List PlanePoint) → All IsInPlane corners → TurnLeft east west directions
-    → IsPlainHalf corners directions → All IsShort directions
+PlainHalfFansAreShort = (corners directions : List PlanePoint) → All IsInPlane corners → IsPlainHalf corners directions → All IsShort directions
 
 abbrev pub PlainQuarterFansAreShort : Type 0
-PlainQuarterFansAreShort = (corners directions : List PlanePoint) → All IsInPlane corners → TurnLeft east north directions
-    → IsPlainQuarter corners directions → All IsShort directions
+PlainQuarterFansAreShort = (corners directions : List PlanePoint) → All IsInPlane corners → IsPlainQuarter corners directions → All IsShort directions

@@ -126,7 +126,7 @@ upper_is_large points a h w F E pw pE u up v narrow_u narrow_v =
     let cone = slice_index_or a.fan.cones i no_cone in
     let d = point_at (half_directions a.fan) i in
     let e = point_at (half_directions a.fan) (i + 1) in
-    let names = h.numbers i no_cone around.listed in
+    let names = h.fan.numbers i no_cone around.listed in
     let extreme = h.fan.extremes i no_cone around.listed in
     let small = h.not_smaller i no_cone around.listed in
     let many = length-directions (λ (cone : HalfCone). cone.direction) a.fan.cones a.fan.last in
@@ -171,7 +171,7 @@ none_smaller points a h other fits =
 parallelogram_fits : (points : List PlanePoint) (a : ParallelogramAnswer) → PassesParallelogram points a → FitsParallelogram points (parallelogram_of a)
 parallelogram_fits points a h =
     let cone = slice_index_or a.fan.cones 0 no_cone in
-    let named = (h.numbers 0 no_cone (some h.places.fan.count.at_least)).0 in
+    let named = (h.fan.numbers 0 no_cone (some h.places.fan.count.at_least)).0 in
     record {
       normals = h.normals;
       first_bounds = span_in_order (h.inside_first cone.high origin named);

@@ -187,7 +187,7 @@ full_turn_of points fan h =
     let some : 0 < length fan.cones = omega (arith, h.places.count.at_least) in
     record {
       some = some;
-      named = each_around fan (λ cone. (cone.high < length points) × (cone.low < length points)) (λ k l. h.numbers k no_cone l) (λ cone n. (n.1, n.0));
+      named = each_around fan (λ cone. (cone.high < length points) × (cone.low < length points)) (λ k l. h.holds.numbers k no_cone l) (λ cone n. (n.1, n.0));
       short = each_around fan (λ cone. IsShort cone.direction) (of_direction fan IsShort h.short) (λ cone s. record { x = within_back s.x; y = within_back s.y });
       lowest = each_around fan (λ cone. HaveNoCommonFactor (cone.direction.x ∷ cone.direction.y ∷ [])) (of_direction fan (λ d. HaveNoCommonFactor (d.x ∷ d.y ∷ [])) h.lowest) (λ cone l k divides. l k (no_sign cone.direction k divides));
       begins = each_around fan (λ cone. AreExtreme points cone.direction cone.high cone.low) begins (λ cone e. extreme_opposite points cone.direction cone.high cone.low e);

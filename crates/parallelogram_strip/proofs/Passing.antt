@@ -70,7 +70,6 @@ answer_passes points fan size u v s t hu lu hv lv chords limited h fraction coun
         chord_for_each = omega (arith, count, many);
         chords = λ i d l. placed (slice_index_or chords i d) (good i d l);
       };
-      numbers = h.numbers;
       chord_numbers = λ i d l. (good i d l).carries.names;
       short_directions = h.short;
       short_first = short_u;

@@ -90,7 +90,6 @@ strip_passes points fan best size span h is_best seen fraction same bounds =
         bounds = short_span span bounds.short;
         fan = h.places;
       };
-      numbers = h.numbers;
       short_directions = h.short;
       short_direction = short;
       short_bounds = bounds.short;

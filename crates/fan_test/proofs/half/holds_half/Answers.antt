@@ -34,6 +34,7 @@ returns-then-encloses c =
     let ends = half_ends cloud f (length fan.cones) (count fan) in
     let both = both_ends cloud (point_at (half_directions f)) (half_number High f) (half_number Low f) (length fan.cones) (c.encloses.ensures.0 c.if-encloses.true) in (
       λ yes. record {
+        numbers = c.requires.numbers;
         directions = (half_leads f (length fan.cones) (count fan)).0 (c.leads.ensures.0 c.if-not-leads.false);
         extremes = ends.0 (both (c.encloses-then-encloses.ensures.0 yes));
       },

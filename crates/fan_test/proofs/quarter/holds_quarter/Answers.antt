@@ -17,6 +17,7 @@ returns-then-are_ends c =
     let f = quarter_fan_of fan in
     let cloud = points_of c.args.cloud in (
       λ yes. record {
+        numbers = c.requires.numbers;
         directions = (quarter_leads f (length fan.cones) (count fan)).0 (c.leads.ensures.0 c.if-not-leads.false);
         extremes = quarter_ends cloud f (length fan.cones) (count fan) (c.are_ends.ensures.0 c.if-are_ends.true) (c.are_ends-then-are_ends.ensures.0 yes);
       },

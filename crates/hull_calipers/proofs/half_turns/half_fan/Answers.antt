@@ -4,7 +4,7 @@ use Rattle.answers.specs.Answers.{half_cone_of, half_fan_of}
 use Rattle.hull_calipers.specs.Fans.{IsHalfPath, IsHalfSupport, IsHalfDirection}
 use Rattle.hull_calipers.proofs.Turning.{starts_left}
 use Rattle.hull_calipers.proofs.ModelCorners.{hull_listed}
-use Rattle.hull_calipers.proofs.Paths.{path_none, path_turns}
+use Rattle.hull_calipers.proofs.Paths.{path_none}
 use Rattle.hull_calipers.proofs.FanDirections.{half_direction_east}
 use Rattle.hull_calipers.proofs.PlainDirections.{half_holds}
 use Rattle.hull_calipers.proofs.Complete.{half_plain}
@@ -34,7 +34,6 @@ returns-clause-plain g c = half_plain (points_in c.args.corners.now) (corners_in
 
 pub returns-clause-few : goal.returns-clause-few
 returns-clause-few g c = few_half (corners_in c.args.corners.now) (half_directions (half_fan_of (record { cones = c.add_cones-2.new.cones; last = record { x = negsuc 0; y = pos 0 } })))
-    (path_turns (λ cone. cone.direction) (IsHalfSupport (points_in c.args.corners.now)) (IsHalfDirection (corners_in c.args.corners.now)) (map half_cone_of c.add_cones-2.new.cones) west west c.in_ok-add_cones-2.ensures.path refl)
     (half_plain (points_in c.args.corners.now) (corners_in c.args.corners.now) (half_fan_of (record { cones = c.add_cones-2.new.cones; last = record { x = negsuc 0; y = pos 0 } }))
     c.args.corners.now.hull.around (hull_listed (points_in c.args.corners.now) (numbers_in c.args.corners.now) c.args.corners.now.hull) c.in_ok-add_cones-2.ensures.path refl c.in_ok-add_cones-2.ensures.begun)
 

@@ -2,11 +2,9 @@ use Rattle.std.proofs.Common.{refl, sym, subst, ◌≤◌, pos, map}
 use Rattle.bounds_model.specs.Fans.{quarter_directions, north}
 use Rattle.hull_calipers.specs.CornerLists.{corners_in, numbers_in, points_in}
 use Rattle.answers.specs.Answers.{quarter_cone_of, quarter_fan_of}
-use Rattle.hull_calipers.specs.Fans.{IsQuarterSupport, IsQuarterDirection}
 use Rattle.hull_calipers.proofs.Turning.{starts_left}
 use Rattle.hull_calipers.proofs.ModelCorners.{hull_listed}
-use Rattle.hull_calipers.proofs.Paths.{path_turns}
-use Rattle.hull_calipers.proofs.PlainDirections.{quarter_holds, quarter_short, quarter_names}
+use Rattle.hull_calipers.proofs.PlainDirections.{quarter_holds, quarter_short}
 use Rattle.hull_calipers.proofs.Complete.{quarter_plain}
 use Rattle.hull_calipers.proofs.FewDirections.{few_quarter}
 use Rattle.hull_calipers.proofs.FanPlaces.{quarter_places}
@@ -26,15 +24,11 @@ returns-clause-plain g c = quarter_plain (points_in c.args.corners.now) (corners
 
 pub returns-clause-few : goal.returns-clause-few
 returns-clause-few g c = few_quarter (corners_in c.args.corners.now) (quarter_directions (quarter_fan_of (record { cones = c.in_ok-cones.cones; last = record { x = pos 0; y = pos 1 } })))
-    (path_turns (λ cone. cone.direction) (IsQuarterSupport (points_in c.args.corners.now)) (IsQuarterDirection (corners_in c.args.corners.now)) (map quarter_cone_of c.in_ok-cones.cones) north north c.in_ok-cones.ensures.path refl)
     (quarter_plain (points_in c.args.corners.now) (corners_in c.args.corners.now) (quarter_fan_of (record { cones = c.in_ok-cones.cones; last = record { x = pos 0; y = pos 1 } }))
     c.args.corners.now.hull.around (hull_listed (points_in c.args.corners.now) (numbers_in c.args.corners.now) c.args.corners.now.hull) c.in_ok-cones.ensures.path refl)
 
 pub returns-clause-short : goal.returns-clause-short
 returns-clause-short g c = quarter_short (points_in c.args.corners.now) (corners_in c.args.corners.now) (quarter_fan_of (record { cones = c.in_ok-cones.cones; last = record { x = pos 0; y = pos 1 } })) c.in_ok-cones.ensures.path
-
-pub returns-clause-numbers : goal.returns-clause-numbers
-returns-clause-numbers g c = quarter_names (points_in c.args.corners.now) (corners_in c.args.corners.now) (quarter_fan_of (record { cones = c.in_ok-cones.cones; last = record { x = pos 0; y = pos 1 } })) c.in_ok-cones.ensures.path
 
 pub returns-clause-places : goal.returns-clause-places
 returns-clause-places g c = quarter_places (points_in c.args.corners.now) (corners_in c.args.corners.now) (quarter_fan_of (record { cones = c.in_ok-cones.cones; last = record { x = pos 0; y = pos 1 } })) c.in_ok-cones.ensures.path refl (returns-clause-few g c)
