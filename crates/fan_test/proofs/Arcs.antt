@@ -1,4 +1,4 @@
--- A point that is below an arc at the place that decides for it is below the whole arc.
+-- A point that is below an arc at the edge that decides for it is below the whole arc.
 use Rattle.std.proofs.Common.{◌≡◌, sym, ◌∙◌, subst, ap, ◌⊎◌, inl, inr, ℕ, zero, suc, ◌+◌, ◌-◌, ◌<◌, ◌≤◌, ℤ, pos, neg_ℤ, ◌+ℤ◌, ◌-ℤ◌, ◌*ℤ◌, ◌≤ℤ◌, ◌<ℤ◌, [], ◌∷◌, arith, add-one}
 use Rattle.std.proofs.lemmas.Int.{ints}
 use Rattle.integers.proofs.Identities.{den-ring, read, polys, lits}
@@ -6,7 +6,7 @@ use Rattle.integers.proofs.Order.{nonneg_mul, nonneg_add, nonneg_difference, non
 use Rattle.std.specs.Prelude.{List, All}
 use Rattle.std.proofs.lemmas.List.Elements.{All-contains}
 use Rattle.bounds_model.specs.Plane.{PlanePoint, dot, cross, vector}
-use Rattle.fan_test.specs.Chains.{Turns, IsBelowAll, AreJoined, IsWithinEach, IsBelowInner, IsWithin, IsArc, AreEdges, IsPlaceFor, AreListed, Encloses}
+use Rattle.fan_test.specs.Chains.{Turns, IsBelowAll, AreJoined, IsWithinEach, IsWithin, IsArc, AreEdges, IsEdgeFor, AreListed, Encloses}
 
 -- ---- three directions
 
@@ -143,14 +143,14 @@ falls D H from to arc i (suc j) low above high = elim (below_or_same i j above) 
 three_ways : (i j : ℕ) → (i < j) ⊎ ((i ≡ j) ⊎ (j < i))
 three_ways i j = grind arith
 
--- at a place that decides, one direction decides for all between the first and the last
-pub inner : (D H : ℕ → PlanePoint) (from to : ℕ) (p : PlanePoint) (i : ℕ) → Turns D to → IsArc D H from to → IsPlaceFor D H from to p i → dot (D (i + 1)) p ≤ℤ dot (D (i + 1)) (H (i + 1))
+-- at the edge that decides, one direction decides for all between the first and the last
+pub inner : (D H : ℕ → PlanePoint) (from to : ℕ) (p : PlanePoint) (i : ℕ) → Turns D to → IsArc D H from to → IsEdgeFor D H from to p i → dot (D (i + 1)) p ≤ℤ dot (D (i + 1)) (H (i + 1))
     → (j : ℕ) → from ≤ j → j + 1 < to → dot (D (j + 1)) p ≤ℤ dot (D (j + 1)) (H (j + 1))
-inner D H from to p i turns arc place h j low high = elim (three_ways i j) [
-  | inl above ↦ (passed_from D H from to p turns arc i place.after (record { out = h; along = passes place.end above }) j (omega arith) high).out
+inner D H from to p i turns arc edge h j low high = elim (three_ways i j) [
+  | inl above ↦ (passed_from D H from to p turns arc i edge.after (record { out = h; along = passes edge.end above }) j (omega arith) high).out
   | inr rest ↦ elim rest [
     | inl same ↦ subst (λ k. dot (D (k + 1)) p ≤ℤ dot (D (k + 1)) (H (k + 1))) same h
-    | inr below ↦ (awaited_from D H from to p turns arc i place.before (record { out = h; along = awaits place.begin below }) j low (omega arith)).out
+    | inr below ↦ (awaited_from D H from to p turns arc i edge.before (record { out = h; along = awaits edge.begin below }) j low (omega arith)).out
   ]
 ]
   where
@@ -163,6 +163,10 @@ inner D H from to p i turns arc place h j low high = elim (three_ways i j) [
     awaits (inr l) less = l
 
 -- ---- the parts of an arc
+
+-- p is no further out than the points of these cones in the directions between the first and the last
+abbrev IsBelowInner : (ℕ → PlanePoint) → (ℕ → PlanePoint) → ℕ → ℕ → PlanePoint → Type 0
+IsBelowInner D H from to p = (i : ℕ) → from ≤ i → i + 1 < to → IsWithin D H (i + 1) (i + 1) p
 
 -- below the first direction and the inner ones is below each
 pub of_parts : (D H : ℕ → PlanePoint) (from to : ℕ) (p : PlanePoint) → IsWithin D H from from p → IsBelowInner D H from to p → IsWithinEach D H from to p

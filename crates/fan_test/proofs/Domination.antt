@@ -1,8 +1,8 @@
 -- What is no further out than a point of an arc in the arc's first and last direction is below the arc.
-use Rattle.std.proofs.Common.{◌≡◌, refl, sym, subst, inl, inr, ℕ, zero, suc, ◌+◌, ◌-◌, ◌<◌, ◌≤◌, pos, ◌≤ℤ◌, arith, add-one}
+use Rattle.std.proofs.Common.{◌≡◌, refl, sym, subst, ◌⊎◌, inl, inr, ℕ, zero, suc, ◌+◌, ◌-◌, ◌<◌, ◌≤◌, pos, ◌≤ℤ◌, arith, add-one}
 use Rattle.integers.proofs.Order.{nonneg_from_positive, le_trans_ℤ, le_of_same}
 use Rattle.bounds_model.specs.Plane.{PlanePoint, dot, cross}
-use Rattle.fan_test.specs.Chains.{Turns, IsWithinEach, IsArc}
+use Rattle.fan_test.specs.Chains.{Turns, IsWithinEach, IsArc, IsNoFurther}
 use Rattle.fan_test.proofs.Arcs.{between, below_or_same, falls, inner, of_parts}
 use Rattle.fan_test.proofs.Steps.{beside}
 
@@ -39,24 +39,44 @@ on_arc D H from to k turns arc low high =
       end = inr (le_of_same refl);
     }) (le_of_same refl))
 
--- what one of them dominates is below the arc
-dominated_by : (D H : ℕ → PlanePoint) (from to k m : ℕ) (p : PlanePoint) → m ≡ k + 1 → Turns D to → IsArc D H from to → from ≤ k → k + 1 < to
+-- so is the first
+on_first : (D H : ℕ → PlanePoint) (from to : ℕ) → Turns D to → IsArc D H from to → from + 1 < to → IsWithinEach D H from to (H from)
+on_first D H from to turns arc some =
+    let edge = arc.edges from (omega arith) some in
+    of_parts D H from to (H from) (le_of_same refl)
+    (inner D H from to (H from) from turns arc (record {
+      after = omega arith;
+      before = some;
+      begin = inl refl;
+      end = inr edge.falling;
+    }) (le_of_same edge.level))
+
+after_first : (D H : ℕ → PlanePoint) (from to m k : ℕ) → k + 1 ≡ m → Turns D to → IsArc D H from to → from < m → m < to → IsWithinEach D H from to (H m)
+after_first D H from to m k is turns arc low high =
+    subst (λ j. IsWithinEach D H from to (H j)) is (on_arc D H from to k turns arc (omega arith) (omega arith))
+
+-- so is each
+pub on_whole_arc : (D H : ℕ → PlanePoint) (from to m : ℕ) → Turns D to → IsArc D H from to → from + 1 < to → from ≤ m → m < to → IsWithinEach D H from to (H m)
+on_whole_arc D H from to m turns arc some low high = elim (first_or_later from m low) [
+  | inl same ↦ subst (λ j. IsWithinEach D H from to (H j)) same (on_first D H from to turns arc some)
+  | inr later ↦ after_first D H from to m (m - 1) (omega arith) turns arc later high
+]
+  where
+    first_or_later : (i j : ℕ) → i ≤ j → (i ≡ j) ⊎ (i < j)
+    first_or_later i j h = grind arith
+
+-- what one of them dominates, in the first and the last direction, is below the arc
+pub dominated : (D H : ℕ → PlanePoint) (from to m : ℕ) (p : PlanePoint) → Turns D to → IsArc D H from to → from + 1 < to → from ≤ m → m < to
     → dot (D from) p ≤ℤ dot (D from) (H m) → dot (D (to - 1)) p ≤ℤ dot (D (to - 1)) (H m) → IsWithinEach D H from to p
-dominated_by D H from to k m p is turns arc low high first last i above below =
+dominated D H from to m p turns arc some low high first last i above below =
     le_trans_ℤ (nearer D H from to p (H m) turns arc first (to - 1) (omega arith) last i above (omega arith))
-    (subst (λ j. dot (D i) (H j) ≤ℤ dot (D i) (H i)) (sym is) (on_arc D H from to k turns arc low high i above below))
+    (on_whole_arc D H from to m turns arc some low high i above below)
 
-dominated : (D H : ℕ → PlanePoint) (from to m : ℕ) (p : PlanePoint) → Turns D to → IsArc D H from to → from < m → m < to
-    → dot (D from) p ≤ℤ dot (D from) (H m) → dot (D (to - 1)) p ≤ℤ dot (D (to - 1)) (H m) → IsWithinEach D H from to p
-dominated D H from to m p turns arc low high first last =
-    dominated_by D H from to (m - 1) m p (omega arith) turns arc (omega arith) (omega arith) first last
-
--- a direction and a point under other names
-no_further : (d e p q r : PlanePoint) → d ≡ e → q ≡ r → dot d p ≤ℤ dot d q → dot e p ≤ℤ dot e r
-no_further d e p q r same is h = subst (λ z. dot e p ≤ℤ dot e z) is (subst (λ z. dot z p ≤ℤ dot z q) same h)
-
--- what a point of the arc dominates in its first and its last direction is below the arc
-pub dominated_at : (D H : ℕ → PlanePoint) (from to m : ℕ) (first last q p : PlanePoint) → Turns D to → IsArc D H from to → from < m → m < to
-    → first ≡ D from → last ≡ D (to - 1) → q ≡ H m → (dot first p ≤ℤ dot first q) × (dot last p ≤ℤ dot last q) → IsWithinEach D H from to p
-dominated_at D H from to m first last q p turns arc low high is_first is_last is_q both =
-    dominated D H from to m p turns arc low high (no_further first (D from) p q (H m) is_first is_q both.0) (no_further last (D (to - 1)) p q (H m) is_last is_q both.1)
+-- the same under other names
+pub dominated_at : (D H : ℕ → PlanePoint) (from to m : ℕ) (first last q p : PlanePoint) → Turns D to → IsArc D H from to → from + 1 < to → from ≤ m → m < to
+    → first ≡ D from → last ≡ D (to - 1) → q ≡ H m → IsNoFurther first q p × IsNoFurther last q p → IsWithinEach D H from to p
+dominated_at D H from to m first last q p turns arc some low high is_first is_last is_q both =
+    dominated D H from to m p turns arc some low high (no_further first (D from) p q (H m) is_first is_q both.0) (no_further last (D (to - 1)) p q (H m) is_last is_q both.1)
+  where
+    no_further : (d e p q r : PlanePoint) → d ≡ e → q ≡ r → dot d p ≤ℤ dot d q → dot e p ≤ℤ dot e r
+    no_further d e p q r same is h = subst (λ z. dot e p ≤ℤ dot e z) is (subst (λ z. dot z p ≤ℤ dot z q) same h)

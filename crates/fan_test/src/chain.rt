@@ -1,22 +1,24 @@
 //! Chains, and whether their points are furthest out.
-ghost use Rattle.std.specs.Prelude.{◌≡◌, ◌↔◌, ◌+◌, ◌<◌, ◌≤◌, ℕ, IsTrue, IfSome, IsSome, IsNone, All, ◌≤ℤ◌};
-ghost use Rattle.bounds_model.specs.Plane.{PlanePoint, dot as product};
+ghost use Rattle.std.specs.Prelude.{◌≡◌, ◌↔◌, ◌+◌, ◌<◌, ◌≤◌, ◌≤ℤ◌, ℕ, pos, List, length, All, IsTrue, IfSome, IsNone};
+ghost use Rattle.bounds_model.specs.Plane.{PlanePoint, point_at, dot as product};
 ghost use Rattle.bounds_model.specs.Fans.{IsShort};
 ghost use Rattle.bounded_coords.specs.Clouds.{points_of};
 ghost use Rattle.fan_test.specs.Directions.{direction_of};
 ghost use Rattle.fan_test.specs.Chains.{Turns, Leads, AreListed, Encloses, AreJoined, IsWithin, IsWithinEach};
-ghost use Rattle.fan_test.specs.Chains.{IsArc, AreEdges, IsPlaceFor, IsNear, IsNoFurther};
+ghost use Rattle.fan_test.specs.Chains.{IsArc, AreEdges, AreNamed, IsEdgeFor, IsNoFurther};
 
 use crate::direction::Direction;
 use bounded_coords::{Cloud2, Point2};
 
-/// Directions with a cone from each to the next, and a point for each cone.
+/// Directions with a cone from each to the next, and a point of a cloud for each cone.
 pub trait Chain {
     ghost cones: { Self → ℕ };
 
     ghost directions: { Self → ℕ → PlanePoint };
 
     ghost points: { Self → ℕ → PlanePoint };
+
+    ghost cloud: { Self → List PlanePoint };
 
     /// How many cones there are.
     fn len(&self) -> u32
@@ -28,11 +30,20 @@ pub trait Chain {
         ensures value { direction_of result ≡ directions self.now i }
         ensures short { IsShort (direction_of result) };
 
+    /// The number of the point of cone i.
+    fn number(&self, i: u32) -> u32
+        requires { i < cones self.now }
+        ensures listed { result < length (cloud self.now) }
+        ensures point { point_at (cloud self.now) result ≡ points self.now i };
+
     /// The point of cone i.
     fn point(&self, i: u32) -> Point2
         requires { i < cones self.now }
         ensures { result ≡ points self.now i };
 }
+
+/// The most points of a cloud.
+const MOST_POINTS: usize = 10_000;
 
 /// The direction to the right.
 pub const EAST: Direction = Direction { x: 1, y: 0 };
@@ -76,6 +87,7 @@ fn turns<C: Chain>(chain: &C) -> bool
 /// The direction at which a cone ends begins the next one. If the points of both are equally far out in it, then one of them speaks
 /// for the other, and if they are not, then one is further out than the other. So each direction is compared with the points once.
 pub fn encloses<C: Chain>(chain: &C, cloud: Cloud2<'_>) -> bool
+    requires same { C.cloud chain.now ≡ points_of cloud }
     requires turns { Turns (C.directions chain.now) (C.cones chain.now) }
     requires listed { AreListed (points_of cloud) (C.points chain.now) (C.cones chain.now) }
     ensures { IsTrue result ↔ Encloses (points_of cloud.entry) (C.directions chain.now) (C.points chain.now) (C.cones chain.now) }
@@ -122,9 +134,9 @@ fn is_joint(direction: Direction, before: Point2, after: Point2) -> bool
 ///
 /// Directions within a right angle of the first of them are an arc. Along that first direction the points of an arc stand in
 /// order, joined by edges that the other directions are normals of. So a point is below all of them if it is below the
-/// edge that it stands above, which is searched from that of the point before: n points and m cones take at most about
-/// n log m steps. A chain that winds around has an arc more for each right angle.
+/// edge that it stands above, which is searched by halving: n points and m cones take at most about n log m steps. A chain that winds around has an arc more for each right angle.
 fn are_within_each<C: Chain>(chain: &C, cloud: Cloud2<'_>) -> bool
+    requires same { C.cloud chain.now ≡ points_of cloud }
     requires turns { Turns (C.directions chain.now) (C.cones chain.now) }
     requires listed { AreListed (points_of cloud) (C.points chain.now) (C.cones chain.now) }
     requires joined { AreJoined (C.directions chain.now) (C.points chain.now) (C.cones chain.now) }
@@ -178,6 +190,7 @@ fn arc_end<C: Chain>(chain: &C, from: u32) -> Option<u32>
 /// Whether all points are below an arc. Up to two directions are compared with the points one by one, since a chain that winds around
 /// has many such arcs.
 fn are_below<C: Chain>(chain: &C, from: u32, to: u32, cloud: Cloud2<'_>) -> bool
+    requires same { C.cloud chain.now ≡ points_of cloud }
     requires turns { Turns (C.directions chain.now) (C.cones chain.now) }
     requires some { from < to }
     requires limit { to ≤ C.cones chain.now }
@@ -223,9 +236,11 @@ fn reaches_at_most(direction: Direction, limit: i64, p: Point2) -> bool
 
 /// Whether all points are below an arc of more than one cone, in one pass.
 ///
-/// Each direction of an arc is a sum of its first and its last one, times numbers of at least 0. So what is no further out in these
-/// two than a point of the arc is below the arc too: that point dominates it. Three points of the arc dominate most of a cloud.
+/// A point that a cone of the arc names is below the arc. Each direction of an arc is a sum of its first and its last one, times
+/// numbers of at least 0. So what is no further out in these two than a point of the arc is below the arc too: that point dominates
+/// it. The ends of an arc dominate the points of other arcs, and its middle most of a cloud. For the rest the edge is searched.
 fn are_below_arc<C: Chain>(chain: &C, from: u32, to: u32, cloud: Cloud2<'_>) -> bool
+    requires same { C.cloud chain.now ≡ points_of cloud }
     requires turns { Turns (C.directions chain.now) (C.cones chain.now) }
     requires inner { from + 1 < to }
     requires limit { to ≤ C.cones chain.now }
@@ -234,78 +249,73 @@ fn are_below_arc<C: Chain>(chain: &C, from: u32, to: u32, cloud: Cloud2<'_>) -> 
 {
     let first = chain.direction(from);
     let last = chain.direction(to - 1);
-    // Points of the arc at about a quarter, half and three quarters of it.
-    let quarter = (to - from - 1) / 4 + 1;
-    let early = chain.point(from + quarter);
+    let begin = chain.point(from);
     let middle = chain.point(from + (to - from) / 2);
-    let late = chain.point(to - quarter);
-    let top = first.dot(chain.point(from));
-    let mut place = from;
-    'points: for i in 0..cloud.len() {
+    let end = chain.point(to - 1);
+    let named = named_on(chain, from, to);
+    for i in 0..cloud.len() {
+        if named[i as usize] {
+            continue;
+        }
         let p = *cloud.at(i);
-        if is_dominated(first, last, middle, p) {
+        // The least of three, without a branch for each, since which of them dominates a point can't be foretold.
+        let least = excess(first, last, begin, p).min(excess(first, last, middle, p));
+        if least.min(excess(first, last, end, p)) <= 0 {
             continue;
         }
-        if is_dominated(first, last, early, p) {
-            continue;
-        }
-        if is_dominated(first, last, late, p) {
-            continue;
-        }
-        match place_below(chain, from, to, first, top, place, p) {
-            None => return false,
-            Some(near) => place = near,
+        if !is_below_arc(chain, from, to, first, p) {
+            return false;
         }
     }
     true
 }
 
-/// Whether a point is no further out than another one, in both of two directions.
-fn is_dominated(first: Direction, last: Direction, q: Point2, p: Point2) -> bool
+/// How far a point is beyond another one, in that of two directions in which it is further. At most 0 where the other dominates it.
+fn excess(first: Direction, last: Direction, q: Point2, p: Point2) -> i64
     requires first { IsShort (direction_of first) }
     requires last { IsShort (direction_of last) }
-    ensures { IsTrue result ↔ (IsNoFurther (direction_of first) q p × IsNoFurther (direction_of last) q p) }
+    ensures { (result ≤ℤ pos 0) ↔ (IsNoFurther (direction_of first) q p × IsNoFurther (direction_of last) q p) }
 {
-    is_no_further(first, q, p) && is_no_further(last, q, p)
+    beyond(first, q, p).max(beyond(last, q, p))
 }
 
-/// Whether a point is no further out than another one, in a direction.
-fn is_no_further(direction: Direction, q: Point2, p: Point2) -> bool
+/// How far a point is beyond another one in a direction.
+fn beyond(direction: Direction, q: Point2, p: Point2) -> i64
     requires { IsShort (direction_of direction) }
-    ensures { IsTrue result ↔ IsNoFurther (direction_of direction) q p }
+    ensures { (result ≤ℤ pos 0) ↔ IsNoFurther (direction_of direction) q p }
 {
-    direction.dot(p) <= direction.dot(q)
+    direction.dot(p) - direction.dot(q)
 }
 
-/// The place in an arc whose edge decides for a point, or None where the point is not below the arc.
-fn place_below<C: Chain>(
-    chain: &C,
-    from: u32,
-    to: u32,
-    first: Direction,
-    top: i64,
-    start: u32,
-    p: Point2,
-) -> Option<u32>
+/// Which points the cones of an arc name.
+fn named_on<C: Chain>(chain: &C, from: u32, to: u32) -> [bool; MOST_POINTS]
+    requires order { from ≤ to }
+    requires limit { to ≤ C.cones chain.now }
+    requires few { length (C.cloud chain.now) ≤ 10000 }
+    ensures { AreNamed (C.cloud chain.now) (C.points chain.now) from to result }
+{
+    let mut named = [false; MOST_POINTS];
+    for i in from..to {
+        named[chain.number(i) as usize] = true;
+    }
+    named
+}
+
+/// Whether a point is below an arc of more than one cone.
+fn is_below_arc<C: Chain>(chain: &C, from: u32, to: u32, first: Direction, p: Point2) -> bool
     requires turns { Turns (C.directions chain.now) (C.cones chain.now) }
+    requires inner { from + 1 < to }
     requires limit { to ≤ C.cones chain.now }
     requires arc { IsArc (C.directions chain.now) (C.points chain.now) from to }
     requires first { direction_of first ≡ C.directions chain.now from }
     requires short { IsShort (direction_of first) }
-    requires top { top ≡ product (C.directions chain.now from) (C.points chain.now from) }
-    requires after { from ≤ start }
-    requires before { start + 1 < to }
-    ensures place { IfSome result (λ i. IsPlaceFor (C.directions chain.now) (C.points chain.now) from to p i) }
-    ensures below { IsSome result ↔ IsWithinEach (C.directions chain.now) (C.points chain.now) from to p }
+    ensures { IsTrue result ↔ IsWithinEach (C.directions chain.now) (C.points chain.now) from to p }
 {
-    if !reaches_at_most(first, top, p) {
-        return None;
+    if !is_within(chain, from, from, p) {
+        return false;
     }
-    let place = place_for(chain, from, to, first, start, p);
-    if !is_within(chain, place + 1, place + 1, p) {
-        return None;
-    }
-    Some(place)
+    let edge = edge_for(chain, from, to, first, p);
+    is_within(chain, edge + 1, edge + 1, p)
 }
 
 /// Whether a point is no further out in direction i than the point of cone k.
@@ -318,145 +328,18 @@ fn is_within<C: Chain>(chain: &C, i: u32, k: u32, p: Point2) -> bool
     direction.dot(p) <= direction.dot(chain.point(k))
 }
 
-/// The place in an arc whose edge decides for a point, searched from a place that may be near.
-fn place_for<C: Chain>(
-    chain: &C,
-    from: u32,
-    to: u32,
-    first: Direction,
-    start: u32,
-    p: Point2,
-) -> u32
+/// The edge of an arc that decides for a point, by halving.
+fn edge_for<C: Chain>(chain: &C, from: u32, to: u32, first: Direction, p: Point2) -> u32
+    requires inner { from + 1 < to }
     requires limit { to ≤ C.cones chain.now }
     requires arc { IsArc (C.directions chain.now) (C.points chain.now) from to }
     requires first { direction_of first ≡ C.directions chain.now from }
     requires short { IsShort (direction_of first) }
-    requires top { IsWithin (C.directions chain.now) (C.points chain.now) from from p }
-    requires after { from ≤ start }
-    requires before { start + 1 < to }
-    ensures { IsPlaceFor (C.directions chain.now) (C.points chain.now) from to p result }
+    ensures { IsEdgeFor (C.directions chain.now) (C.points chain.now) from to p result }
 {
     let along = first.dot(p);
-    let near = places_near(chain, from, to, first, along, start);
-    halved(chain, from, to, first, along, near)
-}
-
-/// Places in an arc, among which is that of a point.
-#[derive(Clone, Copy)]
-struct Places {
-    low: u32,
-    size: u32,
-}
-
-/// Places around a start among which is that of a point, from how far along it is.
-fn places_near<C: Chain>(
-    chain: &C,
-    from: u32,
-    to: u32,
-    first: Direction,
-    along: i64,
-    start: u32,
-) -> Places
-    requires limit { to ≤ C.cones chain.now }
-    requires first { direction_of first ≡ C.directions chain.now from }
-    requires short { IsShort (direction_of first) }
-    requires top { along ≤ℤ product (C.directions chain.now from) (C.points chain.now from) }
-    requires after { from ≤ start }
-    requires before { start + 1 < to }
-    ensures { IsNear (C.directions chain.now) (C.points chain.now) from to along result.low result.size }
-{
-    if first.dot(chain.point(start)) < along {
-        return places_before(chain, from, to, first, along, start);
-    }
-    places_after(chain, from, to, first, along, start)
-}
-
-/// Places from a start on among which is that of a point. Their number doubles with each step, so that a place that is near is found soon.
-fn places_after<C: Chain>(
-    chain: &C,
-    from: u32,
-    to: u32,
-    first: Direction,
-    along: i64,
-    start: u32,
-) -> Places
-    requires limit { to ≤ C.cones chain.now }
-    requires first { direction_of first ≡ C.directions chain.now from }
-    requires short { IsShort (direction_of first) }
-    requires after { from ≤ start }
-    requires before { start + 1 < to }
-    requires ahead { along ≤ℤ product (C.directions chain.now from) (C.points chain.now start) }
-    ensures { IsNear (C.directions chain.now) (C.points chain.now) from to along result.low result.size }
-{
-    let last = to - 1;
-    let mut low = start;
-    let mut size = 1;
-    'widens: while size < last - low {
-        if first.dot(chain.point(low + size)) <= along {
-            return Places { low, size };
-        }
-        low += size;
-        size = low - start + 1;
-    }
-    Places {
-        low,
-        size: last - low,
-    }
-}
-
-/// Places before a start among which is that of a point.
-fn places_before<C: Chain>(
-    chain: &C,
-    from: u32,
-    to: u32,
-    first: Direction,
-    along: i64,
-    start: u32,
-) -> Places
-    requires limit { to ≤ C.cones chain.now }
-    requires first { direction_of first ≡ C.directions chain.now from }
-    requires short { IsShort (direction_of first) }
-    requires after { from < start }
-    requires before { start + 1 < to }
-    requires behind { product (C.directions chain.now from) (C.points chain.now start) ≤ℤ along }
-    ensures { IsNear (C.directions chain.now) (C.points chain.now) from to along result.low result.size }
-{
-    let mut high = start;
-    let mut size = 1;
-    'widens: while size < high - from {
-        if along <= first.dot(chain.point(high - size)) {
-            return Places {
-                low: high - size,
-                size,
-            };
-        }
-        high -= size;
-        size = start - high + 1;
-    }
-    Places {
-        low: from,
-        size: high - from,
-    }
-}
-
-/// The place of a point among others, from how far along it is.
-fn halved<C: Chain>(
-    chain: &C,
-    from: u32,
-    to: u32,
-    first: Direction,
-    along: i64,
-    near: Places,
-) -> u32
-    requires limit { to ≤ C.cones chain.now }
-    requires arc { IsArc (C.directions chain.now) (C.points chain.now) from to }
-    requires first { direction_of first ≡ C.directions chain.now from }
-    requires short { IsShort (direction_of first) }
-    requires near { IsNear (C.directions chain.now) (C.points chain.now) from to along near.low near.size }
-    ensures { IsNear (C.directions chain.now) (C.points chain.now) from to along result 1 }
-{
-    let mut low = near.low;
-    let mut size = near.size;
+    let mut low = from;
+    let mut size = to - 1 - from;
     'halves: while size > 1 {
         let half = size / 2;
         let middle = low + half;

@@ -1,5 +1,6 @@
 //! Directions in machine numbers.
-ghost use Rattle.std.specs.Prelude.{◌≡◌, ◌↔◌, IsTrue};
+ghost use Rattle.std.specs.Prelude.{◌≡◌, ◌↔◌, ◌^◌, IsTrue};
+ghost use Rattle.bounds_model.specs.Numbers.{IsWithin};
 ghost use Rattle.bounds_model.specs.Plane.{dot, cross, quarter_turn};
 ghost use Rattle.bounds_model.specs.Fans.{IsShort};
 ghost use Rattle.fan_test.specs.Directions.{direction_of};
@@ -24,7 +25,8 @@ impl Direction {
     /// How far out the point is in this direction.
     pub(crate) fn dot(self, p: Point2) -> i64
         requires { IsShort (direction_of self) }
-        ensures { result ≡ dot (direction_of self) p }
+        ensures value { result ≡ dot (direction_of self) p }
+        ensures small { IsWithin (2 ^ 38) result }
     {
         self.x * p.x() as i64 + self.y * p.y() as i64
     }

@@ -57,6 +57,8 @@ impl Chain for HalfChain<'_> {
 
     ghost points = { λ c i. point_at (points_of c.cloud) (half_number c.end (half_fan_of c.fan.now) i) };
 
+    ghost cloud = { λ c. points_of c.cloud };
+
     fn len(&self) -> u32 {
         self.fan.cones.len()
     }
@@ -65,8 +67,12 @@ impl Chain for HalfChain<'_> {
         self.end.aim(narrow(half_direction(self.fan, i)))
     }
 
-    fn point(&self, i: u32) -> Point2 {
+    fn number(&self, i: u32) -> u32 {
         let cone = self.fan.cones.at(i);
-        *self.cloud.at(self.end.choose(cone.hi, cone.lo))
+        self.end.choose(cone.hi, cone.lo)
+    }
+
+    fn point(&self, i: u32) -> Point2 {
+        *self.cloud.at(self.number(i))
     }
 }

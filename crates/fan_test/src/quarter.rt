@@ -81,6 +81,8 @@ impl Chain for QuarterChain<'_> {
 
     ghost points = { λ c i. point_at (points_of c.cloud) (quarter_number c.across c.end (quarter_fan_of c.fan.now) i) };
 
+    ghost cloud = { λ c. points_of c.cloud };
+
     fn len(&self) -> u32 {
         self.fan.cones.len()
     }
@@ -91,10 +93,12 @@ impl Chain for QuarterChain<'_> {
         self.end.aim(d)
     }
 
+    fn number(&self, i: u32) -> u32 {
+        number(self.fan.cones.at(i), self.across, self.end)
+    }
+
     fn point(&self, i: u32) -> Point2 {
-        *self
-            .cloud
-            .at(number(self.fan.cones.at(i), self.across, self.end))
+        *self.cloud.at(self.number(i))
     }
 }
 

@@ -12,7 +12,7 @@ returns-then-after-before-clause-none g c =
     let H = g.C.Chain.points c.args.chain.now in
     let left = tested_positive c.cross.type_inv c.if-cross-le0.false (c.cross.ensures ∙ ap₂ cross c.direction-first.ensures.value c.direction-next.ensures.value) in
     let edge = edge_at D H c.args.from c.edges.to (g.C.Chain.cones c.args.chain.now) (omega arith) (omega arith) c.edges.invariant.arc left edges in
-    tested_above c.if-after-before.true c.edges.invariant.before (kept c.dot-after.type_inv (c.dot-after.ensures ∙ ap₂ dot c.direction-first.ensures.value c.point-in-edges.ensures)) edge.falling
+    tested_above c.if-after-before.true c.edges.invariant.before (kept c.dot-after.type_inv (c.dot-after.ensures.value ∙ ap₂ dot c.direction-first.ensures.value c.point-in-edges.ensures)) edge.falling
 
 pub edges-preserved : goal.edges-preserved
 edges-preserved g c =
@@ -20,7 +20,7 @@ edges-preserved g c =
     let H = g.C.Chain.points c.args.chain.now in
     let left = tested_positive c.cross.type_inv c.if-cross-le0.false (c.cross.ensures ∙ ap₂ cross c.direction-first.ensures.value c.direction-next.ensures.value) in
     let level = joint_at D H c.args.from c.edges.to (g.C.Chain.cones c.args.chain.now) (omega arith) (omega arith) c.requires.joined in
-    let after = kept c.dot-after.type_inv (c.dot-after.ensures ∙ ap₂ dot c.direction-first.ensures.value c.point-in-edges.ensures) in
+    let after = kept c.dot-after.type_inv (c.dot-after.ensures.value ∙ ap₂ dot c.direction-first.ensures.value c.point-in-edges.ensures) in
     let falling = subst (λ z. z ≤ℤ dot (D c.args.from) (H (c.edges.to - 1))) after (tested_ge c.if-after-before.false c.edges.invariant.before) in
     record {
       arc = arc_more D H c.args.from c.edges.to (omega arith) c.edges.invariant.arc left (record { level = level; falling = falling });

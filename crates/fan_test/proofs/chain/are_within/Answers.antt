@@ -16,7 +16,7 @@ pub returns-then-not-reaches_at_most : goal.returns-then-not-reaches_at_most
 returns-then-not-reaches_at_most g c =
     let D = g.C.Chain.directions c.args.chain.now in
     let H = g.C.Chain.points c.args.chain.now in
-    let test = same_limit _ (D c.args.i) _ (H c.args.k) c.at.result.now c.dot-limit.type_inv c.dot-limit.ensures c.direction-direction.ensures.value c.point.ensures c.reaches_at_most.ensures in (
+    let test = same_limit _ (D c.args.i) _ (H c.args.k) c.at.result.now c.dot-limit.type_inv c.dot-limit.ensures.value c.direction-direction.ensures.value c.point.ensures c.reaches_at_most.ensures in (
       λ yes. absurd (clash yes refl),
       λ all. absurd (clash (test.1 (at_point (IsWithin D H c.args.i c.args.k) (points_of c.args.cloud) c.loop-j.j c.at.result.now c.at.ensures all)) c.if-not-reaches_at_most.true),
     )
@@ -25,5 +25,5 @@ pub loop-j-preserved : goal.loop-j-preserved
 loop-j-preserved g c =
     let D = g.C.Chain.directions c.args.chain.now in
     let H = g.C.Chain.points c.args.chain.now in
-    let test = same_limit _ (D c.args.i) _ (H c.args.k) c.at.result.now c.dot-limit.type_inv c.dot-limit.ensures c.direction-direction.ensures.value c.point.ensures c.reaches_at_most.ensures in
+    let test = same_limit _ (D c.args.i) _ (H c.args.k) c.at.result.now c.dot-limit.type_inv c.dot-limit.ensures.value c.direction-direction.ensures.value c.point.ensures c.reaches_at_most.ensures in
     each_more (IsWithin D H c.args.i c.args.k) (points_of c.args.cloud) c.loop-j.j c.at.result.now c.at.ensures c.loop-j.invariant (test.0 c.if-not-reaches_at_most.false)

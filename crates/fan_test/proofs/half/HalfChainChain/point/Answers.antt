@@ -1,29 +1,8 @@
-use Rattle.std.proofs.Common.{sym, ◌∙◌, ap, subst, ◌<◌, length}
-use Rattle.std.specs.Prelude.{map}
-use Rattle.std.proofs.lemmas.List.{length-map}
+use Rattle.std.proofs.Common.{sym, ◌∙◌}
 use Rattle.std.proofs.lemmas.Option.{get_or_from_slice_get}
-use Rattle.bounds_model.specs.Plane.{point_at, origin}
-use Rattle.bounds_model.specs.Fans.{HalfCone}
+use Rattle.bounds_model.specs.Plane.{origin}
 use Rattle.bounded_coords.specs.Clouds.{points_of}
-use Rattle.answers.specs.Answers.{half_cone_of}
-use Rattle.fan_test.specs.Ends.{chosen}
-use Rattle.directions.proofs.FanLists.{cone_at}
-use Rattle.fan_test.proofs.HalfFans.{chosen_below}
 use Rattle.fan_test.proofs.half.HalfChainChain.point.Goals as goal
 
-pub at-requires : goal.at-requires
-at-requires c =
-    let chain = c.args.self.now in
-    let cones = chain.fan.now.cones in
-    let cone = half_cone_of c.at-cone.result in
-    let n = length (points_of chain.cloud) in
-    let below : c.args.i < length (map half_cone_of cones) = subst (λ k. c.args.i < k) (sym (length-map cones half_cone_of)) c.requires in
-    let named : (cone.high < n) × (cone.low < n) = subst (λ m. (m.high < n) × (m.low < n)) (cone_at half_cone_of cones c.args.i c.at-cone.result cone c.at-cone.ensures) (chain.numbers c.args.i cone below) in
-    subst (λ k. k < n) (sym c.choose.ensures) (chosen_below chain.end c.at-cone.result.hi c.at-cone.result.lo n named.0 named.1)
-
 pub returns : goal.returns
-returns c =
-    let chain = c.args.self.now in
-    let none : HalfCone = record { direction = origin; high = 0; low = 0 } in
-    sym (get_or_from_slice_get (points_of chain.cloud) c.choose.result c.at.result.now origin c.at.ensures)
-    ∙ ap (point_at (points_of chain.cloud)) (c.choose.ensures ∙ sym (ap (λ m. chosen chain.end m.high m.low) (cone_at half_cone_of chain.fan.now.cones c.args.i c.at-cone.result none c.at-cone.ensures)))
+returns c = sym (get_or_from_slice_get (points_of c.args.self.now.cloud) c.number.result c.at.result.now origin c.at.ensures) ∙ c.number.ensures.point
