@@ -77,9 +77,7 @@ pub returns-clause-null : goal.returns-clause-null
 returns-clause-null g c = (λ none. absurd none, independent_of_three (vector_of c.args.a) (vector_of c.args.b) (vector_of c.args.c) (apart (vector_of c.args.a) (vector_of c.args.b) (vector_of c.args.c) c.less-u.ensures.value c.less-v.ensures.value c.cross-normal.ensures.value (λ e. let t = c.is_zero-2.ensures.1 e in let f = c.if-is_zero-2.false in absurd (cc))))
 
 pub overflow_mul-normal : goal.overflow_mul-normal
-overflow_mul-normal g c =
-    let h = twice (size_more c.cross-normal.ensures.within.z tt) in
-    simp (to_z-of_z h.once) h.fits
+overflow_mul-normal g c = let h = twice (size_more c.cross-normal.ensures.within.z tt) in simp (to_z-of_z h.once) h.fits
 
 pub weights_in_plane-requires-clause-x : goal.weights_in_plane-requires-clause-x
 weights_in_plane-requires-clause-x g c =
@@ -92,14 +90,10 @@ weights_in_plane-requires-clause-y g c =
     simp (to_z-of_z (size_fits size tt)) size
 
 pub weights_in_plane-requires-clause-k : goal.weights_in_plane-requires-clause-k
-weights_in_plane-requires-clause-k g c =
-    let h = twice (size_more c.cross-normal.ensures.within.z tt) in
-    simp (to_z-of_z h.once, to_z-of_z h.fits) (twice_height c.cross-normal.ensures.within.z)
+weights_in_plane-requires-clause-k g c = let h = twice (size_more c.cross-normal.ensures.within.z tt) in simp (to_z-of_z h.once, to_z-of_z h.fits) (twice_height c.cross-normal.ensures.within.z)
 
 pub weights_in_plane-requires-clause-positive : goal.weights_in_plane-requires-clause-positive
-weights_in_plane-requires-clause-positive g c =
-    let h = twice (size_more c.cross-normal.ensures.within.z tt) in
-    simp (to_z-of_z h.once, to_z-of_z h.fits) (square_from {t = c.cross-normal.result.z} refl (some_height g.T.Potential.SQUARE c.args.dim (vector_of c.args.a) (vector_of c.args.b) (vector_of c.args.c) c.requires.items (in_plane c.requires.dim c.if-dim-eq3.false) c.less-u.ensures.value c.less-v.ensures.value c.cross-normal.ensures.value (λ e. let t = c.is_zero-2.ensures.1 e in let f = c.if-is_zero-2.false in absurd (cc))))
+weights_in_plane-requires-clause-positive g c = let h = twice (size_more c.cross-normal.ensures.within.z tt) in simp (to_z-of_z h.once, to_z-of_z h.fits) (square_from {t = c.cross-normal.result.z} refl (some_height g.T.Potential.SQUARE c.args.dim (vector_of c.args.a) (vector_of c.args.b) (vector_of c.args.c) c.requires.items (in_plane c.requires.dim c.if-dim-eq3.false) c.less-u.ensures.value c.less-v.ensures.value c.cross-normal.ensures.value (λ e. let t = c.is_zero-2.ensures.1 e in let f = c.if-is_zero-2.false in absurd (cc))))
 
 pub returns-then-SQUARE-eq1-clause-answer : goal.returns-then-SQUARE-eq1-clause-answer
 returns-then-SQUARE-eq1-clause-answer g c =
@@ -137,19 +131,13 @@ returns-clause-answer g c =
     (same_reduction (same_plane_weights {k = pos 1} c.less-u.ensures.value c.less-v.ensures.value x_is y_is refl) raw) (above_from (height_of c.less-u.ensures.value c.less-v.ensures.value c.cross-normal.ensures.value) (some_height g.T.Potential.SQUARE c.args.dim (vector_of c.args.a) (vector_of c.args.b) (vector_of c.args.c) c.requires.items (in_plane c.requires.dim c.if-dim-eq3.false) c.less-u.ensures.value c.less-v.ensures.value c.cross-normal.ensures.value (λ e. let t = c.is_zero-2.ensures.1 e in let f = c.if-is_zero-2.false in absurd (cc))) (omega (arith, ints, c.if-normal-lt0.false)))
 
 pub overflow_sub-a-2 : goal.overflow_sub-a-2
-overflow_sub-a-2 g c =
-    let y = opposites c.requires.a.y in
-    simp (to_z-of_z y.narrow) y.narrow_opposite
+overflow_sub-a-2 g c = let y = opposites c.requires.a.y in simp (to_z-of_z y.narrow) y.narrow_opposite
 
 pub weights_in_plane-requires-2-clause-x : goal.weights_in_plane-requires-2-clause-x
-weights_in_plane-requires-2-clause-x g c =
-    let x = opposites c.requires.a.x in
-    simp (to_z-of_z x.narrow, to_z-of_z x.narrow_opposite, to_z-of_z x.wide_opposite) x.size
+weights_in_plane-requires-2-clause-x g c = let x = opposites c.requires.a.x in simp (to_z-of_z x.narrow, to_z-of_z x.narrow_opposite, to_z-of_z x.wide_opposite) x.size
 
 pub weights_in_plane-requires-2-clause-y : goal.weights_in_plane-requires-2-clause-y
-weights_in_plane-requires-2-clause-y g c =
-    let y = opposites c.requires.a.y in
-    simp (to_z-of_z y.narrow, to_z-of_z y.narrow_opposite, to_z-of_z y.wide_opposite) y.size
+weights_in_plane-requires-2-clause-y g c = let y = opposites c.requires.a.y in simp (to_z-of_z y.narrow, to_z-of_z y.narrow_opposite, to_z-of_z y.wide_opposite) y.size
 
 pub weights_in_plane-requires-2-clause-positive : goal.weights_in_plane-requires-2-clause-positive
 weights_in_plane-requires-2-clause-positive g c = above_from {t = c.cross-normal.result.z} refl (some_height g.T.Potential.SQUARE c.args.dim (vector_of c.args.a) (vector_of c.args.b) (vector_of c.args.c) c.requires.items (in_plane c.requires.dim c.if-dim-eq3.false) c.less-u.ensures.value c.less-v.ensures.value c.cross-normal.ensures.value (λ e. let t = c.is_zero-2.ensures.1 e in let f = c.if-is_zero-2.false in absurd (cc))) (omega (arith, ints, c.if-normal-lt0.false))
