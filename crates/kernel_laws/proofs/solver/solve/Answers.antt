@@ -1,14 +1,14 @@
-use Rattle.std.proofs.Common.{◌≡◌, sym, subst, ◌+◌, ◌≤◌, pos, [], ◌∷◌, length, get_or, arith, le_trans}
+use Rattle.std.proofs.Common.{sym, subst, ◌≤◌, pos, [], ◌∷◌, get_or, arith, le_trans}
 use Rattle.std.specs.Prelude.{All, ◌↔◌}
 use Rattle.bounds_model.specs.Potentials.{AreAffinelyDependent}
 use Rattle.kernel_laws.specs.declared.vectors.Vector.{Vector}
-use Rattle.kernel_laws.specs.Vectors.{vector_of, vectors_of}
-use Rattle.kernel_laws.specs.Limits.{IsVectorWithin, IsDifference, reach}
+use Rattle.kernel_laws.specs.Vectors.{vector_of}
+use Rattle.kernel_laws.specs.Limits.{IsDifference}
 use Rattle.kernel_laws.specs.Solutions.{IsWeighting, AreItems, weight_limit}
 use Rattle.kernel_laws.specs.Answers.{Answers, IsNull}
 use Rattle.kernel_laws.proofs.Independence.{independent_of_one}
 use Rattle.kernel_laws.proofs.WeightLimits.{limit_at_least}
-use Rattle.kernel_laws.proofs.ItemLists.{one_item, two_items, three_items, four_items, five_items, any_within, at_0, at_1, at_2, at_3, at_4, one_weight, answer_shown, null_shown, five_count, five_within}
+use Rattle.kernel_laws.proofs.ItemLists.{one_item, two_items, three_items, four_items, five_items, any_within, at_0, at_1, at_2, at_3, one_weight, answer_shown, null_shown, five_count, five_within}
 use Rattle.kernel_laws.proofs.solver.solve.Goals as goal
 
 -- what stands at places that are not there

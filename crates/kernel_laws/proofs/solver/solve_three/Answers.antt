@@ -1,16 +1,13 @@
-use Rattle.std.proofs.Common.{◌≡◌, refl, sym, ◌∙◌, ap, ap₂, subst, ◌^◌, ◌*◌, inl, inr, ℤ, pos, negsuc, neg_ℤ, ◌-ℤ◌, ◌*ℤ◌, ◌<ℤ◌, List, [], ◌∷◌, FitsSigned, of_z, arith, w64}
+use Rattle.std.proofs.Common.{◌≡◌, refl, sym, ◌∙◌, ap, subst, ◌^◌, ℤ, pos, negsuc, neg_ℤ, ◌-ℤ◌, ◌*ℤ◌, ◌<ℤ◌, List, [], ◌∷◌, arith}
 use Rattle.std.proofs.lemmas.Int.{ints}
 use Rattle.std.proofs.Math.Facts.{to_z-of_z}
-use mir.Syntax.{w128}
 use Rattle.integers.specs.Size.{Size}
-use Rattle.integers.proofs.Sizes.{size_mul, size_fits, size_fits64, size_more}
-use Rattle.integers.proofs.MachineArithmetic.{Given, given, with_inputs, codes, computes, fits, size_within}
-use Rattle.bounds_model.specs.Space.{SpacePoint, vector, origin, dot, squared_length}
+use Rattle.integers.proofs.Sizes.{size_fits, size_more}
+use Rattle.integers.proofs.MachineArithmetic.{Given, given, with_inputs, codes, computes, size_within}
+use Rattle.bounds_model.specs.Space.{SpacePoint, vector, origin}
 use Rattle.bounds_model.specs.Potentials.{IsDependence}
 use Rattle.kernel_laws.specs.Limits.{IsVectorWithin}
 use Rattle.kernel_laws.specs.Vectors.{vector_of, sum_of}
-use Rattle.kernel_laws.specs.Solutions.{Reduces}
-use Rattle.kernel_laws.specs.Systems.{right_side, cross, gram_weights, plane_weights}
 use Rattle.kernel_laws.proofs.Points.{squared_length_positive}
 use Rattle.kernel_laws.proofs.Repeats.{repeated_of_three}
 use Rattle.kernel_laws.proofs.Independence.{independent_of_three}

@@ -1,4 +1,4 @@
-use Rattle.std.proofs.Common.{◌≡◌, sym, ◌∙◌, ap, ap₂, subst, ◌^◌, pos, ◌*ℤ◌, ◌<ℤ◌, arith}
+use Rattle.std.proofs.Common.{sym, ◌∙◌, ap, ap₂, subst, ◌^◌, pos, ◌*ℤ◌, ◌<ℤ◌, arith}
 use Rattle.std.proofs.Math.Facts.{to_z-of_z}
 use Rattle.integers.proofs.Sizes.{size_fits}
 use Rattle.bounds_model.specs.Space.{dot}
