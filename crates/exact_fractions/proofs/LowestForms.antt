@@ -1,10 +1,10 @@
 -- Numbers divided by their greatest common divisor: fractions and places in lowest terms.
 use Prim.Native.Nat.{◌∣◌}
-use Rattle.std.proofs.Common.{◌≡◌, sym, ◌∙◌, ap, ap₂, ℕ, ◌*◌, ◌/◌, ◌^◌, ◌<◌, ◌≤◌, ℤ, pos, ◌*ℤ◌, ◌≤ℤ◌, ◌<ℤ◌, nat_abs, arith, List, [], ◌∷◌, map, mul-le-mul, le_trans}
+use Rattle.std.proofs.Common.{◌≡◌, sym, ◌∙◌, ap, ap₂, subst, ℕ, ◌*◌, ◌/◌, ◌^◌, ◌<◌, ◌≤◌, ℤ, pos, ◌*ℤ◌, ◌≤ℤ◌, ◌<ℤ◌, nat_abs, arith, List, [], ◌∷◌, map, mul-le-mul, le_trans}
 use Rattle.std.specs.Int.{IsGcd}
 use Rattle.std.proofs.lemmas.Int.{ints, unsigned_abs-mul}
 use Rattle.std.proofs.lemmas.List.Elements.{All-nil, All-cons, All-head, All-tail}
-use Rattle.std.proofs.Math.Nat.{eq_of_mul-eq-mul_left, div-le_self, dvd_trans, le_of_dvd}
+use Rattle.std.proofs.Math.Nat.{eq_of_mul-eq-mul_left, div-le_self, dvd_refl, dvd_trans, le_of_dvd}
 use Rattle.integers.specs.Size.{Size}
 use Rattle.integers.specs.LowestTerms.{IsLowestTerms}
 use Rattle.integers.proofs.Identities.{den-ring, read, polys}
@@ -145,3 +145,24 @@ quotient_by_one k q n one is =
 -- the greatest common divisor of the numbers of a fraction in lowest terms is 1
 pub IsGcd-lowest : (n d g : ℕ) → IsGcd n d g → HaveNoCommonFactor (pos n ∷ pos d ∷ []) → g ≡ 1
 IsGcd-lowest n d g h lowest = lowest g (All-cons (λ e. g ∣ nat_abs e) (pos n) (pos d ∷ []) h.0 (All-cons (λ e. g ∣ nat_abs e) (pos d) [] h.1 (All-nil (λ e. g ∣ nat_abs e))))
+
+-- the greatest common divisor of four numbers divides each
+pub record DividesFour (k : ℕ) (x y z w : ℤ) : Type 0 where
+  pub first : IsDivisorOf k x
+  pub second : IsDivisorOf k y
+  pub third : IsDivisorOf k z
+  pub fourth : IsDivisorOf k w
+
+-- the last of them is at least 1
+pub divides_four : (k : ℕ) (x y z w : ℤ) → pos 1 ≤ℤ w → IsNumber w → gcd_all (x ∷ y ∷ z ∷ w ∷ []) ≡ k → DividesFour k x y z w
+divides_four k x y z w some limit whole =
+    let from_x : k ∣ gcd_all (x ∷ y ∷ z ∷ w ∷ []) = subst (λ n. k ∣ n) (sym whole) (dvd_refl k) in
+    let from_y : k ∣ gcd_all (y ∷ z ∷ w ∷ []) = dvd-rest k x (y ∷ z ∷ w ∷ []) from_x in
+    let from_z : k ∣ gcd_all (z ∷ w ∷ []) = dvd-rest k y (z ∷ w ∷ []) from_y in
+    let last : k ∣ nat_abs w = dvd-first k w [] (dvd-rest k z (w ∷ []) from_z) in
+    record {
+      first = divides_entry k w x some limit last (dvd-first k x (y ∷ z ∷ w ∷ []) from_x);
+      second = divides_entry k w y some limit last (dvd-first k y (z ∷ w ∷ []) from_y);
+      third = divides_entry k w z some limit last (dvd-first k z (w ∷ []) from_z);
+      fourth = divides_entry k w w some limit last last;
+    }

@@ -1,8 +1,9 @@
 -- The sizes of cross products and triple products in space.
-use Rattle.std.proofs.Common.{◌≡◌, ◌∙◌, ap, ap₂, ℕ, ◌^◌, ℤ, pos, ◌-ℤ◌, List, [], ◌∷◌, FitsSigned, of_z, arith}
+use Rattle.std.proofs.Common.{◌≡◌, sym, ◌∙◌, ap, ap₂, subst, ℕ, ◌^◌, ◌*◌, ℤ, pos, ◌-ℤ◌, ◌*ℤ◌, List, [], ◌∷◌, FitsSigned, of_z, arith}
 use Rattle.std.proofs.lemmas.Int.{ints}
 use mir.Syntax.{w128}
 use Rattle.integers.specs.Size.{Size}
+use Rattle.integers.proofs.Sizes.{size_mul, size_fits, size_more}
 use Rattle.integers.proofs.MachineArithmetic.{Given, given, with_inputs, codes, size_within}
 use Rattle.bounds_model.specs.Space.{SpacePoint, dot}
 use Rattle.kernel_laws.specs.Limits.{IsVectorWithin}
@@ -49,3 +50,21 @@ zero_from f e = omega (arith, ints)
 -- or not to be 0
 pub not_zero_from : {z : ℤ} → FitsSigned w128 z → (of_z w128 z ≡ 0 → ⊥) → z ≡ pos 0 → ⊥
 not_zero_from f h e = h (ap (of_z w128) e)
+
+-- a multiple of a triple product
+pub record Multiple (k t : ℤ) : Type 0 where
+  pub factor : FitsSigned w128 k
+  pub once : FitsSigned w128 t
+  pub fits : FitsSigned w128 (k *ℤ t)
+  pub size : Size (2 ^ 120) (k *ℤ t)
+
+-- as code finds it
+pub multiple : (u v w : SpacePoint) {k t : ℤ} → IsVectorWithin 32000 u → IsVectorWithin 32000 v → IsVectorWithin 32000 w → Size (2 ^ 52) k → t ≡ dot (cross u v) w → Multiple k t
+multiple u v w {k} {t} hu hv hw hk e =
+    let size : Size (2 ^ 50) t = subst (Size (2 ^ 50)) (sym e) (volume_within u v w hu hv hw) in
+    let product : Size (2 ^ 52 * 2 ^ 50) (k *ℤ t) = size_mul hk size in
+    record { factor = size_fits hk tt; once = size_fits size tt; fits = size_fits product tt; size = size_more product tt }
+
+-- a weight, as code finds it
+pub weight_size : (m u v : SpacePoint) {t : ℤ} → IsVectorWithin (2 ^ 75) m → IsVectorWithin 32000 u → IsVectorWithin 32000 v → t ≡ dot m (cross u v) → Size (2 ^ 120) t
+weight_size m u v hm hu hv e = size_more (subst (Size (2 ^ 110)) (sym e) (product_within m (cross u v) hm (cross_within u v hu hv))) tt

@@ -12,7 +12,7 @@ use Rattle.kernel_laws.specs.declared.solver.Solved.{Solved}
 use Rattle.kernel_laws.specs.declared.solver.Solved.TheVariants.{Weights, Null}
 use Rattle.kernel_laws.specs.Vectors.{vector_of, vectors_of}
 use Rattle.kernel_laws.specs.Limits.{IsVectorWithin, IsDifference, reach}
-use Rattle.kernel_laws.specs.Solutions.{IsWeighting, Reduces}
+use Rattle.kernel_laws.specs.Solutions.{IsWeighting, AreItems, Reduces}
 use Rattle.kernel_laws.specs.Answers.{Answers, IsNull, Shows}
 use Rattle.kernel_laws.proofs.SideLimits.{more_within}
 use Rattle.kernel_laws.proofs.Weightings.{weighting_of_one}
@@ -118,3 +118,36 @@ five_of dim n (inr e) h l a b c d = omega arith
 pub five_in_space : (dim n : ℕ) → (dim ≡ 2) ⊎ (dim ≡ 3) → n ≡ 5 → n ≤ dim + 2 → dim ≡ 3
 five_in_space dim n (inl e) f h = absurd (omega arith)
 five_in_space dim n (inr e) f h = e
+
+-- how many items the solver has, where it has none of 1 to 4
+pub five_count : (square : ℤ) (dim : ℕ) (xs : List Vector) → (dim ≡ 2) ⊎ (dim ≡ 3) → AreItems square dim (vectors_of xs) → (length xs ≡ 1 → ⊥) → (length xs ≡ 2 → ⊥) → (length xs ≡ 3 → ⊥) → (length xs ≡ 4 → ⊥) → length xs ≡ 5
+five_count square dim xs dims h not_one not_two not_three not_four =
+    let same : length (vectors_of xs) ≡ length xs = length-vectors_of xs in
+    five_of dim (length xs) dims (subst (λ n. n ≤ dim + 2) same h.few) (subst (λ n. 1 ≤ n) same h.some) not_one not_two not_three not_four
+
+-- the bounds of five items
+pub record FiveWithin (a b c d e : SpacePoint) : Type 0 where
+  pub first : IsVectorWithin 16000 a
+  pub second : IsVectorWithin 16000 b
+  pub third : IsVectorWithin 16000 c
+  pub fourth : IsVectorWithin 16000 d
+  pub fifth : IsVectorWithin 16000 e
+
+-- from the conditions of the solver
+pub five_within : (square : ℤ) (dim : ℕ) (xs : List Vector) (x : Vector) → (dim ≡ 2) ⊎ (dim ≡ 3) → AreItems square dim (vectors_of xs) → length xs ≡ 5 → FiveWithin (vector_of (get_or xs 0 x)) (vector_of (get_or xs 1 x)) (vector_of (get_or xs 2 x)) (vector_of (get_or xs 3 x)) (vector_of (get_or xs 4 x))
+five_within square dim xs x dims h many =
+    let a : SpacePoint = vector_of (get_or xs 0 x) in
+    let b : SpacePoint = vector_of (get_or xs 1 x) in
+    let c : SpacePoint = vector_of (get_or xs 2 x) in
+    let d : SpacePoint = vector_of (get_or xs 3 x) in
+    let e : SpacePoint = vector_of (get_or xs 4 x) in
+    let three : dim ≡ 3 = five_in_space dim (length xs) dims many (subst (λ n. n ≤ dim + 2) (length-vectors_of xs) h.few) in
+    let each : All (IsDifference dim) (a ∷ b ∷ c ∷ d ∷ e ∷ []) = subst (All (IsDifference dim)) (five_items xs x many) h.each in
+    let within : (v : SpacePoint) → IsDifference dim v → IsVectorWithin 16000 v = λ v k. subst (λ n. IsVectorWithin (reach n) v) three k.within in
+    record {
+      first = within a (at_0 (IsDifference dim) a (b ∷ c ∷ d ∷ e ∷ []) each);
+      second = within b (at_1 (IsDifference dim) a b (c ∷ d ∷ e ∷ []) each);
+      third = within c (at_2 (IsDifference dim) a b c (d ∷ e ∷ []) each);
+      fourth = within d (at_3 (IsDifference dim) a b c d (e ∷ []) each);
+      fifth = within e (at_4 (IsDifference dim) a b c d e [] each);
+    }

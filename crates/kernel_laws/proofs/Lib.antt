@@ -14,6 +14,7 @@ pub mod Three
 pub mod Four
 pub mod Shown
 pub mod Crosses
+pub mod Products
 pub mod Items
 pub mod ItemLists
 pub mod TestItems

@@ -199,6 +199,14 @@ pub same_plane_weights : {u v u' v' : SpacePoint} {x y k x' y' k' : ℤ} → u �
 same_plane_weights {u} {v} {u'} {v'} {x} {y} {k} {x'} {y'} {k'} eu ev ex ey ek =
     ap (λ u. plane_weights u v x y k) eu ∙ ap (λ v. plane_weights u' v x y k) ev ∙ ap (λ x. plane_weights u' v' x y k) ex ∙ ap (λ y. plane_weights u' v' x' y k) ey ∙ ap (λ k. plane_weights u' v' x' y' k) ek
 
+-- and so do a centre's coordinates, as code finds them from right sides
+pub same_centre_weights : (a b c : SpacePoint) {u v : SpacePoint} {x y k k' r s r' s' : ℤ} → u ≡ vector a b → v ≡ vector a c → r ≡ r' → s ≡ s' → x ≡ r *ℤ v.y -ℤ s *ℤ u.y → y ≡ s *ℤ u.x -ℤ r *ℤ v.x → k ≡ k'
+    → plane_weights u v x y k ≡ plane_weights (vector a b) (vector a c) (r' *ℤ (vector a c).y -ℤ s' *ℤ (vector a b).y) (s' *ℤ (vector a b).x -ℤ r' *ℤ (vector a c).x) k'
+same_centre_weights a b c {u} {v} {x} {y} {k} {k'} {r} {s} {r'} {s'} eu ev er es ex ey ek =
+    let x_is : x ≡ r' *ℤ (vector a c).y -ℤ s' *ℤ (vector a b).y = ex ∙ ap₂ (λ v u. r *ℤ v -ℤ s *ℤ u) (ap (λ n. n.y) ev) (ap (λ n. n.y) eu) ∙ ap₂ (λ r s. r *ℤ (vector a c).y -ℤ s *ℤ (vector a b).y) er es in
+    let y_is : y ≡ s' *ℤ (vector a b).x -ℤ r' *ℤ (vector a c).x = ey ∙ ap₂ (λ v u. s *ℤ u -ℤ r *ℤ v) (ap (λ n. n.x) ev) (ap (λ n. n.x) eu) ∙ ap₂ (λ r s. s *ℤ (vector a b).x -ℤ r *ℤ (vector a c).x) er es in
+    same_plane_weights eu ev x_is y_is ek
+
 -- the same by Gram's matrix
 pub same_gram_weights : {u v u' v' : SpacePoint} {r s r' s' : ℤ} → u ≡ u' → v ≡ v' → r ≡ r' → s ≡ s' → gram_weights u v r s ≡ gram_weights u' v' r' s'
 same_gram_weights {u} {v} {u'} {v'} {r} {s} {r'} {s'} eu ev er es =

@@ -1,10 +1,8 @@
-use Prim.Native.Nat.{◌∣◌}
-use Rattle.std.proofs.Common.{◌≡◌, ◌∙◌, sym, subst, ◌*ℤ◌, pos, ◌<◌, [], ◌∷◌, FitsSigned, rules}
+use Rattle.std.proofs.Common.{◌≡◌, ◌∙◌, sym, ◌*ℤ◌, pos, ◌<◌, [], ◌∷◌, FitsSigned, rules}
 use Rattle.std.proofs.lemmas.Int.{to_z-of_z}
-use Rattle.std.proofs.Math.Nat.{dvd_refl}
 use mir.Syntax.{w128}
 use Rattle.integers.proofs.Divisors.{gcd_all, gcd_all_one}
-use Rattle.exact_fractions.proofs.LowestForms.{gcd_of_four, divides_entry, dvd-first, dvd-rest, IsSpaceRatio-div, SamePlace-div, quotient_by_one}
+use Rattle.exact_fractions.proofs.LowestForms.{gcd_of_four, DividesFour, divides_four, IsSpaceRatio-div, SamePlace-div, quotient_by_one}
 use Rattle.bounds_model.specs.Space.{SpaceRatio}
 use Rattle.exact_fractions.proofs.space.Homog3.new.Goals as goal
 
@@ -17,11 +15,8 @@ quotient-requires-clause-divisor c =
     let whole : gcd_all (c.args.x ∷ c.args.y ∷ c.args.z ∷ c.args.w ∷ []) ≡ c.gcd-divisor.result =
     gcd_of_four c.args.x c.args.y c.args.z c.args.w c.unsigned_abs.result c.unsigned_abs-2.result c.unsigned_abs-3.result c.unsigned_abs-4.result c.gcd.result c.gcd-2.result c.gcd-divisor.result
     (simp to_z-of_z at c.unsigned_abs.ensures.value) (simp to_z-of_z at c.unsigned_abs-2.ensures.value) (simp to_z-of_z at c.unsigned_abs-3.ensures.value) (simp to_z-of_z at c.unsigned_abs-4.ensures.value) c.gcd.ensures c.gcd-2.ensures c.gcd-divisor.ensures in
-    let from_x : c.gcd-divisor.result ∣ gcd_all (c.args.x ∷ c.args.y ∷ c.args.z ∷ c.args.w ∷ []) = subst (λ n. c.gcd-divisor.result ∣ n) (sym whole) (dvd_refl c.gcd-divisor.result) in
-    let from_y : c.gcd-divisor.result ∣ gcd_all (c.args.y ∷ c.args.z ∷ c.args.w ∷ []) = dvd-rest c.gcd-divisor.result c.args.x (c.args.y ∷ c.args.z ∷ c.args.w ∷ []) from_x in
-    let from_z : c.gcd-divisor.result ∣ gcd_all (c.args.z ∷ c.args.w ∷ []) = dvd-rest c.gcd-divisor.result c.args.y (c.args.z ∷ c.args.w ∷ []) from_y in
-    let from_w : c.gcd-divisor.result ∣ gcd_all (c.args.w ∷ []) = dvd-rest c.gcd-divisor.result c.args.z (c.args.w ∷ []) from_z in
-    simp to_z-of_z (divides_entry c.gcd-divisor.result c.args.w c.args.x c.requires.some c.requires.w (dvd-first c.gcd-divisor.result c.args.w [] from_w) (dvd-first c.gcd-divisor.result c.args.x (c.args.y ∷ c.args.z ∷ c.args.w ∷ []) from_x))
+    let each : DividesFour c.gcd-divisor.result c.args.x c.args.y c.args.z c.args.w = divides_four c.gcd-divisor.result c.args.x c.args.y c.args.z c.args.w c.requires.some c.requires.w whole in
+    simp to_z-of_z each.first
 
 pub quotient-requires-2-clause-divisor : goal.quotient-requires-2-clause-divisor
 quotient-requires-2-clause-divisor c =
@@ -32,11 +27,8 @@ quotient-requires-2-clause-divisor c =
     let whole : gcd_all (c.args.x ∷ c.args.y ∷ c.args.z ∷ c.args.w ∷ []) ≡ c.gcd-divisor.result =
     gcd_of_four c.args.x c.args.y c.args.z c.args.w c.unsigned_abs.result c.unsigned_abs-2.result c.unsigned_abs-3.result c.unsigned_abs-4.result c.gcd.result c.gcd-2.result c.gcd-divisor.result
     (simp to_z-of_z at c.unsigned_abs.ensures.value) (simp to_z-of_z at c.unsigned_abs-2.ensures.value) (simp to_z-of_z at c.unsigned_abs-3.ensures.value) (simp to_z-of_z at c.unsigned_abs-4.ensures.value) c.gcd.ensures c.gcd-2.ensures c.gcd-divisor.ensures in
-    let from_x : c.gcd-divisor.result ∣ gcd_all (c.args.x ∷ c.args.y ∷ c.args.z ∷ c.args.w ∷ []) = subst (λ n. c.gcd-divisor.result ∣ n) (sym whole) (dvd_refl c.gcd-divisor.result) in
-    let from_y : c.gcd-divisor.result ∣ gcd_all (c.args.y ∷ c.args.z ∷ c.args.w ∷ []) = dvd-rest c.gcd-divisor.result c.args.x (c.args.y ∷ c.args.z ∷ c.args.w ∷ []) from_x in
-    let from_z : c.gcd-divisor.result ∣ gcd_all (c.args.z ∷ c.args.w ∷ []) = dvd-rest c.gcd-divisor.result c.args.y (c.args.z ∷ c.args.w ∷ []) from_y in
-    let from_w : c.gcd-divisor.result ∣ gcd_all (c.args.w ∷ []) = dvd-rest c.gcd-divisor.result c.args.z (c.args.w ∷ []) from_z in
-    simp to_z-of_z (divides_entry c.gcd-divisor.result c.args.w c.args.y c.requires.some c.requires.w (dvd-first c.gcd-divisor.result c.args.w [] from_w) (dvd-first c.gcd-divisor.result c.args.y (c.args.z ∷ c.args.w ∷ []) from_y))
+    let each : DividesFour c.gcd-divisor.result c.args.x c.args.y c.args.z c.args.w = divides_four c.gcd-divisor.result c.args.x c.args.y c.args.z c.args.w c.requires.some c.requires.w whole in
+    simp to_z-of_z each.second
 
 pub quotient-requires-3-clause-divisor : goal.quotient-requires-3-clause-divisor
 quotient-requires-3-clause-divisor c =
@@ -47,11 +39,8 @@ quotient-requires-3-clause-divisor c =
     let whole : gcd_all (c.args.x ∷ c.args.y ∷ c.args.z ∷ c.args.w ∷ []) ≡ c.gcd-divisor.result =
     gcd_of_four c.args.x c.args.y c.args.z c.args.w c.unsigned_abs.result c.unsigned_abs-2.result c.unsigned_abs-3.result c.unsigned_abs-4.result c.gcd.result c.gcd-2.result c.gcd-divisor.result
     (simp to_z-of_z at c.unsigned_abs.ensures.value) (simp to_z-of_z at c.unsigned_abs-2.ensures.value) (simp to_z-of_z at c.unsigned_abs-3.ensures.value) (simp to_z-of_z at c.unsigned_abs-4.ensures.value) c.gcd.ensures c.gcd-2.ensures c.gcd-divisor.ensures in
-    let from_x : c.gcd-divisor.result ∣ gcd_all (c.args.x ∷ c.args.y ∷ c.args.z ∷ c.args.w ∷ []) = subst (λ n. c.gcd-divisor.result ∣ n) (sym whole) (dvd_refl c.gcd-divisor.result) in
-    let from_y : c.gcd-divisor.result ∣ gcd_all (c.args.y ∷ c.args.z ∷ c.args.w ∷ []) = dvd-rest c.gcd-divisor.result c.args.x (c.args.y ∷ c.args.z ∷ c.args.w ∷ []) from_x in
-    let from_z : c.gcd-divisor.result ∣ gcd_all (c.args.z ∷ c.args.w ∷ []) = dvd-rest c.gcd-divisor.result c.args.y (c.args.z ∷ c.args.w ∷ []) from_y in
-    let from_w : c.gcd-divisor.result ∣ gcd_all (c.args.w ∷ []) = dvd-rest c.gcd-divisor.result c.args.z (c.args.w ∷ []) from_z in
-    simp to_z-of_z (divides_entry c.gcd-divisor.result c.args.w c.args.z c.requires.some c.requires.w (dvd-first c.gcd-divisor.result c.args.w [] from_w) (dvd-first c.gcd-divisor.result c.args.z (c.args.w ∷ []) from_z))
+    let each : DividesFour c.gcd-divisor.result c.args.x c.args.y c.args.z c.args.w = divides_four c.gcd-divisor.result c.args.x c.args.y c.args.z c.args.w c.requires.some c.requires.w whole in
+    simp to_z-of_z each.third
 
 pub quotient-requires-4-clause-divisor : goal.quotient-requires-4-clause-divisor
 quotient-requires-4-clause-divisor c =
@@ -62,11 +51,8 @@ quotient-requires-4-clause-divisor c =
     let whole : gcd_all (c.args.x ∷ c.args.y ∷ c.args.z ∷ c.args.w ∷ []) ≡ c.gcd-divisor.result =
     gcd_of_four c.args.x c.args.y c.args.z c.args.w c.unsigned_abs.result c.unsigned_abs-2.result c.unsigned_abs-3.result c.unsigned_abs-4.result c.gcd.result c.gcd-2.result c.gcd-divisor.result
     (simp to_z-of_z at c.unsigned_abs.ensures.value) (simp to_z-of_z at c.unsigned_abs-2.ensures.value) (simp to_z-of_z at c.unsigned_abs-3.ensures.value) (simp to_z-of_z at c.unsigned_abs-4.ensures.value) c.gcd.ensures c.gcd-2.ensures c.gcd-divisor.ensures in
-    let from_x : c.gcd-divisor.result ∣ gcd_all (c.args.x ∷ c.args.y ∷ c.args.z ∷ c.args.w ∷ []) = subst (λ n. c.gcd-divisor.result ∣ n) (sym whole) (dvd_refl c.gcd-divisor.result) in
-    let from_y : c.gcd-divisor.result ∣ gcd_all (c.args.y ∷ c.args.z ∷ c.args.w ∷ []) = dvd-rest c.gcd-divisor.result c.args.x (c.args.y ∷ c.args.z ∷ c.args.w ∷ []) from_x in
-    let from_z : c.gcd-divisor.result ∣ gcd_all (c.args.z ∷ c.args.w ∷ []) = dvd-rest c.gcd-divisor.result c.args.y (c.args.z ∷ c.args.w ∷ []) from_y in
-    let from_w : c.gcd-divisor.result ∣ gcd_all (c.args.w ∷ []) = dvd-rest c.gcd-divisor.result c.args.z (c.args.w ∷ []) from_z in
-    simp to_z-of_z (divides_entry c.gcd-divisor.result c.args.w c.args.w c.requires.some c.requires.w (dvd-first c.gcd-divisor.result c.args.w [] from_w) (dvd-first c.gcd-divisor.result c.args.w ([]) from_w))
+    let each : DividesFour c.gcd-divisor.result c.args.x c.args.y c.args.z c.args.w = divides_four c.gcd-divisor.result c.args.x c.args.y c.args.z c.args.w c.requires.some c.requires.w whole in
+    simp to_z-of_z each.fourth
 
 pub invariant_of-result : goal.invariant_of-result
 invariant_of-result c =
@@ -77,11 +63,8 @@ invariant_of-result c =
     let whole : gcd_all (c.args.x ∷ c.args.y ∷ c.args.z ∷ c.args.w ∷ []) ≡ c.gcd-divisor.result =
     gcd_of_four c.args.x c.args.y c.args.z c.args.w c.unsigned_abs.result c.unsigned_abs-2.result c.unsigned_abs-3.result c.unsigned_abs-4.result c.gcd.result c.gcd-2.result c.gcd-divisor.result
     (simp to_z-of_z at c.unsigned_abs.ensures.value) (simp to_z-of_z at c.unsigned_abs-2.ensures.value) (simp to_z-of_z at c.unsigned_abs-3.ensures.value) (simp to_z-of_z at c.unsigned_abs-4.ensures.value) c.gcd.ensures c.gcd-2.ensures c.gcd-divisor.ensures in
-    let from_x : c.gcd-divisor.result ∣ gcd_all (c.args.x ∷ c.args.y ∷ c.args.z ∷ c.args.w ∷ []) = subst (λ n. c.gcd-divisor.result ∣ n) (sym whole) (dvd_refl c.gcd-divisor.result) in
-    let from_y : c.gcd-divisor.result ∣ gcd_all (c.args.y ∷ c.args.z ∷ c.args.w ∷ []) = dvd-rest c.gcd-divisor.result c.args.x (c.args.y ∷ c.args.z ∷ c.args.w ∷ []) from_x in
-    let from_z : c.gcd-divisor.result ∣ gcd_all (c.args.z ∷ c.args.w ∷ []) = dvd-rest c.gcd-divisor.result c.args.y (c.args.z ∷ c.args.w ∷ []) from_y in
-    let from_w : c.gcd-divisor.result ∣ gcd_all (c.args.w ∷ []) = dvd-rest c.gcd-divisor.result c.args.z (c.args.w ∷ []) from_z in
-    let positive : 0 < c.gcd-divisor.result = (divides_entry c.gcd-divisor.result c.args.w c.args.w c.requires.some c.requires.w (dvd-first c.gcd-divisor.result c.args.w [] from_w) (dvd-first c.gcd-divisor.result c.args.w [] from_w)).positive in
+    let each : DividesFour c.gcd-divisor.result c.args.x c.args.y c.args.z c.args.w = divides_four c.gcd-divisor.result c.args.x c.args.y c.args.z c.args.w c.requires.some c.requires.w whole in
+    let positive : 0 < c.gcd-divisor.result = each.fourth.positive in
     let is_x : pos c.gcd-divisor.result *ℤ c.quotient.result ≡ c.args.x = simp to_z-of_z at c.quotient.ensures in
     let fits_x : FitsSigned w128 c.quotient.result = search rules in
     let is_y : pos c.gcd-divisor.result *ℤ c.quotient-2.result ≡ c.args.y = simp to_z-of_z at c.quotient-2.ensures in
@@ -101,11 +84,8 @@ returns-clause-lowest c =
     let whole : gcd_all (c.args.x ∷ c.args.y ∷ c.args.z ∷ c.args.w ∷ []) ≡ c.gcd-divisor.result =
     gcd_of_four c.args.x c.args.y c.args.z c.args.w c.unsigned_abs.result c.unsigned_abs-2.result c.unsigned_abs-3.result c.unsigned_abs-4.result c.gcd.result c.gcd-2.result c.gcd-divisor.result
     (simp to_z-of_z at c.unsigned_abs.ensures.value) (simp to_z-of_z at c.unsigned_abs-2.ensures.value) (simp to_z-of_z at c.unsigned_abs-3.ensures.value) (simp to_z-of_z at c.unsigned_abs-4.ensures.value) c.gcd.ensures c.gcd-2.ensures c.gcd-divisor.ensures in
-    let from_x : c.gcd-divisor.result ∣ gcd_all (c.args.x ∷ c.args.y ∷ c.args.z ∷ c.args.w ∷ []) = subst (λ n. c.gcd-divisor.result ∣ n) (sym whole) (dvd_refl c.gcd-divisor.result) in
-    let from_y : c.gcd-divisor.result ∣ gcd_all (c.args.y ∷ c.args.z ∷ c.args.w ∷ []) = dvd-rest c.gcd-divisor.result c.args.x (c.args.y ∷ c.args.z ∷ c.args.w ∷ []) from_x in
-    let from_z : c.gcd-divisor.result ∣ gcd_all (c.args.z ∷ c.args.w ∷ []) = dvd-rest c.gcd-divisor.result c.args.y (c.args.z ∷ c.args.w ∷ []) from_y in
-    let from_w : c.gcd-divisor.result ∣ gcd_all (c.args.w ∷ []) = dvd-rest c.gcd-divisor.result c.args.z (c.args.w ∷ []) from_z in
-    let positive : 0 < c.gcd-divisor.result = (divides_entry c.gcd-divisor.result c.args.w c.args.w c.requires.some c.requires.w (dvd-first c.gcd-divisor.result c.args.w [] from_w) (dvd-first c.gcd-divisor.result c.args.w [] from_w)).positive in
+    let each : DividesFour c.gcd-divisor.result c.args.x c.args.y c.args.z c.args.w = divides_four c.gcd-divisor.result c.args.x c.args.y c.args.z c.args.w c.requires.some c.requires.w whole in
+    let positive : 0 < c.gcd-divisor.result = each.fourth.positive in
     let is_x : pos c.gcd-divisor.result *ℤ c.quotient.result ≡ c.args.x = simp to_z-of_z at c.quotient.ensures in
     let fits_x : FitsSigned w128 c.quotient.result = search rules in
     let is_y : pos c.gcd-divisor.result *ℤ c.quotient-2.result ≡ c.args.y = simp to_z-of_z at c.quotient-2.ensures in
