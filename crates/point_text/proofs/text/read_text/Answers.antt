@@ -1,6 +1,5 @@
-use Rattle.std.proofs.Common.{◌≡◌, List, [], ◌++◌, append-nil, rules}
+use Rattle.std.proofs.Common.{[], append-nil}
 use Rattle.bounded_coords.specs.Asked.{asked}
-use Rattle.point_text.specs.Keeping.{KeepsPoint}
 use Rattle.point_text.proofs.text.read_text.Goals as goal
 
 pub returns-in-Err-clause-memory : goal.returns-in-Err-clause-memory
