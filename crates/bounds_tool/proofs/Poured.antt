@@ -3,6 +3,7 @@ use Rattle.std.proofs.Common.{◌≡◌, ◌∙◌, sym, ap, subst, ℕ, ◌+◌
 use Rattle.bounds_model.specs.Asks.{Ask}
 use Rattle.bnd_io.specs.Files.{Folder, bytes_of}
 use Rattle.point_text.specs.declared.reader.Reader.{Reader}
+use Rattle.point_text.specs.Keeping.{KeepsPoint}
 use Rattle.point_text.specs.Reading.{StandsFor, bytes_taken}
 
 -- of all bytes, where they are told, the reader took those before the rest
@@ -46,6 +47,20 @@ took_too_many limit first now told all rest piece after took ask empty parts pas
         let more = ap length parts in
         let parted = length-append piece after in
         omega (arith, whole, size, more, parted, taken, past)
+
+-- a piece at which memory was wanting: a point is kept of all bytes
+pub took_wanting : (first now : Reader) (told : Option Folder) (all rest piece after : List ℕ) → TookBefore first now told all rest
+    → ((ask : Ask) (bytes more : List ℕ) → StandsFor now ask bytes → KeepsPoint ask ((bytes ++ piece) ++ more)) → IfSome told (λ _. rest ≡ piece ++ after)
+    → (ask : Ask) → StandsFor first ask [] → IfSome told (λ _. KeepsPoint ask all)
+took_wanting first now told all rest piece after took keeps parts ask empty =
+    let before = took ask empty in
+    kept told before.0 before.1 before.2 parts
+  where
+    kept : (told : Option Folder) (bytes : List ℕ) → StandsFor now ask bytes → IfSome told (λ _. all ≡ bytes ++ rest) → IfSome told (λ _. rest ≡ piece ++ after) → IfSome told (λ _. KeepsPoint ask all)
+    kept None bytes stands is parts = tt
+    kept (Some folder) bytes stands is parts =
+        let same : all ≡ (bytes ++ piece) ++ after = is ∙ (ap (λ ys. bytes ++ ys) parts ∙ sym (append_assoc bytes piece after)) in
+        subst (λ ys. KeepsPoint ask ys) (sym same) (keeps ask bytes after stands)
 
 -- a file that is named by its bytes
 pub took_file : (first now : Reader) (old middle : Option Folder) (name left : List ℕ) → middle ≡ old → IfSome middle (λ folder. left ≡ bytes_of folder name)

@@ -7,6 +7,7 @@ ghost use Rattle.bounded_coords.specs.Asked.{asked};
 ghost use Rattle.bnd_io.specs.Files.{Continues, CountsNoOpen, NoFault, KeepsOpen, ReadFailed, IsWhole, bytes_of, grown};
 ghost use Rattle.bnd_io.specs.declared.loading.LoadFault.TheVariants as fault;
 ghost use Rattle.point_text.specs.declared.text.Form.TheVariants.{Text};
+ghost use Rattle.point_text.specs.Keeping.{KeepsPoint};
 ghost use Rattle.point_text.specs.Reading.{StandsFor, HasFailed, bytes_taken};
 ghost use Rattle.bounds_tool.specs.Judging.{points_in, limit_of};
 ghost use Rattle.bounds_tool.specs.Causes.{meant};
@@ -24,7 +25,8 @@ const LIMIT: usize = 1 << 21;
 const BUFFER: usize = 4096;
 
 /// Reads the open file to its end, piece by piece, into a reader of no bytes. A file of more than 2^21 bytes is left after
-/// one byte more, which is not fed. After a refusal the reader is of no use.
+/// one byte more, which is not fed. After a refusal the reader is of no use. Memory may be wanting only where a point of the
+/// file is kept.
 pub fn pour<F: Files>(reader: &mut Reader, files: &mut F) -> Result<(), LoadFault>
     requires is_open { IsTrue (F.state files.old).is_open }
     requires untouched { (F.state files.old).taken ≡ 0 }
@@ -48,6 +50,8 @@ pub fn pour<F: Files>(reader: &mut Reader, files: &mut F) -> Result<(), LoadFaul
     ensures long_file { result ≡ Err fault.TooLong → IfSome (F.state files.old).told (λ _. 2 ^ 21 < length (F.state files.old).left) }
     ensures no_fault { result ≢ Err fault.ReadFailed → NoFault (F.state files.old) (F.state files.new) }
     ensures memory { result ≡ Err fault.OutOfMemory → 0 < (F.state files.new).taken }
+    ensures kept { result ≡ Err fault.OutOfMemory → (ask : asks.Ask) → StandsFor reader.old ask [] →
+        IfSome (F.state files.old).told (λ _. KeepsPoint ask (F.state files.old).left) }
     ensures cause { result ≡ Err fault.ReadFailed → ReadFailed F.last_count (F.state files.old) (F.state files.new) }
 {
     let mut buffer = [0u8; BUFFER];

@@ -8,6 +8,7 @@ use Rattle.bounds_model.specs.PointText.{sets_of_text, bad_line, out_of_range, n
 use Rattle.csv.proofs.OnLiterals.{csv_on_literals}
 use Rattle.point_text.specs.declared.text.Form.TheVariants.{Csv}
 use Rattle.point_text.specs.Files.{sets_of_fields, sets_of_file}
+use Rattle.point_text.specs.Keeping.{KeepsPoint}
 
 abbrev at : ℤ → ℤ → PlanePoint
 at x y = record { x = x; y = y }
@@ -201,3 +202,28 @@ no_record = refl
 records_of_space : sets_of_file Csv ask_distance (codes "0,0,0\n---\n3,0,0\n") ≡ Ok (two (at_height (pos 0) (pos 0) (pos 0) ∷ []) (at_height (pos 3) (pos 0) (pos 0) ∷ []))
 unfolding sets_of_fields csv_on_literals
 records_of_space = refl
+
+-- ---- texts of which a point is kept, and so those that may want memory
+
+kept_before_a_bad_line : KeepsPoint ask_circle (codes "# plot\n---\n0 0\nx\n")
+kept_before_a_bad_line = refl
+
+none_kept : KeepsPoint ask_circle (codes "x") → ⊥
+none_kept = λ kept. cc
+
+none_of_no_bytes : KeepsPoint ask_circle (codes "") → ⊥
+none_of_no_bytes = λ kept. cc
+
+none_behind_a_bad_line : KeepsPoint ask_circle (codes "# plot\nx\n0 0\n") → ⊥
+none_behind_a_bad_line = λ kept. cc
+
+-- a point of space is none of the plane
+none_of_space : KeepsPoint ask_circle (codes "1 2 3\n") → ⊥
+none_of_space = λ kept. cc
+
+kept_of_space : KeepsPoint ask_sphere (codes "1 2 3\n")
+kept_of_space = refl
+
+-- nor is one out of bounds
+none_in_bounds : KeepsPoint ask_circle (codes "200001 0\n") → ⊥
+none_in_bounds = λ kept. cc

@@ -7,7 +7,8 @@ use Rattle.bounded_coords.specs.Asked.{asked}
 use Rattle.bounded_coords.specs.declared.ask.Ask as coords
 use Rattle.bounded_coords.specs.declared.ask.Ask.TheVariants.{Circle, Sphere, Rectangle, Parallelogram, Strip, Annulus, Empty, Kgon, Distance, Centres}
 use Rattle.point_text.specs.Files.{sets_of_fields}
-use Rattle.point_text.specs.Judged.{plane_meanings, space_meanings, CallsFor}
+use Rattle.point_text.specs.Judged.{plane_meanings, space_meanings, CallsFor, KeepsBy}
+use Rattle.point_text.specs.Keeping.{keeps_point}
 use Rattle.point_text.specs.Reading.{line_fields}
 use Rattle.point_text.proofs.Refusing.{judged_nothing}
 
@@ -24,6 +25,19 @@ plane_called (Empty frame) sphere distance empty lines = absurd (empty frame ref
 plane_called (Kgon k) sphere distance empty lines = refl
 plane_called Distance sphere distance empty lines = absurd (distance refl)
 plane_called (Centres p) sphere distance empty lines = refl
+
+-- every ask but two keeps points of the plane
+pub plane_kept : (ask : coords.Ask) → (ask ≡ Sphere → ⊥) → (ask ≡ Distance → ⊥) → KeepsBy (asked ask) (λ lines. keeps_point (plane_meanings lines))
+plane_kept Circle sphere distance lines = refl
+plane_kept Sphere sphere distance lines = absurd (sphere refl)
+plane_kept Rectangle sphere distance lines = refl
+plane_kept Parallelogram sphere distance lines = refl
+plane_kept Strip sphere distance lines = refl
+plane_kept Annulus sphere distance lines = refl
+plane_kept (Empty frame) sphere distance lines = refl
+plane_kept (Kgon k) sphere distance lines = refl
+plane_kept Distance sphere distance lines = absurd (distance refl)
+plane_kept (Centres p) sphere distance lines = refl
 
 -- ---- lines of a text
 

@@ -5,6 +5,7 @@ pub mod FieldLaws
 pub mod Points
 pub mod SetLaws
 pub mod Splits
+pub mod KeptPoints
 pub mod Refusing
 pub mod RecordLaws
 pub mod Judging

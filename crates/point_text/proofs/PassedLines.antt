@@ -10,7 +10,10 @@ use Rattle.point_text.specs.declared.judgement.Judgement.TheVariants.{PlaneSet, 
 use Rattle.point_text.specs.declared.reader.Reader.{Reader}
 use Rattle.point_text.specs.InHand.{IsLineInHand}
 use Rattle.point_text.specs.Judged.{IsJudgement, fault_of, plane_meanings, space_meanings}
-use Rattle.point_text.specs.Reading.{Reads, line_fields}
+use Rattle.point_text.specs.Reading.{Reads, StandsFor, HasFailed, line_fields}
+use Rattle.point_text.specs.Keeping.{fields_keep_point, KeepsPoint}
+use Rattle.point_text.proofs.KeptPoints.{fields_keep_more, judgement_keeps}
+use Rattle.point_text.proofs.TextLines.{text_keeps}
 use Rattle.point_text.proofs.Refusing.{fault_stays}
 use Rattle.point_text.proofs.Splits.{split_joined, split_parted}
 
@@ -36,14 +39,14 @@ longer p (b ∷ ys) xs whole last is = by (p b) refl (longer p ys (xs ++ b ∷ [
 
 -- a fault stays the first one
 judgement_stays : (judgement : Judgement) (ask : Ask) (lines more : List (List (List ℕ))) → is_some (fault_of judgement) ≡ true → IsJudgement judgement ask lines → IsJudgement judgement ask (lines ++ more)
-judgement_stays (PlaneSet judge) ask lines more some (calls, judged) =
-    (calls, rw (map-append (fields_meaning plane_meaning) lines more) (fault_stays judge.fault (plane_meanings lines) (plane_meanings more) _ _ some judged))
-judgement_stays (PlaneSetOrBare judge) ask lines more some (calls, judged) =
-    (calls, rw (map-append (fields_meaning plane_meaning) lines more) (fault_stays judge.fault (plane_meanings lines) (plane_meanings more) _ _ some judged))
-judgement_stays (SpaceSet judge) ask lines more some (calls, judged) =
-    (calls, rw (map-append (fields_meaning space_meaning) lines more) (fault_stays judge.fault (space_meanings lines) (space_meanings more) _ _ some judged))
-judgement_stays (SpaceSets judge) ask lines more some (calls, judged) =
-    (calls, rw (map-append (fields_meaning space_meaning) lines more) (fault_stays judge.fault (space_meanings lines) (space_meanings more) _ _ some judged))
+judgement_stays (PlaneSet judge) ask lines more some (calls, judged, keeps) =
+    (calls, rw (map-append (fields_meaning plane_meaning) lines more) (fault_stays judge.fault (plane_meanings lines) (plane_meanings more) _ _ some judged), keeps)
+judgement_stays (PlaneSetOrBare judge) ask lines more some (calls, judged, keeps) =
+    (calls, rw (map-append (fields_meaning plane_meaning) lines more) (fault_stays judge.fault (plane_meanings lines) (plane_meanings more) _ _ some judged), keeps)
+judgement_stays (SpaceSet judge) ask lines more some (calls, judged, keeps) =
+    (calls, rw (map-append (fields_meaning space_meaning) lines more) (fault_stays judge.fault (space_meanings lines) (space_meanings more) _ _ some judged), keeps)
+judgement_stays (SpaceSets judge) ask lines more some (calls, judged, keeps) =
+    (calls, rw (map-append (fields_meaning space_meaning) lines more) (fault_stays judge.fault (space_meanings lines) (space_meanings more) _ _ some judged), keeps)
 
 -- lines that were passed over
 pub reads_passed : (old now : Reader) (piece part after : List ℕ) → is_some (fault_of old.judgement) ≡ true → piece ≡ part ++ 10 ∷ after → now.taken ≡ old.taken + (length part + 1)
@@ -69,3 +72,11 @@ reads_passed old now piece part after fault parts taken same line = record {
       };
   stays = λ failed. rw same failed;
 }
+
+-- of a text that begins with these bytes a point is kept, where memory was refused
+pub failed_keeps : (reader : Reader) (ask : Ask) (bytes more : List ℕ) → HasFailed reader → StandsFor reader ask bytes → KeepsPoint ask (bytes ++ more)
+failed_keeps reader ask bytes more failed is =
+    let l = longer is_line_feed more bytes is.whole is.last is.lines in
+    let kept = judgement_keeps reader.judgement ask (map line_fields is.whole) failed is.judged in
+    text_keeps ask (bytes ++ more) (is.whole ++ l.more) l.last l.parts
+    (ap (fields_keep_point ask) (map-append line_fields is.whole l.more) ∙ fields_keep_more ask (map line_fields is.whole) (map line_fields l.more) kept)

@@ -1,5 +1,5 @@
 -- The first refused line of lines to which one more was added.
-use Rattle.std.proofs.Common.{◌≡◌, ◌∙◌, refl, sym, ap, ℕ, ◌+◌, ◌<◌, true, false, cond, nat_le, arith, Option, Some, None, Result, List, [], ◌∷◌, ◌++◌, length, length-append, append_assoc, append-nil, IfSome, MatchOption}
+use Rattle.std.proofs.Common.{◌≡◌, ◌∙◌, refl, sym, ap, ℕ, ◌+◌, ◌<◌, true, false, cond, nat_le, arith, Option, Some, None, Result, List, [], ◌∷◌, ◌++◌, length, length-append, append_assoc, append-nil, MatchOption}
 use Rattle.std.specs.Option.{option_or, is_some}
 use Rattle.std.proofs.lemmas.Bool.Decides.{nat_tests}
 use Rattle.bounds_model.specs.Asks.{Sets}
@@ -8,7 +8,9 @@ use Rattle.point_text.specs.declared.kept.KeptSets.{KeptSets}
 use Rattle.point_text.specs.declared.text.TextFault.{TextFault}
 use Rattle.point_text.specs.Refusals.{refusal_of}
 use Rattle.point_text.specs.Kept.{Keeps}
-use Rattle.point_text.specs.Judged.{Accepts}
+use Rattle.point_text.specs.Judged.{Accepts, IsFaultOf}
+use Rattle.point_text.specs.Keeping.{keeps_point}
+use Rattle.point_text.proofs.KeptPoints.{keeps_more}
 use Rattle.point_text.proofs.SetLaws.{sets_of-nothing}
 
 or_assoc : (a b c : Option Refusal) → option_or a (option_or b c) ≡ option_or (option_or a b) c
@@ -37,14 +39,15 @@ module _ {P : Type 0} where
   pub refusal_stays : (lines more : List (Meaning P)) (r : Refusal) → first_refusal [] lines ≡ Some r → first_refusal [] (lines ++ more) ≡ Some r
   refusal_stays lines more r is = first_refusal-append [] lines more ∙ ap (λ o. option_or o (first_refusal lines more)) is
 
-  stays : (fault : Option Refusal) (lines more : List (Meaning P)) → IfSome fault (λ r. first_refusal [] lines ≡ Some r) → IfSome fault (λ r. first_refusal [] (lines ++ more) ≡ Some r)
-  stays None lines more is = is
+  stays : (fault : Option Refusal) (lines more : List (Meaning P)) → MatchOption fault (keeps_point lines ≡ true) (λ r. first_refusal [] lines ≡ Some r)
+      → MatchOption fault (keeps_point (lines ++ more) ≡ true) (λ r. first_refusal [] (lines ++ more) ≡ Some r)
+  stays None lines more is = keeps_more lines more is
   stays (Some r) lines more is = refusal_stays lines more r is
 
   -- so does a fault that was found
   pub fault_stays : (fault : Option TextFault) (lines more : List (Meaning P)) (A B : Type 0) → is_some fault ≡ true
-      → MatchOption fault A (λ f. IfSome (refusal_of f) (λ r. first_refusal [] lines ≡ Some r))
-      → MatchOption fault B (λ f. IfSome (refusal_of f) (λ r. first_refusal [] (lines ++ more) ≡ Some r))
+      → MatchOption fault A (λ f. IsFaultOf f lines)
+      → MatchOption fault B (λ f. IsFaultOf f (lines ++ more))
   fault_stays None lines more A B some is = cc
   fault_stays (Some f) lines more A B some is = stays (refusal_of f) lines more is
 

@@ -7,7 +7,9 @@ use Rattle.bounds_model.specs.Asks.{Ask}
 use Rattle.bounds_model.specs.PointText.{is_line_feed, text_lines, sets_of_text}
 use Rattle.point_text.specs.Files.{sets_of_fields}
 use Rattle.point_text.specs.Reading.{line_fields}
+use Rattle.point_text.specs.Keeping.{fields_keep_point, KeepsPoint}
 use Rattle.point_text.proofs.Judging.{text_fields, fields_nothing}
+use Rattle.point_text.proofs.KeptPoints.{fields_keep_more, fields_keep_nothing}
 
 -- the parts without the last one, where that is empty
 abbrev lines_of_parts : List (List ℕ) → List (List ℕ)
@@ -48,6 +50,30 @@ lines_before_some : (b : ℕ) (last : List ℕ) (whole : List (List ℕ)) → li
 lines_before_some b last [] = refl
 lines_before_some b last (part ∷ []) = refl
 lines_before_some b last (part ∷ next ∷ whole) = ap (λ parts. part ∷ parts) (lines_before_some b last (next ∷ whole))
+
+-- the lines are these parts, or all of them but the last, where it is empty
+text_lines-of_parts : (bytes : List ℕ) (whole : List (List ℕ)) (last : List ℕ) → slice_split is_line_feed bytes ≡ whole ++ last ∷ []
+    → text_lines bytes ≡ lines_of_parts (whole ++ last ∷ [])
+text_lines-of_parts bytes whole last is = text_lines-parts bytes ∙ ap lines_of_parts is
+
+-- of a text a point is kept where one is of its whole lines
+pub text_keeps : (ask : Ask) (bytes : List ℕ) (whole : List (List ℕ)) (last : List ℕ) → slice_split is_line_feed bytes ≡ whole ++ last ∷ []
+    → fields_keep_point ask (map line_fields whole) ≡ true → KeepsPoint ask bytes
+text_keeps ask bytes whole [] is keeps =
+    let lines : text_lines bytes ≡ whole = text_lines-of_parts bytes whole [] is ∙ lines_before_none whole in
+    ap (λ ls. fields_keep_point ask (map line_fields ls)) lines ∙ keeps
+text_keeps ask bytes whole (b ∷ last) is keeps =
+    let lines : text_lines bytes ≡ whole ++ (b ∷ last) ∷ [] = text_lines-of_parts bytes whole (b ∷ last) is ∙ lines_before_some b last whole in
+    ap (λ ls. fields_keep_point ask (map line_fields ls)) lines
+    ∙ (ap (fields_keep_point ask) (map-append line_fields whole ((b ∷ last) ∷ [])) ∙ fields_keep_more ask (map line_fields whole) (line_fields (b ∷ last) ∷ []) keeps)
+
+-- so it is where one is of all its parts: an empty one keeps none
+pub text_keeps-last : (ask : Ask) (bytes : List ℕ) (whole : List (List ℕ)) (last : List ℕ) → slice_split is_line_feed bytes ≡ whole ++ last ∷ []
+    → fields_keep_point ask (map line_fields whole ++ line_fields last ∷ []) ≡ true → KeepsPoint ask bytes
+text_keeps-last ask bytes whole [] is keeps = text_keeps ask bytes whole [] is (sym (fields_keep_nothing ask (map line_fields whole)) ∙ keeps)
+text_keeps-last ask bytes whole (b ∷ last) is keeps =
+    let lines : text_lines bytes ≡ whole ++ (b ∷ last) ∷ [] = text_lines-of_parts bytes whole (b ∷ last) is ∙ lines_before_some b last whole in
+    ap (λ ls. fields_keep_point ask (map line_fields ls)) lines ∙ (ap (fields_keep_point ask) (map-append line_fields whole ((b ∷ last) ∷ [])) ∙ keeps)
 
 -- a text is judged as its parts are, the last one too where it is empty
 pub text_parts : (ask : Ask) (bytes : List ℕ) (whole : List (List ℕ)) (last : List ℕ) → slice_split is_line_feed bytes ≡ whole ++ last ∷ []

@@ -1,8 +1,9 @@
 //! Lines, judged in their order.
-ghost use Rattle.std.specs.Prelude.{◌≡◌, ◌↔◌, IsTrue, Err, ◌≤◌, ◌<◌, ◌+◌, ◌^◌, List, [], ◌∷◌, ◌++◌, IfOk, IfErr, IfSome, Some, None};
+ghost use Rattle.std.specs.Prelude.{◌≡◌, ◌↔◌, IsTrue, Err, ◌≤◌, ◌<◌, ◌+◌, ◌^◌, true, List, [], ◌∷◌, ◌++◌, IfOk, IfErr, IfSome, Some, None};
 ghost use Rattle.std.specs.Option.{is_some};
 ghost use Rattle.bounds_model.specs.PointText.{Meaning, sets_of, first_refusal};
 ghost use Rattle.point_text.specs.declared.text.TextFault.TheVariants as fault;
+ghost use Rattle.point_text.specs.Keeping.{keeps_point};
 
 use crate::TextFault;
 use crate::kept::KeptSets;
@@ -82,6 +83,7 @@ impl<P: Copy> Judge<P> {
         ensures sets { IfOk result (λ kept. (lines : List (Meaning P)) → HasJudged self lines → Keeps kept (sets_of lines)) }
         ensures refused { IfErr result (λ fault. (lines : List (Meaning P)) → HasJudged self lines
             → IfSome (refusal_of fault) (λ refusal. first_refusal [] lines ≡ Some refusal)) }
+        ensures memory { result ≡ Err fault.OutOfMemory → (lines : List (Meaning P)) → HasJudged self lines → keeps_point lines ≡ true }
         ensures failed { self.fault ≡ Some fault.OutOfMemory → result ≡ Err fault.OutOfMemory }
     {
         match self.fault {

@@ -1,5 +1,5 @@
 //! The lines of a file, judged for what is asked.
-ghost use Rattle.std.specs.Prelude.{◌≡◌, ◌↔◌, IsTrue, Err, ◌≢◌, ◌≤◌, ◌<◌, ◌+◌, ◌^◌, List, [], ◌∷◌, ◌++◌, ℕ, length, MatchResult};
+ghost use Rattle.std.specs.Prelude.{◌≡◌, ◌↔◌, IsTrue, Err, true, ◌≢◌, ◌≤◌, ◌<◌, ◌+◌, ◌^◌, List, [], ◌∷◌, ◌++◌, ℕ, length, MatchResult};
 ghost use Rattle.std.specs.Option.{is_some};
 ghost use Rattle.bounds_model.specs.Plane.{PlanePoint};
 ghost use Rattle.bounds_model.specs.Space.{SpacePoint};
@@ -11,6 +11,7 @@ ghost use Rattle.point_text.specs.Refusals.{Answers};
 ghost use Rattle.point_text.specs.Kept.{Keeps};
 ghost use Rattle.point_text.specs.Fields.{AreFields};
 ghost use Rattle.point_text.specs.Files.{sets_of_fields};
+ghost use Rattle.point_text.specs.Keeping.{fields_keep_point};
 ghost use Rattle.point_text.specs.Judged.{IsJudgement, WantsMemory, fault_of, lines_judged};
 
 use crate::fields::Fields;
@@ -109,6 +110,8 @@ impl Judgement {
     /// The sets that the lines say, or why they are refused.
     pub(crate) fn end(self) -> Result<OwnedSets, TextFault>
         ensures sets { (ask : asks.Ask) (lines : List (List (List ℕ))) → IsJudgement self ask lines → Answers result (sets_of_fields ask lines) }
+        ensures memory { result ≡ Err OutOfMemory → (ask : asks.Ask) (lines : List (List (List ℕ))) → IsJudgement self ask lines
+            → fields_keep_point ask lines ≡ true }
         ensures failed { WantsMemory self → result ≡ Err OutOfMemory }
     {
         match self {
@@ -122,8 +125,9 @@ impl Judgement {
 
 /// The one set.
 fn one_set<P: TextPoint>(kept: KeptSets<P>) -> Result<Points<P>, TextFault>
-    ensures { (sets : List (List P)) → Keeps kept sets →
+    ensures sets { (sets : List (List P)) → Keeps kept sets →
         MatchResult result (λ points. sets ≡ points ∷ []) (λ fault. (fault ≡ WrongSets (length sets)) × (length sets ≢ 1)) }
+    ensures memory { result ≢ Err OutOfMemory }
 {
     if kept.count != 1 {
         return Err(TextFault::WrongSets(kept.count));
@@ -134,7 +138,8 @@ fn one_set<P: TextPoint>(kept: KeptSets<P>) -> Result<Points<P>, TextFault>
 
 /// One set of the plane with points.
 pub(crate) fn plane_set(kept: KeptSets<Point2>) -> Result<OwnedSets, TextFault>
-    ensures { (sets : List (List PlanePoint)) → Keeps kept sets → Answers result (model.plane_set sets) }
+    ensures sets { (sets : List (List PlanePoint)) → Keeps kept sets → Answers result (model.plane_set sets) }
+    ensures memory { result ≢ Err OutOfMemory }
 {
     let points = one_set(kept)?;
     if points.cloud().is_none() {
@@ -145,14 +150,16 @@ pub(crate) fn plane_set(kept: KeptSets<Point2>) -> Result<OwnedSets, TextFault>
 
 /// One set of the plane.
 pub(crate) fn plane_set_or_bare(kept: KeptSets<Point2>) -> Result<OwnedSets, TextFault>
-    ensures { (sets : List (List PlanePoint)) → Keeps kept sets → Answers result (model.plane_set_or_bare sets) }
+    ensures sets { (sets : List (List PlanePoint)) → Keeps kept sets → Answers result (model.plane_set_or_bare sets) }
+    ensures memory { result ≢ Err OutOfMemory }
 {
     Ok(OwnedSets::plane(one_set(kept)?))
 }
 
 /// One set of space.
 pub(crate) fn space_set(kept: KeptSets<Point3>) -> Result<OwnedSets, TextFault>
-    ensures { (sets : List (List SpacePoint)) → Keeps kept sets → Answers result (model.space_set sets) }
+    ensures sets { (sets : List (List SpacePoint)) → Keeps kept sets → Answers result (model.space_set sets) }
+    ensures memory { result ≢ Err OutOfMemory }
 {
     let points = one_set(kept)?;
     if points.cloud().is_none() {
@@ -163,7 +170,8 @@ pub(crate) fn space_set(kept: KeptSets<Point3>) -> Result<OwnedSets, TextFault>
 
 /// Two sets of space.
 pub(crate) fn space_sets(kept: KeptSets<Point3>) -> Result<OwnedSets, TextFault>
-    ensures { (sets : List (List SpacePoint)) → Keeps kept sets → Answers result (model.space_sets sets) }
+    ensures sets { (sets : List (List SpacePoint)) → Keeps kept sets → Answers result (model.space_sets sets) }
+    ensures memory { result ≢ Err OutOfMemory }
 {
     if kept.count != 2 {
         return Err(TextFault::WrongSets(kept.count));

@@ -8,6 +8,7 @@ ghost use Rattle.bounded_coords.specs.Asked.{asked};
 ghost use Rattle.point_text.specs.declared.text.TextFault.TheVariants as fault;
 ghost use Rattle.point_text.specs.Refusals.{Answers};
 ghost use Rattle.point_text.specs.Judged.{lines_judged};
+ghost use Rattle.point_text.specs.Keeping.{KeepsPoint};
 
 use crate::cuts::{last_place_of, place_of};
 use crate::judgement::Judgement;
@@ -111,13 +112,15 @@ impl Reader {
     }
 
     /// Reads the next bytes, which may be cut anywhere. A fault of the text does not end the reading. Where
-    /// memory was refused, the reader has failed, now and at every later call.
+    /// memory was refused, the reader has failed, now and at every later call; then a point is kept of the text, whatever bytes
+    /// follow.
     pub fn feed(&mut self, piece: &[u8]) -> Result<(), OutOfMemory>
         requires { bytes_taken self.old + length piece.now ≤ 2 ^ 21 }
         ensures taken { bytes_taken self.new ≡ bytes_taken self.old + length piece.now }
         ensures stands { (ask : asks.Ask) (bytes : List ℕ) → StandsFor self.old ask bytes → StandsFor self.new ask (bytes ++ piece.now) }
         ensures going { OnOk result (HasFailed self.new → ⊥) }
         ensures failed { OnErr result (HasFailed self.new) }
+        ensures memory { OnErr result ((ask : asks.Ask) (bytes more : List ℕ) → StandsFor self.old ask bytes → KeepsPoint ask ((bytes ++ piece.now) ++ more)) }
         ensures stays { HasFailed self.old → HasFailed self.new }
     {
         let mut rest = self.pass_lines(piece);
@@ -132,10 +135,11 @@ impl Reader {
         Ok(())
     }
 
-    /// The sets of the text that ends here, or why it is refused.
+    /// The sets of the text that ends here, or why it is refused. Memory may be wanting only where a point is kept.
     pub fn finish(self) -> Result<OwnedSets, TextFault>
         ensures sets { (ask : asks.Ask) (bytes : List ℕ) → StandsFor self ask bytes → Answers result (sets_of_text ask bytes) }
         ensures suits { IfOk result (λ sets. (ask : asks.Ask) (bytes : List ℕ) → StandsFor self ask bytes → Suits ask sets) }
+        ensures memory { result ≡ Err fault.OutOfMemory → (ask : asks.Ask) (bytes : List ℕ) → StandsFor self ask bytes → KeepsPoint ask bytes }
         ensures failed { HasFailed self → result ≡ Err fault.OutOfMemory }
     {
         let Reader {

@@ -1,7 +1,7 @@
 use Rattle.std.proofs.Common.{◌≡◌, ◌++◌, ◌+◌, ◌<◌, ◌^◌, [], length, take, subst, rules, IfSome}
 use Rattle.point_text.specs.Reading.{bytes_taken}
 use Rattle.bounds_tool.proofs.OpenedFiles.{continues_on, no_fault_on}
-use Rattle.bounds_tool.proofs.Poured.{took_piece, took_all, took_too_many}
+use Rattle.bounds_tool.proofs.Poured.{took_piece, took_all, took_too_many, took_wanting}
 use Rattle.bounds_tool.proofs.pouring.pour.Goals as goal
 
 pub returns-in-Ok-eq0-clause-stands : goal.returns-in-Ok-eq0-clause-stands
@@ -20,6 +20,15 @@ returns-then-n-left-clause-long_file g c long =
     let parts = subst (λ told. IfSome told (λ _. now.left ≡ piece ++ new.left)) c.pieces.invariant.continues.told c.in-Ok.ensures.took.left in
     let past : 2 ^ 21 < bytes_taken c.pieces.reader + length piece = search rules in
     took_too_many (2 ^ 21) c.args.reader.now c.pieces.reader old.told old.left now.left piece new.left c.pieces.invariant.stands c.requires.empty.0 c.requires.empty.1 parts past
+
+pub returns-in-Err-feed-clause-kept : goal.returns-in-Err-feed-clause-kept
+returns-in-Err-feed-clause-kept g c wants ask empty =
+    let old = g.F.Files.state c.args.files.now in
+    let now = g.F.Files.state c.pieces.files in
+    let new = g.F.Files.state c.read.new.self in
+    let piece = take c.in-Ok.n c.read.new.buf in
+    let parts = subst (λ told. IfSome told (λ _. now.left ≡ piece ++ new.left)) c.pieces.invariant.continues.told c.in-Ok.ensures.took.left in
+    took_wanting c.args.reader.now c.pieces.reader old.told old.left now.left piece new.left c.pieces.invariant.stands c.in-Err-feed.ensures.memory parts ask empty
 
 pub pieces-preserved : goal.pieces-preserved
 pieces-preserved g c =

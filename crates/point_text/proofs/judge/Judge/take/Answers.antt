@@ -1,7 +1,8 @@
-use Rattle.std.proofs.Common.{◌≡◌, ◌∙◌, ◌+◌, ◌<◌, refl, sym, ap, arith, Err, Some, length}
+use Rattle.std.proofs.Common.{◌≡◌, ◌∙◌, ◌+◌, ◌<◌, [], refl, sym, ap, arith, Err, Some, length}
 use Rattle.bounds_model.specs.PointText.{says_nothing, ends_set, says_point, bad_form, out_of_bounds, bad_line, out_of_range, too_many, sets_of, last_set, most_points}
 use Rattle.point_text.proofs.SetLaws.{sets_of-nothing, sets_of-end, sets_of-point}
 use Rattle.point_text.proofs.Refusing.{fault_stays, without_fault, no_fault, accepts_next, refusal_of_next, point_taken, point_refused}
+use Rattle.point_text.proofs.KeptPoints.{keeps_behind}
 use Rattle.point_text.proofs.judge.Judge.take.Goals as goal
 
 pub returns-then-is_some-clause-judged : goal.returns-then-is_some-clause-judged
@@ -48,3 +49,8 @@ pub returns-in-OutOfRange-clause-judged : goal.returns-in-OutOfRange-clause-judg
 returns-in-OutOfRange-clause-judged g c before judged =
     let is = without_fault c.args.self.now.fault _ _ c.if-is_some.ensures judged in
     rw c.in-OutOfRange.is (refusal_of_next before out_of_bounds is.accepted ∙ ap (λ n. Some (out_of_range (n + 1))) is.as_many)
+
+pub returns-in-Err-OutOfMemory-clause-judged : goal.returns-in-Err-OutOfMemory-clause-judged
+returns-in-Err-OutOfMemory-clause-judged g c before judged =
+    let is = without_fault c.args.self.now.fault _ _ c.if-is_some.ensures judged in
+    rw c.in-Point.is (keeps_behind [] before c.in-Point.p is.accepted)

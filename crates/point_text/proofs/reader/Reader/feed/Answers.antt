@@ -1,7 +1,8 @@
-use Rattle.std.proofs.Common.{◌≡◌, ◌∙◌, ◌++◌, ◌∷◌, ◌+◌, ◌-◌, ◌==◌, sym, ap, take, drop, length, length-drop, arith}
+use Rattle.std.proofs.Common.{◌≡◌, ◌∙◌, ◌++◌, ◌∷◌, ◌+◌, ◌-◌, ◌==◌, sym, ap, take, drop, length, length-drop, arith, rules}
 use Rattle.std.proofs.lemmas.List.{take_all}
 use Rattle.point_text.proofs.Places.{before_place, cut_at_place, all_before}
-use Rattle.point_text.proofs.Pieces.{reads_line}
+use Rattle.point_text.proofs.Pieces.{reads_line, reads_rest}
+use Rattle.point_text.proofs.PassedLines.{failed_keeps}
 use Rattle.point_text.proofs.reader.Reader.feed.Goals as goal
 
 pub lines-init : goal.lines-init
@@ -23,3 +24,8 @@ lines-preserved c =
 
 pub go_on-requires-clause-within : goal.go_on-requires-clause-within
 go_on-requires-clause-within c = all_before (λ b. b == 10) c.lines.rest.now c.in_default.ensures.place
+
+pub returns-then-has_failed-clause-memory : goal.returns-then-has_failed-clause-memory
+returns-then-has_failed-clause-memory c ask bytes more is =
+    let read = reads_rest c.args.self.now c.lines.self c.go_on.new.self c.args.piece.now c.lines.rest.now c.lines.invariant c.go_on.ensures.stands ask bytes is in
+    failed_keeps c.go_on.new.self ask (bytes ++ c.args.piece.now) more (search rules) read
