@@ -1,5 +1,5 @@
 -- Files and sinks in memory that never fail, as contracts see them.
-use Rattle.std.specs.Prelude.{ℕ, ◌+◌, ◌^◌, Bool, ◌||◌, nat_lt, List, ◌++◌, length, take, if◌then◌else◌}
+use Rattle.std.specs.Prelude.{ℕ, ◌+◌, ◌^◌, Bool, ◌||◌, nat_lt, List, [], ◌++◌, length, take, if◌then◌else◌}
 use Rattle.std.specs.declared.option.Option.TheVariants.{Some, None}
 use Rattle.bnd_io.specs.Files.{FilesState}
 use Rattle.bnd_io.specs.Folders.{FolderView, told_files}
@@ -18,7 +18,7 @@ pub record SureSinkView : Type 0 where
 
 -- it tells its bytes while none was dropped, and no fault is ever counted
 abbrev pub sure_sink : SureSinkView → SinkState
-sure_sink s = record { faults = 0; told = if s.dropped then None else Some s.bytes }
+sure_sink s = record { faults = 0; told = if s.dropped then None else Some s.bytes; refused = [] }
 
 -- after these bytes were written
 abbrev pub kept_on : SureSinkView → List ℕ → SureSinkView

@@ -1,12 +1,13 @@
 -- What a sink receives from several writes, the last of which may fail.
 use Rattle.std.proofs.Common.{ℕ, ◌+◌, ◌≤◌, List, ◌++◌, take, length, inl, inr, sym, subst, arith, length-append}
-use Rattle.std.proofs.Math.Seq.{take-append-add}
+use Rattle.std.proofs.Math.Seq.{take-append-add, take-length}
 use Rattle.std.proofs.lemmas.List.{take-append-le}
 use Rattle.std.specs.declared.option.Option.{Option}
 use Rattle.std.specs.declared.option.Option.TheVariants.{Some, None}
-use Rattle.std.specs.Prelude.{Result, Ok, Err, OnErr}
+use Rattle.std.specs.Prelude.{Result, Ok, Err, OnOk, OnErr}
 use Rattle.bnd_io.specs.Faults.{Rose}
-use Rattle.bnd_io.specs.Sinks.{SinkState, SinkContinues, Appended, AppendedPrefix}
+use Rattle.bnd_io.specs.Sinks.{SinkState, SinkContinues, Appended, AppendedPrefix, RefusedOf}
+use Rattle.bounds_tool.specs.Telling.{Told}
 use Rattle.bnd_io.proofs.Writes.{Appended-append}
 
 -- a count that rose later rose
@@ -32,3 +33,18 @@ on_any_err (Err e) p = p
 -- one write after another
 pub SinkContinues-trans : (a b c : SinkState) → SinkContinues a b → SinkContinues b c → SinkContinues a c
 SinkContinues-trans a b c h k = record { faults = omega (arith, h.faults, k.faults); told = λ t. h.told (k.told t) }
+
+-- a line was written, or a prefix of it where the count rose
+pub Told-outcome : {T E : Type 0} (last : Option ℕ) (line : List ℕ) (before now : SinkState) (r : Result T E)
+    → OnOk r (Appended before now line) → OnErr r (AppendedPrefix before now line) → OnErr r (Rose last before.faults now.faults)
+    → RefusedOf before now line → Told last line before now
+Told-outcome last line before now (Ok x) written prefix cause refused = record {
+  prefix = (length line, omega arith, subst (λ bytes. Appended before now bytes) (sym (take-length line)) written);
+  whole = λ none. written;
+  refused = refused;
+}
+Told-outcome last line before now (Err e) written prefix cause refused = record {
+  prefix = prefix;
+  whole = λ none. absurd (none cause);
+  refused = refused;
+}

@@ -2,7 +2,7 @@
 ghost use Rattle.std.specs.Prelude.{◌≡◌, ◌++◌, OnOk, OnErr};
 ghost use Rattle.bounds_model.specs.ErrorLines.{error_line, option_name};
 ghost use Rattle.bnd_io.specs.Faults.{Rose};
-ghost use Rattle.bnd_io.specs.Sinks.{SinkContinues, Appended, AppendedPrefix};
+ghost use Rattle.bnd_io.specs.Sinks.{SinkContinues, Appended, AppendedPrefix, RefusedOf};
 ghost use Rattle.command_line.specs.Faults.{meant_fault, meant_option};
 ghost use Rattle.bounds_tool.specs.Causes.{meant};
 ghost use Rattle.bounds_tool.specs.Telling.{Told, line_text};
@@ -126,6 +126,7 @@ fn write_line<E: Sink>(err: &mut E, line: Line) -> Result<(), WriteFault>
     ensures written { OnOk result (Appended (E.state err.old) (E.state err.new) (line_text line)) }
     ensures prefix { OnErr result (AppendedPrefix (E.state err.old) (E.state err.new) (line_text line)) }
     ensures cause { OnErr result (Rose E.last_count (E.state err.old).faults (E.state err.new).faults) }
+    ensures refused { RefusedOf (E.state err.old) (E.state err.new) (line_text line) }
 {
     match line {
         Line::Whole(text) => write_all(err, text),
@@ -146,6 +147,7 @@ fn write_parted<E: Sink>(
     ensures written { OnOk result (Appended (E.state err.old) (E.state err.new) (before.now ++ (middle.now ++ after.now))) }
     ensures prefix { OnErr result (AppendedPrefix (E.state err.old) (E.state err.new) (before.now ++ (middle.now ++ after.now))) }
     ensures cause { OnErr result (Rose E.last_count (E.state err.old).faults (E.state err.new).faults) }
+    ensures refused { RefusedOf (E.state err.old) (E.state err.new) (before.now ++ (middle.now ++ after.now)) }
 {
     write_all(err, before)?;
     write_all(err, middle)?;
