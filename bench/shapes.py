@@ -58,12 +58,12 @@ def rounded_circle(count):
 def cocircular(count):
     """Points of the circle of radius 6 times 5 times 13 times 17 times 29. It has 324 whole points, so large sets have repeats."""
     rng, radius = generator('cocircular', count), 5 * 13 * 17 * 29
-    ring = []
+    round_points = []
     for x in range(-radius, radius + 1):
         y = math.isqrt(radius * radius - x * x)
         if y * y == radius * radius - x * x:
-            ring += [(6 * x, 6 * y), (6 * x, -6 * y)]
-    return [rng.choice(ring) for _ in range(count)]
+            round_points += [(6 * x, 6 * y), (6 * x, -6 * y)]
+    return [rng.choice(round_points) for _ in range(count)]
 
 
 def line(count):
@@ -119,13 +119,13 @@ def rounded_sphere(count, radius=7999, centre=(0, 0, 0), name='sphere'):
 def cospherical(count):
     """Points of the sphere of radius 25 times 315; large sets have repeats."""
     rng, radius = generator('cospherical', count), 315
-    ring = []
+    round_points = []
     for x in range(-radius, radius + 1):
         for y in range(-radius, radius + 1):
             rest = radius * radius - x * x - y * y
             if rest >= 0 and math.isqrt(rest) ** 2 == rest:
-                ring += [(25 * x, 25 * y, 25 * math.isqrt(rest)), (25 * x, 25 * y, -25 * math.isqrt(rest))]
-    return [rng.choice(ring) for _ in range(count)]
+                round_points += [(25 * x, 25 * y, 25 * math.isqrt(rest)), (25 * x, 25 * y, -25 * math.isqrt(rest))]
+    return [rng.choice(round_points) for _ in range(count)]
 
 
 def space_line(count):

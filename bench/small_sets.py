@@ -49,16 +49,16 @@ def on_a_plane(rng):
 def on_a_circle(rng, count):
     """Whole points of a circle around (0, 0) whose squared radius is 25, 65 or 325."""
     square = rng.choice([25, 65, 325])
-    ring = [(x, y) for x in range(-18, 19) for y in range(-18, 19) if x * x + y * y == square]
-    return rng.sample(ring, count)
+    round_points = [(x, y) for x in range(-18, 19) for y in range(-18, 19) if x * x + y * y == square]
+    return rng.sample(round_points, count)
 
 
 def on_a_sphere(rng, count):
     """Whole points of a sphere around (0, 0, 0) of radius 3 or 9."""
     radius = rng.choice([3, 9])
     span = range(-radius, radius + 1)
-    ring = [(x, y, z) for x in span for y in span for z in span if x * x + y * y + z * z == radius * radius]
-    return rng.sample(ring, count)
+    round_points = [(x, y, z) for x in span for y in span for z in span if x * x + y * y + z * z == radius * radius]
+    return rng.sample(round_points, count)
 
 
 # Each shape has a name and gives points of the plane. No set has more than eight points.

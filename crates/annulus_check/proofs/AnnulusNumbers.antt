@@ -83,7 +83,7 @@ pub same_test : {yes : Bool} {n d m e : ℤ} (f : Fraction) → n ≡ m → d �
 same_test {yes} {n} {d} {m} {e} f h k test =
     subst (λ z. IsTrue yes ↔ (IsFraction f × SameValue f (record { n = m; d = z }))) k (subst (λ z. IsTrue yes ↔ (IsFraction f × SameValue f (record { n = z; d = d }))) h test)
 
--- the range of the heights over the centre's denominator
+-- the range of the powers over the centre's denominator
 pub size_test : {yes : Bool} (f : Fraction) (g l w : ℤ) → Size (2 ^ 80) g → Size (2 ^ 80) l → Size (2 ^ 42) w
     → (IsTrue yes ↔ (IsFraction f × SameValue f (record { n = back128 (back128 g -ℤ back128 l); d = back128 (back64 w) }))) → IsTrue yes ↔ HasValue f (record { n = g -ℤ l; d = w })
 size_test f g l w hg hl hw =
@@ -94,7 +94,7 @@ pub mean_test : {yes : Bool} (f : Fraction) (s : ℤ) (weight : ℕ) → back128
     → (IsTrue yes ↔ (IsFraction f × SameValue f (record { n = back128 s; d = to_z w128 weight }))) → IsTrue yes ↔ HasValue f (record { n = s; d = pos weight })
 mean_test f s weight hs light = same_test f hs (to_z_pos w128 weight (omega arith))
 
--- the radius at a height
+-- the radius at a power
 pub radius_test : {yes : Bool} (f : Fraction) (c : PlaneRatio) (h : ℤ) → Size (2 ^ 80) h
     → (IsTrue yes ↔ (IsFraction f × SameValue f (squared_radius_at c (back128 h)))) → IsTrue yes ↔ HasValue f (squared_radius_at c h)
 radius_test {yes} f c h size test = subst (λ z. IsTrue yes ↔ HasValue f (squared_radius_at c z)) (wrap_is size tt) test

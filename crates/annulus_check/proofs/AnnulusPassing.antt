@@ -11,9 +11,9 @@ use Rattle.bounds_model.specs.AnnulusAnswer.{AnnulusAnswer, PassesAnnulus, IsPai
 use Rattle.answers.specs.declared.pairs.WeightedPair.{WeightedPair}
 use Rattle.answers.specs.Answers.{pair_of}
 use Rattle.annulus_check.specs.declared.annulus.PairSums.{PairSums}
-use Rattle.annulus_check.specs.declared.annulus.Heights.{Heights}
+use Rattle.annulus_check.specs.declared.annulus.Powers.{Powers}
 use Rattle.annulus_check.proofs.AnnulusPairs.{small_pairs}
-use Rattle.annulus_check.specs.HeldAnnuli.{IsSmallCentre, IsSmallPair, ArePairSums, AreHeights, MeetsRest}
+use Rattle.annulus_check.specs.HeldAnnuli.{IsSmallCentre, IsSmallPair, ArePairSums, ArePowers, MeetsRest}
 
 -- ---- what passes
 
@@ -31,11 +31,11 @@ in_place count few pair small = (number few small.0, number few small.1, record 
     high h = omega (arith, ints)
 
 -- the annulus by the numbers of the answer's parts
-pub held_passes : (points : List PlanePoint) (pairs : List WeightedPair) (size inner outer : Fraction) (c : PlaneRatio) (h : Heights) (s : PairSums) → length points ≤ 10000 → 1 ≤ length pairs → length pairs ≤ 3
-    → IsSmallCentre c → All (IsSmallPair (length points)) pairs → s.weight ≤ 2 ^ 42 → ArePairSums points (map pair_of pairs) s → AreHeights c points h
+pub held_passes : (points : List PlanePoint) (pairs : List WeightedPair) (size inner outer : Fraction) (c : PlaneRatio) (h : Powers) (s : PairSums) → length points ≤ 10000 → 1 ≤ length pairs → length pairs ≤ 3
+    → IsSmallCentre c → All (IsSmallPair (length points)) pairs → s.weight ≤ 2 ^ 42 → ArePairSums points (map pair_of pairs) s → ArePowers c points h
     → MeetsRest (record { size = size; centre = c; inner = inner; outer = outer; pairs = map pair_of pairs }) c h s
     → PassesAnnulus points (record { size = size; centre = c; inner = inner; outer = outer; pairs = map pair_of pairs })
-held_passes points pairs size inner outer c h s few some three centre small light sums heights held = record {
+held_passes points pairs size inner outer c h s few some three centre small light sums powers held = record {
   places = record {
     size = held.size.0;
     centre = centre.place;
@@ -54,11 +54,11 @@ held_passes points pairs size inner outer c h s few some three centre small ligh
   weight_limit = subst (λ z. z ≤ℤ pos (2 ^ 42)) sums.weight (natural light);
   balanced_x = sym sums.x ∙ held.balanced_x;
   balanced_y = sym sums.y ∙ held.balanced_y;
-  size = subst (λ z. SameValue size (record { n = z; d = c.w })) (ap₂ (λ g l. g -ℤ l) heights.greatest heights.least) held.size.1;
+  size = subst (λ z. SameValue size (record { n = z; d = c.w })) (ap₂ (λ g l. g -ℤ l) powers.greatest powers.least) held.size.1;
   least_size = subst (λ z. SameValue size (record { n = weighted_differences points squared_length (map pair_of pairs); d = z })) sums.weight
       (subst (λ z. SameValue size (record { n = z; d = pos s.weight })) sums.squared_length held.mean.1);
-  inner = subst (λ z. SameValue inner (squared_radius_at c z)) heights.least held.inner.1;
-  outer = subst (λ z. SameValue outer (squared_radius_at c z)) heights.greatest held.outer.1;
+  inner = subst (λ z. SameValue inner (squared_radius_at c z)) powers.least held.inner.1;
+  outer = subst (λ z. SameValue outer (squared_radius_at c z)) powers.greatest held.outer.1;
 }
   where
     at_least : {n : ℕ} → 1 ≤ n → pos 1 ≤ℤ pos n
@@ -68,9 +68,9 @@ held_passes points pairs size inner outer c h s few some three centre small ligh
     natural h = omega (arith, ints)
 
 -- and back
-pub passing_held : (points : List PlanePoint) (a : AnnulusAnswer) (h : Heights) (s : PairSums) → ArePairSums points a.pairs s → AreHeights a.centre points h → PassesAnnulus points a → MeetsRest a a.centre h s
-passing_held points a h s sums heights p = record {
-  size = (p.places.size, subst (λ z. SameValue a.size (record { n = z; d = a.centre.w })) (sym (ap₂ (λ g l. g -ℤ l) heights.greatest heights.least)) p.size);
+pub passing_held : (points : List PlanePoint) (a : AnnulusAnswer) (h : Powers) (s : PairSums) → ArePairSums points a.pairs s → ArePowers a.centre points h → PassesAnnulus points a → MeetsRest a a.centre h s
+passing_held points a h s sums powers p = record {
+  size = (p.places.size, subst (λ z. SameValue a.size (record { n = z; d = a.centre.w })) (sym (ap₂ (λ g l. g -ℤ l) powers.greatest powers.least)) p.size);
   mean = (
     p.places.size,
     subst (λ z. SameValue a.size (record { n = s.squared_length; d = z })) (sym sums.weight)
@@ -78,8 +78,8 @@ passing_held points a h s sums heights p = record {
   );
   balanced_x = sums.x ∙ p.balanced_x;
   balanced_y = sums.y ∙ p.balanced_y;
-  inner = (p.places.inner, subst (λ z. SameValue a.inner (squared_radius_at a.centre z)) (sym heights.least) p.inner);
-  outer = (p.places.outer, subst (λ z. SameValue a.outer (squared_radius_at a.centre z)) (sym heights.greatest) p.outer);
+  inner = (p.places.inner, subst (λ z. SameValue a.inner (squared_radius_at a.centre z)) (sym powers.least) p.inner);
+  outer = (p.places.outer, subst (λ z. SameValue a.outer (squared_radius_at a.centre z)) (sym powers.greatest) p.outer);
 }
 
 -- a passing answer's centre is within the limits
@@ -89,18 +89,18 @@ small_centre points a p = record { place = p.places.centre; limits = record { w 
 -- ---- what decides
 
 -- the test of what is left decides, with the answer's pairs as a slice and its centre in 64 bits
-pub annulus_decided : {yes : Bool} (points : List PlanePoint) (pairs items : List WeightedPair) (size inner outer : Fraction) (centre c : PlaneRatio) (h : Heights) (s : PairSums) → pairs ≡ items → c ≡ centre → length points ≤ 10000
-    → 1 ≤ length pairs → length pairs ≤ 3 → IsSmallCentre centre → All (IsSmallPair (length points)) pairs → s.weight ≤ 2 ^ 42 → ArePairSums points (map pair_of pairs) s → AreHeights c points h
+pub annulus_decided : {yes : Bool} (points : List PlanePoint) (pairs items : List WeightedPair) (size inner outer : Fraction) (centre c : PlaneRatio) (h : Powers) (s : PairSums) → pairs ≡ items → c ≡ centre → length points ≤ 10000
+    → 1 ≤ length pairs → length pairs ≤ 3 → IsSmallCentre centre → All (IsSmallPair (length points)) pairs → s.weight ≤ 2 ^ 42 → ArePairSums points (map pair_of pairs) s → ArePowers c points h
     → (IsTrue yes ↔ MeetsRest (record { size = size; centre = centre; inner = inner; outer = outer; pairs = map pair_of items }) c h s)
     → IsTrue yes ↔ PassesAnnulus points (record { size = size; centre = centre; inner = inner; outer = outer; pairs = map pair_of items })
-annulus_decided {yes} points pairs items size inner outer centre c h s same is few some three small_c small light sums heights test =
+annulus_decided {yes} points pairs items size inner outer centre c h s same is few some three small_c small light sums powers test =
     let a : AnnulusAnswer = record { size = size; centre = centre; inner = inner; outer = outer; pairs = map pair_of items } in
     let all_sums = subst (λ ps. ArePairSums points (map pair_of ps) s) same sums in
-    let all_heights = subst (λ z. AreHeights z points h) is heights in
+    let all_powers = subst (λ z. ArePowers z points h) is powers in
     let held = subst (λ z. IsTrue yes ↔ MeetsRest a z h s) is test in (
-      λ t. held_passes points items size inner outer centre h s few (subst (λ ps. 1 ≤ length ps) same some) (subst (λ ps. length ps ≤ 3) same three) small_c (subst (All (IsSmallPair (length points))) same small) light all_sums all_heights
+      λ t. held_passes points items size inner outer centre h s few (subst (λ ps. 1 ≤ length ps) same some) (subst (λ ps. length ps ≤ 3) same three) small_c (subst (All (IsSmallPair (length points))) same small) light all_sums all_powers
           (held.0 t),
-      λ p. held.1 (passing_held points a h s all_sums all_heights p),
+      λ p. held.1 (passing_held points a h s all_sums all_powers p),
     )
 
 -- a passing answer's pairs are small, as a slice

@@ -1,4 +1,4 @@
-pub mod AnnulusHeights
+pub mod AnnulusPowers
 pub mod AnnulusNumbers
 pub mod AnnulusPairs
 pub mod AnnulusPassing

@@ -7,11 +7,11 @@ use Rattle.bounds_model.specs.Plane.{PlanePoint, PlaneRatio, squared_length}
 use Rattle.bounds_model.specs.Fractions.{Fraction, SameValue}
 use Rattle.bounds_model.specs.Places.{IsFraction, IsPlaneRatio}
 use Rattle.bounds_model.specs.AnnulusAnswer as model
-use Rattle.bounds_model.specs.AnnulusAnswer.{AnnulusAnswer, height, squared_radius_at, pair_sum, weighted_differences}
+use Rattle.bounds_model.specs.AnnulusAnswer.{AnnulusAnswer, power, squared_radius_at, pair_sum, weighted_differences}
 use Rattle.answers.specs.declared.pairs.WeightedPair.{WeightedPair}
 use Rattle.annulus_check.specs.declared.annulus.PairSums.{PairSums}
 use Rattle.annulus_check.specs.declared.annulus.Centre.{Centre}
-use Rattle.annulus_check.specs.declared.annulus.Heights.{Heights}
+use Rattle.annulus_check.specs.declared.annulus.Powers.{Powers}
 
 -- ---- the limits
 
@@ -70,21 +70,21 @@ pub record IsCentre (c : Centre) : Type 0 where
   pub w : Size (2 ^ 42) c.w
   pub some : pos 1 ≤ℤ c.w
 
--- the greatest and the least height of the points
-pub record AreHeights (c : PlaneRatio) (points : List PlanePoint) (h : Heights) : Type 0 where
-  pub greatest : h.greatest ≡ greatest (height c) points
-  pub least : h.least ≡ least (height c) points
+-- the greatest and the least power of the points
+pub record ArePowers (c : PlaneRatio) (points : List PlanePoint) (h : Powers) : Type 0 where
+  pub greatest : h.greatest ≡ greatest (power c) points
+  pub least : h.least ≡ least (power c) points
   pub greatest_size : Size (2 ^ 80) h.greatest
   pub least_size : Size (2 ^ 80) h.least
 
--- ---- what is left to ask, by the heights and the sums
+-- ---- what is left to ask, by the powers and the sums
 
 -- a fraction in its place, with this value
 abbrev pub HasValue : Fraction → Fraction → Type 0
 HasValue a v = IsFraction a × SameValue a v
 
--- the annulus around the centre between these heights, and pairs with these sums
-pub record MeetsRest (a : AnnulusAnswer) (c : PlaneRatio) (h : Heights) (s : PairSums) : Type 0 where
+-- the annulus around the centre between these powers, and pairs with these sums
+pub record MeetsRest (a : AnnulusAnswer) (c : PlaneRatio) (h : Powers) (s : PairSums) : Type 0 where
   pub size : HasValue a.size (record { n = h.greatest -ℤ h.least; d = c.w })
   pub mean : HasValue a.size (record { n = s.squared_length; d = pos s.weight })
   pub balanced_x : s.x ≡ pos 0

@@ -5,12 +5,12 @@ ghost use Rattle.integers.specs.Extremes.{greatest, least};
 ghost use Rattle.bounds_model.specs.Plane.{squared_length as squared_length_of};
 ghost use Rattle.bounds_model.specs.Fractions.{SameValue};
 ghost use Rattle.bounds_model.specs.Places.{IsFraction};
-ghost use Rattle.bounds_model.specs.AnnulusAnswer.{height as height_of, squared_radius_at};
+ghost use Rattle.bounds_model.specs.AnnulusAnswer.{power as power_of, squared_radius_at};
 ghost use Rattle.bounds_model.specs.Asks.{ask_annulus, plane};
 ghost use Rattle.bounds_model.specs.Answers.{Passes, IsBest, annulus};
 ghost use Rattle.bounded_coords.specs.Clouds.{points_of};
 ghost use Rattle.answers.specs.Answers.{pair_of, annulus_of};
-ghost use Rattle.annulus_check.specs.HeldAnnuli.{IsSmallCentre, IsSmallPair, ratio_of, IsCentre, AddsPair, AreSmallSums, ArePairSums, AreHeights, MeetsRest};
+ghost use Rattle.annulus_check.specs.HeldAnnuli.{IsSmallCentre, IsSmallPair, ratio_of, IsCentre, AddsPair, AreSmallSums, ArePairSums, ArePowers, MeetsRest};
 
 use answers::{AnnulusAnswer, WeightedPair};
 use bounded_coords::{Cloud2, Point2};
@@ -49,8 +49,8 @@ pub fn check_annulus(cloud: Cloud2<'_>, a: &AnnulusAnswer) -> bool
         return false;
     }
     let centre = Centre::of(&a.center);
-    let heights = Heights::of(cloud, centre);
-    is_held(a, centre, heights, sums)
+    let powers = Powers::of(cloud, centre);
+    is_held(a, centre, powers, sums)
 }
 
 // ---- the limits
@@ -179,67 +179,67 @@ impl Centre {
     }
 
     /// w times a point's squared distance from the centre, up to a term that is the same for all points.
-    fn height(self, p: &Point2) -> i128
+    fn power(self, p: &Point2) -> i128
         requires { IsCentre self }
-        ensures value { result ≡ height_of (ratio_of self) p.now }
+        ensures value { result ≡ power_of (ratio_of self) p.now }
         ensures size { Size (2 ^ 80) result }
     {
         let square = self.w as i128 * squared_length(p) as i128;
         square - 2 * (self.x as i128 * p.x() as i128 + self.y as i128 * p.y() as i128)
     }
 
-    /// Whether this is the squared distance from the centre of the points at a height.
-    fn has_squared_radius(self, radius: &Frac, height: i128) -> bool
+    /// Whether this is the squared distance from the centre of the points at a power.
+    fn has_squared_radius(self, radius: &Frac, power: i128) -> bool
         requires centre { IsCentre self }
-        requires height { Size (2 ^ 80) height }
-        ensures { IsTrue result ↔ (IsFraction radius.now × SameValue radius.now (squared_radius_at (ratio_of self) height)) }
+        requires power { Size (2 ^ 80) power }
+        ensures { IsTrue result ↔ (IsFraction radius.now × SameValue radius.now (squared_radius_at (ratio_of self) power)) }
     {
         let (x, y, w) = (self.x as i128, self.y as i128, self.w as i128);
-        has_value(radius, w * height + (x * x + y * y), w * w)
+        has_value(radius, w * power + (x * x + y * y), w * w)
     }
 }
 
-/// The greatest and the least height of the points.
+/// The greatest and the least power of the points.
 #[derive(Clone, Copy)]
-struct Heights {
+struct Powers {
     greatest: i128,
     least: i128,
 }
 
-impl Heights {
+impl Powers {
     /// Around a centre. This is one pass.
-    fn of(cloud: Cloud2<'_>, centre: Centre) -> Heights
+    fn of(cloud: Cloud2<'_>, centre: Centre) -> Powers
         requires { IsCentre centre }
-        ensures { AreHeights (ratio_of centre) (points_of cloud.entry) result }
+        ensures { ArePowers (ratio_of centre) (points_of cloud.entry) result }
     {
-        let first = centre.height(cloud.at(0));
-        let mut heights = Heights {
+        let first = centre.power(cloud.at(0));
+        let mut powers = Powers {
             greatest: first,
             least: first,
         };
         for i in 1..cloud.len() {
-            let height = centre.height(cloud.at(i));
-            heights = Heights {
-                greatest: heights.greatest.max(height),
-                least: heights.least.min(height),
+            let power = centre.power(cloud.at(i));
+            powers = Powers {
+                greatest: powers.greatest.max(power),
+                least: powers.least.min(power),
             };
         }
-        heights
+        powers
     }
 }
 
 // ---- the size, the balance and the radii
 
 /// Whether the size is right, the pairs are balanced and show it to be least, and the radii are those of the points.
-fn is_held(a: &AnnulusAnswer, centre: Centre, heights: Heights, sums: PairSums) -> bool
+fn is_held(a: &AnnulusAnswer, centre: Centre, powers: Powers, sums: PairSums) -> bool
     requires centre { IsCentre centre }
-    requires greatest { Size (2 ^ 80) heights.greatest }
-    requires least { Size (2 ^ 80) heights.least }
+    requires greatest { Size (2 ^ 80) powers.greatest }
+    requires least { Size (2 ^ 80) powers.least }
     requires sums { AreSmallSums 3 sums }
     requires some { 1 ≤ sums.weight }
-    ensures { IsTrue result ↔ MeetsRest (annulus_of a.now) (ratio_of centre) heights sums }
+    ensures { IsTrue result ↔ MeetsRest (annulus_of a.now) (ratio_of centre) powers sums }
 {
-    if !has_value(&a.size, heights.greatest - heights.least, centre.w as i128) {
+    if !has_value(&a.size, powers.greatest - powers.least, centre.w as i128) {
         return false;
     }
     if !has_value(&a.size, sums.squared_length, sums.weight as i128) {
@@ -251,10 +251,10 @@ fn is_held(a: &AnnulusAnswer, centre: Centre, heights: Heights, sums: PairSums) 
     if sums.y != 0 {
         return false;
     }
-    if !centre.has_squared_radius(&a.inner, heights.least) {
+    if !centre.has_squared_radius(&a.inner, powers.least) {
         return false;
     }
-    centre.has_squared_radius(&a.outer, heights.greatest)
+    centre.has_squared_radius(&a.outer, powers.greatest)
 }
 
 /// Whether the fraction is n/d.

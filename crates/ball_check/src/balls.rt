@@ -8,7 +8,7 @@ ghost use Rattle.bounds_model.specs.Asks.{ask_circle, ask_sphere, plane, space};
 ghost use Rattle.bounds_model.specs.Answers.{Passes, IsBest, circle, sphere};
 ghost use Rattle.bounded_coords.specs.Clouds.{points_of};
 ghost use Rattle.kernel_laws.specs.Vectors.{sum_of};
-ghost use Rattle.kernel_laws.specs.Signs.{height};
+ghost use Rattle.kernel_laws.specs.Signs.{slack_from_origin};
 ghost use Rattle.answers.specs.Answers.{weighted_of, circle_of, sphere_of};
 ghost use Rattle.ball_sums.specs.Sums.{IsInRange};
 ghost use Rattle.ball_sums.specs.Means.{mean_size, plane_mean, space_mean};
@@ -111,7 +111,7 @@ fn are_numbers(supports: &[Weighted], count: u32) -> bool
 fn is_size(size: &Frac, held: &Sums) -> bool
     requires some { 1 ≤ held.now.weight }
     requires weight { held.now.weight ≤ 2 ^ 92 }
-    requires moment { held.now.moment ≤ 2 ^ 122 }
+    requires second_moment { held.now.second_moment ≤ 2 ^ 122 }
     ensures { IsTrue result ↔ (IsFraction size.now × SameValue size.now (mean_size held.now)) }
 {
     let mean = held.size();
@@ -163,7 +163,7 @@ fn is_none_outside<K: Kernel>(
 fn is_on<K: Kernel>(kernel: &K, held: &Sums, first: &K::P, p: &K::P) -> bool
     requires some { 1 ≤ held.now.weight }
     requires range { IsInRange K.DIM held.now }
-    ensures { IsTrue result ↔ (height (sum_of held.now.pull) held.now.weight (vector (K.place first.now) (K.place p.now)) ≡ pos 0) }
+    ensures { IsTrue result ↔ (slack_from_origin (sum_of held.now.pull) held.now.weight (vector (K.place first.now) (K.place p.now)) ≡ pos 0) }
 {
     matches!(
         side(kernel, held.pull, held.weight, kernel.diff(first, p)),
@@ -175,7 +175,7 @@ fn is_on<K: Kernel>(kernel: &K, held: &Sums, first: &K::P, p: &K::P) -> bool
 fn is_outside<K: Kernel>(kernel: &K, held: &Sums, first: &K::P, p: &K::P) -> bool
     requires some { 1 ≤ held.now.weight }
     requires range { IsInRange K.DIM held.now }
-    ensures { IsTrue result ↔ (height (sum_of held.now.pull) held.now.weight (vector (K.place first.now) (K.place p.now)) <ℤ pos 0) }
+    ensures { IsTrue result ↔ (slack_from_origin (sum_of held.now.pull) held.now.weight (vector (K.place first.now) (K.place p.now)) <ℤ pos 0) }
 {
     matches!(
         side(kernel, held.pull, held.weight, kernel.diff(first, p)),

@@ -12,7 +12,7 @@ use Rattle.ball_sums.specs.Means.{mean_size, plane_mean, space_mean}
 -- ---- the size
 
 pub mean_size_is : (points : List SpacePoint) (supports : List Weighted) (s : Sums) → AreSumsFrom (first_support points supports) points supports s → mean_size s ≡ supported_size points supports
-mean_size_is points supports s sums = ap₂ (λ n weight. record { n = n; d = pos 2 *ℤ weight }) sums.moment sums.weight
+mean_size_is points supports s sums = ap₂ (λ n weight. record { n = n; d = pos 2 *ℤ weight }) sums.second_moment sums.weight
 
 -- ---- the centre
 

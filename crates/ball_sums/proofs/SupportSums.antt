@@ -29,5 +29,5 @@ pub sums_of_more : (points : List SpacePoint) (from : SpacePoint) (before : List
 sums_of_more points from before s old new w v weighs is was adds = record {
   weight = ap pos adds.weight ∙ ap₂ (λ a b. a +ℤ b) was.weight (sym weighs) ∙ sym (total-one_more (λ s. s.weight) before s);
   pull = adds.pull ∙ ap₂ plus was.pull (ap₂ times (sym weighs) (sym is)) ∙ sym (weighted_sum-one_more (λ s. s.weight) (λ s. vector from (point_at points s.point)) before s);
-  moment = adds.moment ∙ ap₂ (λ a b. a +ℤ b) was.moment (ap₂ (λ a b. a *ℤ squared_length b) (sym weighs) (sym is)) ∙ sym (total-one_more (λ s. s.weight *ℤ squared_length (vector from (point_at points s.point))) before s);
+  second_moment = adds.second_moment ∙ ap₂ (λ a b. a +ℤ b) was.second_moment (ap₂ (λ a b. a *ℤ squared_length b) (sym weighs) (sym is)) ∙ sym (total-one_more (λ s. s.weight *ℤ squared_length (vector from (point_at points s.point))) before s);
 }

@@ -7,7 +7,7 @@ use Rattle.ball_sums.specs.declared.sums.Sums.{Sums}
 
 -- half the mean of the squared distances
 abbrev pub mean_size : Sums → Fraction
-mean_size s = record { n = pos s.moment; d = pos 2 *ℤ pos s.weight }
+mean_size s = record { n = pos s.second_moment; d = pos 2 *ℤ pos s.weight }
 
 -- the mean of the points, in the plane
 abbrev pub plane_mean : PlanePoint → Sums → PlaneRatio

@@ -16,11 +16,11 @@ impl Sums {
     pub fn size(&self) -> Frac
         requires some { 1 ≤ self.now.weight }
         requires weight { self.now.weight ≤ 2 ^ 92 }
-        requires moment { self.now.moment ≤ 2 ^ 122 }
+        requires second_moment { self.now.second_moment ≤ 2 ^ 122 }
         ensures value { SameValue result (mean_size self.now) }
         ensures lowest { IsFraction result }
     {
-        Frac::new(self.moment, 2 * self.weight)
+        Frac::new(self.second_moment, 2 * self.weight)
     }
 
     /// The weighted mean of points of the plane, by the point that they are seen from.

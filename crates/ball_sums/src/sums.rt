@@ -4,7 +4,7 @@ ghost use Rattle.integers.specs.Size.{Size};
 ghost use Rattle.bounds_model.specs.Space.{squared_length};
 ghost use Rattle.kernel_laws.specs.Vectors.{vector_of};
 ghost use Rattle.kernel_laws.specs.Limits.{IsDifference, ball_limit};
-ghost use Rattle.ball_sums.specs.Sums.{IsInRange, Adds, squared_reach};
+ghost use Rattle.ball_sums.specs.Sums.{IsInRange, Adds, squared_length_limit};
 
 use kernel_laws::{Kernel, Sum, Vector};
 
@@ -16,18 +16,18 @@ pub struct Sums {
     /// The weighted sum of the vectors to the points.
     pub pull: Sum,
     /// The weighted sum of their squared lengths.
-    pub moment: u128,
+    pub second_moment: u128,
 }
 
 impl Sums {
     /// Over no points.
     pub fn none() -> Sums
-        ensures { result ≡ record { weight = 0; pull = record { x = pos 0; y = pos 0; z = pos 0 }; moment = 0 } }
+        ensures { result ≡ record { weight = 0; pull = record { x = pos 0; y = pos 0; z = pos 0 }; second_moment = 0 } }
     {
         Sums {
             weight: 0,
             pull: Sum { x: 0, y: 0, z: 0 },
-            moment: 0,
+            second_moment: 0,
         }
     }
 
@@ -46,7 +46,7 @@ impl Sums {
                 y: plus(self.pull.y, weight, to.y),
                 z: plus(self.pull.z, weight, to.z),
             },
-            moment: self.moment + weight * squared(kernel, to),
+            second_moment: self.second_moment + weight * squared(kernel, to),
         }
     }
 
@@ -85,7 +85,7 @@ fn plus(sum: i128, weight: u128, coordinate: i64) -> i128
 fn squared<K: Kernel>(kernel: &K, v: Vector) -> u128
     requires { IsDifference K.DIM (vector_of v) }
     ensures value { pos result ≡ squared_length (vector_of v) }
-    ensures limit { result ≤ squared_reach K.DIM }
+    ensures limit { result ≤ squared_length_limit K.DIM }
 {
     kernel.dot(v, v) as u128
 }

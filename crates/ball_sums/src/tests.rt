@@ -26,7 +26,7 @@ fn a_circle_over_three_points(rt: HostRuntime) {
     let wanted = Sums {
         weight: 36,
         pull: Sum { x: 72, y: 30, z: 0 },
-        moment: 338,
+        second_moment: 338,
     };
     assert_eq!(rt; sums, wanted);
     assert_eq!(rt; wanted.size(), Frac::new(169, 36));
@@ -47,7 +47,7 @@ fn a_sphere_over_two_points(rt: HostRuntime) {
             y: -6,
             z: -9,
         },
-        moment: 126,
+        second_moment: 126,
     };
     assert_eq!(rt; sums, wanted);
     assert_eq!(rt; wanted.size(), Frac::new(63, 2));

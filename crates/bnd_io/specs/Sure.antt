@@ -9,7 +9,7 @@ use Rattle.bnd_io.specs.Sinks.{SinkState}
 abbrev pub sure_files : FolderView → FilesState
 sure_files f = told_files f 0 0
 
--- a sink that never fails at one moment
+-- a sink that never fails at one time
 pub record SureSinkView : Type 0 where
   -- the first bytes that were written, at most 2^23
   pub bytes : List ℕ

@@ -1,4 +1,4 @@
--- Rings between two circles with one centre.
+-- Annuli between two circles with one centre.
 use Rattle.std.specs.Prelude.{ℤ, pos, ◌-ℤ◌, ◌*ℤ◌, ◌≤ℤ◌, List, All}
 use Rattle.bounds_model.specs.Plane.{PlanePoint, PlaneRatio, vector, times, squared_length}
 use Rattle.bounds_model.specs.Fractions.{Fraction, IsNotNegative}
@@ -14,20 +14,20 @@ abbrev pub squared_distance : PlaneRatio → PlanePoint → ℤ
 squared_distance c p = squared_length (vector (record { x = c.x; y = c.y }) (times c.w p))
 
 -- the point is at least the inner radius away, and at most the outer one
-pub record IsInRing (ring : Annulus) (p : PlanePoint) : Type 0 where
-  pub outside_inner : (ring.inner.n *ℤ (ring.centre.w *ℤ ring.centre.w)) ≤ℤ (ring.inner.d *ℤ squared_distance ring.centre p)
-  pub inside_outer : (ring.outer.d *ℤ squared_distance ring.centre p) ≤ℤ (ring.outer.n *ℤ (ring.centre.w *ℤ ring.centre.w))
+pub record IsInAnnulus (annulus : Annulus) (p : PlanePoint) : Type 0 where
+  pub outside_inner : (annulus.inner.n *ℤ (annulus.centre.w *ℤ annulus.centre.w)) ≤ℤ (annulus.inner.d *ℤ squared_distance annulus.centre p)
+  pub inside_outer : (annulus.outer.d *ℤ squared_distance annulus.centre p) ≤ℤ (annulus.outer.n *ℤ (annulus.centre.w *ℤ annulus.centre.w))
 
--- all points are in the ring
-pub record FitsAnnulus (points : List PlanePoint) (ring : Annulus) : Type 0 where
-  pub denominator : pos 1 ≤ℤ ring.centre.w
-  pub inner : IsNotNegative ring.inner
-  pub outer : IsNotNegative ring.outer
-  pub inside : All (IsInRing ring) points
+-- all points are in the annulus
+pub record FitsAnnulus (points : List PlanePoint) (annulus : Annulus) : Type 0 where
+  pub denominator : pos 1 ≤ℤ annulus.centre.w
+  pub inner : IsNotNegative annulus.inner
+  pub outer : IsNotNegative annulus.outer
+  pub inside : All (IsInAnnulus annulus) points
 
 -- the difference of the squared radii
 abbrev pub annulus_size : Annulus → Fraction
-annulus_size ring = record {
-  n = ring.outer.n *ℤ ring.inner.d -ℤ ring.inner.n *ℤ ring.outer.d;
-  d = ring.outer.d *ℤ ring.inner.d;
+annulus_size annulus = record {
+  n = annulus.outer.n *ℤ annulus.inner.d -ℤ annulus.inner.n *ℤ annulus.outer.d;
+  d = annulus.outer.d *ℤ annulus.inner.d;
 }

@@ -1,4 +1,4 @@
--- The answers on rings, and what a checker asks of them.
+-- The answers on annuli, and what a checker asks of them.
 use Rattle.std.specs.Prelude.{◌≡◌, ℕ, ◌^◌, ◌<◌, ◌≤◌, ℤ, pos, ◌+ℤ◌, ◌-ℤ◌, ◌*ℤ◌, ◌≤ℤ◌, List, length, All}
 use Rattle.integers.specs.Total.{total}
 use Rattle.integers.specs.Extremes.{greatest, least}
@@ -14,7 +14,7 @@ pub record WeightedPair : Type 0 where
   pub second : ℕ
   pub weight : ℤ
 
--- a ring, and weighted pairs of points
+-- an annulus, and weighted pairs of points
 pub record AnnulusAnswer : Type 0 where
   pub size : Fraction
   pub centre : PlaneRatio
@@ -22,7 +22,7 @@ pub record AnnulusAnswer : Type 0 where
   pub outer : Fraction
   pub pairs : List WeightedPair
 
--- the ring with this centre and these squared radii
+-- the annulus with this centre and these squared radii
 abbrev pub annulus_of : AnnulusAnswer → Annulus
 annulus_of a = record { centre = a.centre; inner = a.inner; outer = a.outer }
 
@@ -39,11 +39,11 @@ pub record AnnulusPlaces (a : AnnulusAnswer) : Type 0 where
   pub count : HasCount 1 3 a.pairs
   pub pairs : All IsPairPlace a.pairs
 
--- w times the squared distance of a point from the centre, up to a term that is the same for all points
-abbrev pub height : PlaneRatio → PlanePoint → ℤ
-height c p = c.w *ℤ squared_length p -ℤ pos 2 *ℤ dot (record { x = c.x; y = c.y }) p
+-- w times the power of a point with regard to the circle around the centre through the origin: the squared distance from the centre, less a term that is the same for all points
+abbrev pub power : PlaneRatio → PlanePoint → ℤ
+power c p = c.w *ℤ squared_length p -ℤ pos 2 *ℤ dot (record { x = c.x; y = c.y }) p
 
--- the squared distance from the centre at this height
+-- the squared distance from the centre of a point of this power
 abbrev pub squared_radius_at : PlaneRatio → ℤ → Fraction
 squared_radius_at c h = record { n = c.w *ℤ h +ℤ (c.x *ℤ c.x +ℤ c.y *ℤ c.y); d = c.w *ℤ c.w }
 
@@ -55,7 +55,7 @@ pair_sum pairs = total (λ pair. pair.weight) pairs
 abbrev pub weighted_differences : List PlanePoint → (PlanePoint → ℤ) → List WeightedPair → ℤ
 weighted_differences points f pairs = total (λ pair. pair.weight *ℤ (f (point_at points pair.first) -ℤ f (point_at points pair.second))) pairs
 
--- what a checker asks of a ring
+-- what a checker asks of an annulus
 pub record PassesAnnulus (points : List PlanePoint) (a : AnnulusAnswer) : Type 0 where
   pub places : AnnulusPlaces a
   pub numbers : All (λ pair. (pair.first < length points) × (pair.second < length points)) a.pairs
@@ -66,7 +66,7 @@ pub record PassesAnnulus (points : List PlanePoint) (a : AnnulusAnswer) : Type 0
   pub weight_limit : pair_sum a.pairs ≤ℤ pos (2 ^ 42)
   pub balanced_x : weighted_differences points (λ p. p.x) a.pairs ≡ pos 0
   pub balanced_y : weighted_differences points (λ p. p.y) a.pairs ≡ pos 0
-  pub size : SameValue a.size (record { n = greatest (height a.centre) points -ℤ least (height a.centre) points; d = a.centre.w })
+  pub size : SameValue a.size (record { n = greatest (power a.centre) points -ℤ least (power a.centre) points; d = a.centre.w })
   pub least_size : SameValue a.size (record { n = weighted_differences points squared_length a.pairs; d = pair_sum a.pairs })
-  pub inner : SameValue a.inner (squared_radius_at a.centre (least (height a.centre) points))
-  pub outer : SameValue a.outer (squared_radius_at a.centre (greatest (height a.centre) points))
+  pub inner : SameValue a.inner (squared_radius_at a.centre (least (power a.centre) points))
+  pub outer : SameValue a.outer (squared_radius_at a.centre (greatest (power a.centre) points))

@@ -68,7 +68,7 @@ seen points supports p = vector (first_support points supports) p
 abbrev pub seen_support : List SpacePoint → List Weighted → Weighted → SpacePoint
 seen_support points supports s = seen points supports (point_at points s.point)
 
--- the weighted sum of the supports as seen from the first
+-- the pull, which is the moment of the supports as seen from the first
 abbrev pub pull : List SpacePoint → List Weighted → SpacePoint
 pull points supports = weighted_sum (λ s. s.weight) (seen_support points supports) supports
 

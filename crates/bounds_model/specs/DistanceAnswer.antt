@@ -47,7 +47,7 @@ pub record DistancePlaces (a : DistanceAnswer) : Type 0 where
 abbrev pub difference : List SpacePoint → List SpacePoint → WeightedPair → SpacePoint
 difference ps qs pair = vector (point_at qs pair.second) (point_at ps pair.first)
 
--- the weighted sum of the differences
+-- the pull, which is the moment of the differences
 abbrev pub pull : List SpacePoint → List SpacePoint → List WeightedPair → SpacePoint
 pull ps qs pairs = weighted_sum (λ pair. pair.weight) (difference ps qs) pairs
 

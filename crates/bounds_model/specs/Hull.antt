@@ -7,7 +7,7 @@ abbrev pub around : List PlanePoint → ℕ → PlanePoint
 around corners i = point_at corners (i % length corners)
 
 -- three or more corners without repeats, from the least point on, each with a left turn, with all points to the left of each edge or on it
-pub record AreRing (points corners : List PlanePoint) : Type 0 where
+pub record AreCornerCycle (points corners : List PlanePoint) : Type 0 where
   pub listed : All (Contains points) corners
   pub from_least : IsLeastPoint points (around corners 0)
   pub distinct : AllPairs (λ a b. a ≢ b) corners
@@ -31,4 +31,4 @@ abbrev pub AreCorners : List PlanePoint → List PlanePoint → Type 0
 AreCorners points [] = ⊥
 AreCorners points (a ∷ []) = IsOnlyPoint points a
 AreCorners points (a ∷ b ∷ []) = AreEnds points a b
-AreCorners points (a ∷ b ∷ c ∷ rest) = AreRing points (a ∷ b ∷ c ∷ rest)
+AreCorners points (a ∷ b ∷ c ∷ rest) = AreCornerCycle points (a ∷ b ∷ c ∷ rest)

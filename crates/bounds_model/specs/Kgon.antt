@@ -12,15 +12,15 @@ pub record FitsKgon (k : ℕ) (corners : List PlanePoint) (positions : List ℕ)
   pub in_range : All (λ i. i < length corners) positions
 
 -- twice the area of the triangles from a to each two neighbours
-abbrev pub fan_area : PlanePoint → List PlanePoint → ℤ
-fan_area a [] = pos 0
-fan_area a (b ∷ []) = pos 0
-fan_area a (b ∷ c ∷ rest) = turn a b c +ℤ fan_area a (c ∷ rest)
+abbrev pub triangulated_area : PlanePoint → List PlanePoint → ℤ
+triangulated_area a [] = pos 0
+triangulated_area a (b ∷ []) = pos 0
+triangulated_area a (b ∷ c ∷ rest) = turn a b c +ℤ triangulated_area a (c ∷ rest)
 
 -- twice the area of a polygon
 abbrev pub twice_area : List PlanePoint → ℤ
 twice_area [] = pos 0
-twice_area (a ∷ rest) = fan_area a rest
+twice_area (a ∷ rest) = triangulated_area a rest
 
 -- the area
 abbrev pub kgon_size : List PlanePoint → List ℕ → Fraction

@@ -14,7 +14,7 @@ pub mod Kgon
 pub mod Distance
 pub mod Centres
 pub mod Places
-pub mod Potentials
+pub mod Slacks
 pub mod Fans
 pub mod PlainFans
 pub mod CornerTest

@@ -128,20 +128,20 @@ fn is_near(p: &Point2, c: &Homog2, radius: &Frac) -> bool
     ensures { IsTrue result ↔ IsNear radius.now p.now c.now }
 {
     let (w, d) = (c.w() as i64, radius.den() as i64);
-    let reach = radius.num() as i64 * w;
-    is_in_reach(i64::from(p.x()), c.x() as i64, w, d, reach)
-        && is_in_reach(i64::from(p.y()), c.y() as i64, w, d, reach)
+    let scaled_radius = radius.num() as i64 * w;
+    is_within_radius(i64::from(p.x()), c.x() as i64, w, d, scaled_radius)
+        && is_within_radius(i64::from(p.y()), c.y() as i64, w, d, scaled_radius)
 }
 
-/// Whether a coordinate, times w, is at most reach / d away from the centre's numerator over w.
-fn is_in_reach(coordinate: i64, centre: i64, w: i64, d: i64, reach: i64) -> bool
+/// Whether a coordinate, times w, is at most scaled_radius / d away from the centre's numerator over w.
+fn is_within_radius(coordinate: i64, centre: i64, w: i64, d: i64, scaled_radius: i64) -> bool
     requires coordinate { Size 200000 coordinate }
     requires centre { Size 1000000 centre }
     requires w { Size 2 w }
     requires d { Size 2 d }
-    ensures { IsTrue result ↔ ((pos (nat_abs (w *ℤ coordinate -ℤ centre)) *ℤ d) ≤ℤ reach) }
+    ensures { IsTrue result ↔ ((pos (nat_abs (w *ℤ coordinate -ℤ centre)) *ℤ d) ≤ℤ scaled_radius) }
 {
-    (w * coordinate - centre).abs() * d <= reach
+    (w * coordinate - centre).abs() * d <= scaled_radius
 }
 
 // ---- the leaves

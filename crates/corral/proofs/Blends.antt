@@ -6,7 +6,7 @@ use Rattle.std.proofs.lemmas.List.Elements.{All-nil, All-cons, All-head, All-tai
 use Rattle.integers.proofs.Identities.{den-ring, read, polys, lits}
 use Rattle.integers.proofs.Order.{combine1}
 use Rattle.bounds_model.specs.Space.{SpacePoint, plus, times, squared_length}
-use Rattle.bounds_model.specs.Potentials.{WeightedVector, mass, moment, second_moment}
+use Rattle.bounds_model.specs.Slacks.{WeightedVector, mass, moment, second_moment}
 use Rattle.kernel_laws.specs.Solutions.{weighted}
 use Rattle.kernel_laws.proofs.Points.{same_point}
 use Rattle.corral.specs.Supports.{support_vectors}

@@ -7,7 +7,7 @@ use Rattle.std.proofs.lemmas.List.Elements.{All-nil, All-cons, All-head, All-tai
 use Rattle.integers.proofs.Identities.{den-ring, read, polys, lits}
 use Rattle.integers.proofs.Order.{le_total_ℤ, le_by, nonneg_difference}
 use Rattle.bounds_model.specs.Space.{origin}
-use Rattle.bounds_model.specs.Potentials.{WeightedVector, mass, moment, second_moment, IsDependence}
+use Rattle.bounds_model.specs.Slacks.{WeightedVector, mass, moment, second_moment, IsDependence}
 use Rattle.corral.specs.Supports.{support_vectors}
 use Rattle.corral.proofs.Moments.{mass_positive}
 use Rattle.corral.proofs.Insertions.{IsInserted, each_or_one}
@@ -58,41 +58,41 @@ opposite_weights (t ∷ ts) h =
     All-cons (λ (t : Numbered). pos 1 ≤ℤ t.weight) (record { weight = t.weight; number = neg_ℤ t.number; vector = t.vector }) (opposite_numbers ts) (All-head (λ (t : Numbered). pos 1 ≤ℤ t.weight) t ts h) (opposite_weights ts (All-tail (λ (t : Numbered). pos 1 ≤ℤ t.weight) t ts h))
 
 -- with the sum 0 and the weighted sum 0
-drop_numbers : (square : ℤ) (ts : List Numbered) → 1 ≤ length ts → All (λ t. pos 1 ≤ℤ t.weight) ts
+drop_numbers : (quadratic : ℤ) (ts : List Numbered) → 1 ≤ length ts → All (λ t. pos 1 ≤ℤ t.weight) ts
     → pos 0 <ℤ mass (by_weight ts) → mass (by_number ts) ≡ pos 0 → moment (by_number ts) ≡ origin → ¬ All (λ t. t.number ≡ pos 0) ts
-    → HasFewer square (by_weight ts)
-drop_numbers square ts some weights heavy none still not_all = by (le_total_ℤ (pos 0) (square *ℤ second_moment (by_number ts)))
+    → HasFewer quadratic (by_weight ts)
+drop_numbers quadratic ts some weights heavy none still not_all = by (le_total_ℤ (pos 0) (quadratic *ℤ second_moment (by_number ts)))
   where
     over : (g t : ℤ) → (g *ℤ t) ≤ℤ pos 0 → pos 0 ≤ℤ (g *ℤ neg_ℤ t)
     over g t h = le_by (nonneg_difference h) (read (g ∷ t ∷ []) (λ xs a b. simp (a, b, polys, lits xs) (den-ring xs _ _ tt)))
 
-    by : (pos 0 ≤ℤ (square *ℤ second_moment (by_number ts))) ⊎ ((square *ℤ second_moment (by_number ts)) ≤ℤ pos 0) → HasFewer square (by_weight ts)
-    by (inl side) = let one = one_negative ts none not_all in drop_along square ts some weights heavy none still side one.2 one.3
+    by : (pos 0 ≤ℤ (quadratic *ℤ second_moment (by_number ts))) ⊎ ((quadratic *ℤ second_moment (by_number ts)) ≤ℤ pos 0) → HasFewer quadratic (by_weight ts)
+    by (inl side) = let one = one_negative ts none not_all in drop_along quadratic ts some weights heavy none still side one.2 one.3
     by (inr side) =
         let os = opposite_numbers ts in
         let turned : mass (by_number os) ≡ pos 0 = mass-opposite ts ∙ ap neg_ℤ none in
         let one = one_negative os turned (λ all. not_all (opposite_zero ts all)) in
-        subst (HasFewer square) (by_weight-opposite ts)
-        (drop_along square os
+        subst (HasFewer quadratic) (by_weight-opposite ts)
+        (drop_along quadratic os
         (let e : length os ≡ length ts = length-map ts (λ (t : Numbered). record { weight = t.weight; number = neg_ℤ t.number; vector = t.vector }) in omega arith)
         (opposite_weights ts weights)
         (subst (λ items. pos 0 <ℤ mass items) (sym (by_weight-opposite ts)) heavy)
         turned
         (moment-opposite ts ∙ ap (λ s. record { x = neg_ℤ s.x; y = neg_ℤ s.y; z = neg_ℤ s.z }) still)
-        (subst (λ t. pos 0 ≤ℤ (square *ℤ t)) (sym (second_moment-opposite ts)) (over square (second_moment (by_number ts)) side))
+        (subst (λ t. pos 0 ≤ℤ (quadratic *ℤ t)) (sym (second_moment-opposite ts)) (over quadratic (second_moment (by_number ts)) side))
         one.2 one.3)
 
 -- ---- of items whose vectors are dependent
 
 -- one can be dropped
-pub drop_dependent : (square : ℤ) (items : List WeightedVector) (numbers : List ℤ) → 1 ≤ length items → All (λ item. pos 1 ≤ℤ item.weight) items → IsDependence (support_vectors items) numbers → HasFewer square items
-drop_dependent square items numbers some weights dependence =
+pub drop_dependent : (quadratic : ℤ) (items : List WeightedVector) (numbers : List ℤ) → 1 ≤ length items → All (λ item. pos 1 ≤ℤ item.weight) items → IsDependence (support_vectors items) numbers → HasFewer quadratic items
+drop_dependent quadratic items numbers some weights dependence =
     let many : length numbers ≡ length items = dependence.as_many ∙ length-map items (λ item. item.vector) in
     let ts = numbered items numbers in
     let same = by_weight-numbered items numbers many in
     let other = by_number-numbered items numbers many in
-    subst (HasFewer square) same
-    (drop_numbers square ts
+    subst (HasFewer quadratic) same
+    (drop_numbers quadratic ts
     (let e = length-numbered items numbers many in omega arith)
     (all-by_weight (λ w. pos 1 ≤ℤ w) ts (subst (All (λ item. pos 1 ≤ℤ item.weight)) (sym same) weights))
     (subst (λ items. pos 0 <ℤ mass items) (sym same) (mass_positive items some weights))

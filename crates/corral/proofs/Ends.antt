@@ -1,4 +1,4 @@
--- The lowest difference goes from the farthest point to the least far one.
+-- The difference of least slack goes from the farthest point to the least far one.
 use Rattle.std.proofs.Common.{◌≡◌, sym, subst, ℕ, ℤ, pos, ◌-ℤ◌, ◌*ℤ◌, ◌≤ℤ◌, [], ◌∷◌, map, arith}
 use Rattle.std.proofs.lemmas.Int.{ints}
 use Rattle.integers.proofs.Identities.{den-ring, read, polys}
@@ -8,7 +8,7 @@ use Rattle.bounded_coords.specs.Clouds.{points_of}
 use Rattle.kernel_laws.specs.Vectors.{sum_of}
 use Rattle.corral.specs.declared.items.Items.TheVariants.{Differences}
 use Rattle.corral.specs.declared.sums.Moments.{Moments}
-use Rattle.corral.specs.Lowest.{IsLowest, IsLeastAlong, IsMostAlong}
+use Rattle.corral.specs.LeastSlacks.{HasLeastSlack, IsLeastAlong, IsMostAlong}
 
 -- a difference is that of the ways from any origin
 pub difference_along : (o a b s : SpacePoint) → dot (vector b a) s ≡ dot (vector o a) s -ℤ dot (vector o b) s
@@ -16,21 +16,21 @@ difference_along o a b s =
     read (o.x ∷ o.y ∷ o.z ∷ a.x ∷ a.y ∷ a.z ∷ b.x ∷ b.y ∷ b.z ∷ s.x ∷ s.y ∷ s.z ∷ [])
     (λ xs e f g h i j k l m n p q. simp (e, f, g, h, i, j, k, l, m, n, p, q, polys) (den-ring xs _ _ tt))
 
-no_square : (square a : ℤ) → square ≡ pos 0 → square *ℤ a ≡ pos 0
-no_square square a e = subst (λ s. s *ℤ a ≡ pos 0) (sym e) (omega (arith, ints))
+no_quadratic : (quadratic a : ℤ) → quadratic ≡ pos 0 → quadratic *ℤ a ≡ pos 0
+no_quadratic quadratic a e = subst (λ s. s *ℤ a ≡ pos 0) (sym e) (omega (arith, ints))
 
 -- a difference of less length along is lower
 by_parts : {d e a b a' b' z y : ℤ} → d ≡ a -ℤ b → e ≡ a' -ℤ b' → z ≡ pos 0 → y ≡ pos 0 → a ≤ℤ a' → b' ≤ℤ b → (pos 2 *ℤ d -ℤ z) ≤ℤ (pos 2 *ℤ e -ℤ y)
 by_parts p q r s t u = omega (arith, ints)
 
--- so it has the least potential for distances
-pub lowest_by_ends : {K P : Type 0} (square : ℤ) (place : P → SpacePoint) (p q : Cloud P) (m : Moments) (origin : P) (first second : ℕ) → square ≡ pos 0
+-- so it has the least slack for distances
+pub least_by_ends : {K P : Type 0} (quadratic : ℤ) (place : P → SpacePoint) (p q : Cloud P) (m : Moments) (origin : P) (first second : ℕ) → quadratic ≡ pos 0
     → IsLeastAlong place origin (points_of p) (sum_of m.sum) first → IsMostAlong place origin (points_of q) (sum_of m.sum) second
-    → IsLowest {K = K} square place (Differences p q) m (record { first = first; second = second })
-lowest_by_ends square place p q m origin first second flag least most = record {
+    → HasLeastSlack {K = K} quadratic place (Differences p q) m (record { first = first; second = second })
+least_by_ends quadratic place p q m origin first second flag least most = record {
   named = (least.listed, most.listed);
   least = λ other h. by_parts
       (difference_along (place origin) (point_at (map place (points_of p)) first) (point_at (map place (points_of q)) second) (sum_of m.sum))
       (difference_along (place origin) (point_at (map place (points_of p)) other.first) (point_at (map place (points_of q)) other.second) (sum_of m.sum))
-      (no_square square _ flag) (no_square square _ flag) (least.least other.first h.0) (most.most other.second h.1);
+      (no_quadratic quadratic _ flag) (no_quadratic quadratic _ flag) (least.least other.first h.0) (most.most other.second h.1);
 }

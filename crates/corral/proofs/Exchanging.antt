@@ -4,7 +4,7 @@ use Rattle.std.specs.Prelude.{All}
 use Rattle.std.proofs.lemmas.List.{length-map}
 use Rattle.std.proofs.lemmas.List.Elements.{All-cons, All-head, All-tail, All-map}
 use Rattle.bounds_model.specs.Space.{SpacePoint}
-use Rattle.bounds_model.specs.Potentials.{WeightedVector, IsLow, value}
+use Rattle.bounds_model.specs.Slacks.{WeightedVector, IsLow, value}
 use Rattle.exact_fractions.specs.Order.{IsBelow}
 use Rattle.kernel_laws.specs.Vectors.{vector_of}
 use Rattle.kernel_laws.specs.Solutions.{AreItems, weighted}
@@ -14,7 +14,7 @@ use Rattle.corral.specs.declared.support.WeightedItem.{WeightedItem}
 use Rattle.corral.specs.declared.search.Candidate.{Candidate}
 use Rattle.corral.specs.declared.search.Balance.{Balance}
 use Rattle.corral.specs.Parts.{IsPart}
-use Rattle.corral.specs.Supports.{IsSquare, support_vectors, AreSupports, IsRefuted}
+use Rattle.corral.specs.Supports.{IsQuadratic, support_vectors, AreSupports, IsRefuted}
 use Rattle.corral.specs.Items.{IsItem, item}
 use Rattle.corral.specs.WeightedItems.{names, weights, AreSupportItems, weighted_items}
 use Rattle.corral.specs.Balances.{IsBalance, vectors, candidate_names, AreCandidates, IsFound, AreRefuted}
@@ -49,20 +49,20 @@ same_items {K} {P} place items (s ∷ held) (c ∷ part) named are =
     (same_items place items held part others (All-tail (λ (c : Candidate). vector_of c.vector ≡ item place items c.id) c part are))
 
 -- an exchange: the old supports, a low item, and what the search found among them
-pub record IsExchange {K P : Type 0} (dim : ℕ) (square : ℤ) (place : P → SpacePoint) (xs : Items K P) (old : List WeightedItem) (id : Id) (all part : List Candidate) (b : Balance) : Type 0 where
-  pub flag : IsSquare square
+pub record IsExchange {K P : Type 0} (dim : ℕ) (quadratic : ℤ) (place : P → SpacePoint) (xs : Items K P) (old : List WeightedItem) (id : Id) (all part : List Candidate) (b : Balance) : Type 0 where
+  pub flag : IsQuadratic quadratic
   pub dims : (dim ≡ 2) ⊎ (dim ≡ 3)
   pub named : IsItem xs id
   pub held : AreSupportItems dim xs old
-  pub supports : AreSupports square (weighted_items place xs old)
-  pub low : IsLow square (weighted_items place xs old) (item place xs id)
+  pub supports : AreSupports quadratic (weighted_items place xs old)
+  pub low : IsLow quadratic (weighted_items place xs old) (item place xs id)
   pub all_named : candidate_names all ≡ id ∷ names old
   pub candidates : AreCandidates place xs all
   pub few : length (vectors all) ≤ dim + 2
-  pub found : IsFound dim square all part b
+  pub found : IsFound dim quadratic all part b
 
-module _ {K P : Type 0} (dim : ℕ) (square : ℤ) (place : P → SpacePoint) (xs : Items K P) (old : List WeightedItem) (id : Id) (all part : List Candidate) (b : Balance)
-    (h : IsExchange {K = K} {P = P} dim square place xs old id all part b) where
+module _ {K P : Type 0} (dim : ℕ) (quadratic : ℤ) (place : P → SpacePoint) (xs : Items K P) (old : List WeightedItem) (id : Id) (all part : List Candidate) (b : Balance)
+    (h : IsExchange {K = K} {P = P} dim quadratic place xs old id all part b) where
   -- the new supports are a part of the old ones and the new item
   pub new_part : IsPart (names b.held.items) (id ∷ names old)
   new_part = subst (IsPart (names b.held.items)) h.all_named (subst (λ ns. IsPart ns (candidate_names all)) (sym h.found.named) (part_map (λ c. c.id) h.found.is_part))
@@ -74,8 +74,8 @@ module _ {K P : Type 0} (dim : ℕ) (square : ℤ) (place : P → SpacePoint) (x
   all_vectors_are = vectors_are place xs all h.candidates ∙ ap (map (item place xs)) h.all_named
 
   -- they are in balance
-  pub new_balance : IsBalance dim square (weighted_items place xs b.held.items) b
-  new_balance = subst (λ items. IsBalance dim square items b) same h.found.balance
+  pub new_balance : IsBalance dim quadratic (weighted_items place xs b.held.items) b
+  new_balance = subst (λ items. IsBalance dim quadratic items b) same h.found.balance
 
   -- each is an item
   pub new_held : AreSupportItems dim xs b.held.items
@@ -97,35 +97,35 @@ module _ {K P : Type 0} (dim : ℕ) (square : ℤ) (place : P → SpacePoint) (x
       }
 
   -- none of the old ones and the new item is low
-  pub new_none_low : All (λ other. ¬ IsLow square (weighted_items place xs b.held.items) (item place xs other)) (id ∷ names old)
+  pub new_none_low : All (λ other. ¬ IsLow quadratic (weighted_items place xs b.held.items) (item place xs other)) (id ∷ names old)
   new_none_low =
-      all_unmap (λ v. ¬ IsLow square (weighted_items place xs b.held.items) v) (item place xs) (id ∷ names old)
-      (subst (All (λ v. ¬ IsLow square (weighted_items place xs b.held.items) v)) all_vectors_are
-      (subst (λ items. All (λ v. ¬ IsLow square items v) (vectors all)) same h.found.none_low))
+      all_unmap (λ v. ¬ IsLow quadratic (weighted_items place xs b.held.items) v) (item place xs) (id ∷ names old)
+      (subst (All (λ v. ¬ IsLow quadratic (weighted_items place xs b.held.items) v)) all_vectors_are
+      (subst (λ items. All (λ v. ¬ IsLow quadratic items v) (vectors all)) same h.found.none_low))
 
   -- the value has risen
-  pub new_value : IsBelow (value square (weighted_items place xs old)) (value square (weighted_items place xs b.held.items))
-  new_value = value_rises square h.flag (weighted_items place xs old) (weighted_items place xs b.held.items) (item place xs id) h.supports h.low (record {
+  pub new_value : IsBelow (value quadratic (weighted_items place xs old)) (value quadratic (weighted_items place xs b.held.items))
+  new_value = value_rises quadratic h.flag (weighted_items place xs old) (weighted_items place xs b.held.items) (item place xs id) h.supports h.low (record {
     supports = new_balance.supports;
     none_low =
-        subst (λ vs. All (λ v. ¬ IsLow square (weighted_items place xs b.held.items) v) (item place xs id ∷ vs)) (sym (held_vectors place xs old))
-        (subst (All (λ v. ¬ IsLow square (weighted_items place xs b.held.items) v)) all_vectors_are
-        (subst (λ items. All (λ v. ¬ IsLow square items v) (vectors all)) same h.found.none_low));
+        subst (λ vs. All (λ v. ¬ IsLow quadratic (weighted_items place xs b.held.items) v) (item place xs id ∷ vs)) (sym (held_vectors place xs old))
+        (subst (All (λ v. ¬ IsLow quadratic (weighted_items place xs b.held.items) v)) all_vectors_are
+        (subst (λ items. All (λ v. ¬ IsLow quadratic items v) (vectors all)) same h.found.none_low));
   })
 
 -- the search does not end without supports
-pub search_finds : (square : ℤ) → IsSquare square → (all : List Candidate) → 1 ≤ length (vectors all) → ¬ AreRefuted square all [] all
-search_finds square flag all some refuted = not_all_are_refuted square flag (vectors all) some (λ part is_part long. lifted part (part_of_map (λ c. vector_of c.vector) all is_part) long)
+pub search_finds : (quadratic : ℤ) → IsQuadratic quadratic → (all : List Candidate) → 1 ≤ length (vectors all) → ¬ AreRefuted quadratic all [] all
+search_finds quadratic flag all some refuted = not_all_are_refuted quadratic flag (vectors all) some (λ part is_part long. lifted part (part_of_map (λ c. vector_of c.vector) all is_part) long)
   where
-    lifted : (part : List SpacePoint) → (inner : List Candidate) × IsPart inner all × (part ≡ map (λ c. vector_of c.vector) inner) → 1 ≤ length part → IsRefuted square (vectors all) part
-    lifted part (inner, is_part, same) long = subst (IsRefuted square (vectors all)) (sym same) (refuted inner is_part (let e = length-map inner (λ (c : Candidate). vector_of c.vector) in let f = ap length same in omega arith))
+    lifted : (part : List SpacePoint) → (inner : List Candidate) × IsPart inner all × (part ≡ map (λ c. vector_of c.vector) inner) → 1 ≤ length part → IsRefuted quadratic (vectors all) part
+    lifted part (inner, is_part, same) long = subst (IsRefuted quadratic (vectors all)) (sym same) (refuted inner is_part (let e = length-map inner (λ (c : Candidate). vector_of c.vector) in let f = ap length same in omega arith))
 
 -- an exchange, as the code has it
-pub exchange_is : {K P : Type 0} (dim : ℕ) (square : ℤ) (place : P → SpacePoint) (xs : Items K P) (old : List WeightedItem) (id : Id) (given all part : List Candidate) (b old_balance : Balance)
-    → IsSquare square → (dim ≡ 2) ⊎ (dim ≡ 3) → IsItem xs id → AreSupportItems dim xs old → IsBalance dim square (weighted_items place xs old) old_balance → IsLow square (weighted_items place xs old) (item place xs id)
-    → all ≡ given → candidate_names given ≡ id ∷ names old → AreCandidates place xs given → AreItems square dim (vectors given) → IsFound dim square all part b
-    → IsExchange {K = K} {P = P} dim square place xs old id all part b
-exchange_is dim square place xs old id given all part b old_balance flag dims named held balance low same all_named candidates items found = record {
+pub exchange_is : {K P : Type 0} (dim : ℕ) (quadratic : ℤ) (place : P → SpacePoint) (xs : Items K P) (old : List WeightedItem) (id : Id) (given all part : List Candidate) (b old_balance : Balance)
+    → IsQuadratic quadratic → (dim ≡ 2) ⊎ (dim ≡ 3) → IsItem xs id → AreSupportItems dim xs old → IsBalance dim quadratic (weighted_items place xs old) old_balance → IsLow quadratic (weighted_items place xs old) (item place xs id)
+    → all ≡ given → candidate_names given ≡ id ∷ names old → AreCandidates place xs given → AreItems quadratic dim (vectors given) → IsFound dim quadratic all part b
+    → IsExchange {K = K} {P = P} dim quadratic place xs old id all part b
+exchange_is dim quadratic place xs old id given all part b old_balance flag dims named held balance low same all_named candidates items found = record {
   flag = flag;
   dims = dims;
   named = named;

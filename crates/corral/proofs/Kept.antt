@@ -4,7 +4,7 @@ use Rattle.std.specs.Prelude.{All}
 use Rattle.std.proofs.lemmas.Int.{ints}
 use Rattle.std.proofs.lemmas.List.Elements.{All-nil, All-cons, All-head, All-tail}
 use Rattle.bounds_model.specs.Space.{plus, times, squared_length}
-use Rattle.bounds_model.specs.Potentials.{WeightedVector, mass, moment, second_moment, value}
+use Rattle.bounds_model.specs.Slacks.{WeightedVector, mass, moment, second_moment, value}
 use Rattle.kernel_laws.proofs.Points.{same_point}
 use Rattle.corral.specs.Parts.{IsPart}
 use Rattle.corral.specs.Parts.IsPart.{none, omits, keeps}
@@ -105,7 +105,7 @@ moment-kept [] = refl
 moment-kept (item ∷ items) = moment_if item.weight item (kept items) refl ∙ ap (λ s. plus (times item.weight item.vector) s) (moment-kept items)
 
 -- so the value is the same
-pub value-kept : (square : ℤ) (items : List WeightedVector) → value square (kept items) ≡ value square items
-value-kept square items =
-    ap₂ (λ m q. record { n = square *ℤ (m *ℤ q) -ℤ squared_length (moment (kept items)); d = m *ℤ m }) (mass-kept items) (second_moment-kept items)
-    ∙ ap (λ s. record { n = square *ℤ (mass items *ℤ second_moment items) -ℤ squared_length s; d = mass items *ℤ mass items }) (moment-kept items)
+pub value-kept : (quadratic : ℤ) (items : List WeightedVector) → value quadratic (kept items) ≡ value quadratic items
+value-kept quadratic items =
+    ap₂ (λ m q. record { n = quadratic *ℤ (m *ℤ q) -ℤ squared_length (moment (kept items)); d = m *ℤ m }) (mass-kept items) (second_moment-kept items)
+    ∙ ap (λ s. record { n = quadratic *ℤ (mass items *ℤ second_moment items) -ℤ squared_length s; d = mass items *ℤ mass items }) (moment-kept items)

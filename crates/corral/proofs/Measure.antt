@@ -10,9 +10,9 @@ use Rattle.integers.proofs.Gaps.{floor_rises}
 use Rattle.integers.specs.Size.{Size}
 use Rattle.integers.proofs.Sizes.{size_mul}
 use Rattle.bounds_model.specs.Space.{SpacePoint, squared_length}
-use Rattle.bounds_model.specs.Potentials.{WeightedVector, mass, moment, second_moment, value}
-use Rattle.kernel_laws.specs.Limits.{IsVectorWithin, IsDifference, reach}
-use Rattle.corral.specs.Supports.{IsSquare, support_vectors, AreSupports}
+use Rattle.bounds_model.specs.Slacks.{WeightedVector, mass, moment, second_moment, value}
+use Rattle.kernel_laws.specs.Limits.{IsVectorWithin, IsDifference, difference_limit}
+use Rattle.corral.specs.Supports.{IsQuadratic, support_vectors, AreSupports}
 use Rattle.corral.proofs.Moments.{mass_positive}
 use Rattle.corral.proofs.Supports.{all_vectors}
 use Rattle.corral.specs.Rise.{AreBounded}
@@ -32,11 +32,11 @@ gap_of_distance : (M Q W L : ℤ) → pos 0 ≤ℤ L → pos 0 ≤ℤ W → pos 
 gap_of_distance M Q W L hL hW =
     le_by (nonneg_add (nonneg_mul hL (square_nonneg M)) hW) (read (M ∷ Q ∷ W ∷ L ∷ []) (λ xs a b c d. simp (a, b, c, d, polys, lits xs) (den-ring xs _ _ tt)))
 
-gap_nonneg : (square : ℤ) → IsSquare square → (longest limit : ℕ) (items : List WeightedVector) → AreBounded longest limit items → pos 0 ≤ℤ (pos longest *ℤ (value square items).d -ℤ (value square items).n)
-gap_nonneg square (inl e) longest limit items h =
+gap_nonneg : (quadratic : ℤ) → IsQuadratic quadratic → (longest limit : ℕ) (items : List WeightedVector) → AreBounded longest limit items → pos 0 ≤ℤ (pos longest *ℤ (value quadratic items).d -ℤ (value quadratic items).n)
+gap_nonneg quadratic (inl e) longest limit items h =
     subst (λ g. pos 0 ≤ℤ (pos longest *ℤ (value g items).d -ℤ (value g items).n)) (sym e)
     (gap_of_distance (mass items) (second_moment items) (squared_length (moment items)) (pos longest) (omega (arith, ints)) (squared_length_nonneg (moment items)))
-gap_nonneg square (inr e) longest limit items h =
+gap_nonneg quadratic (inr e) longest limit items h =
     subst (λ g. pos 0 ≤ℤ (pos longest *ℤ (value g items).d -ℤ (value g items).n)) (sym e)
     (gap_of_ball (mass items) (second_moment items) (squared_length (moment items)) (pos longest) (nonneg_from_positive h.some) (squared_length_nonneg (moment items))
     (total_weighted_le (λ (item : WeightedVector). item.weight) (λ item. squared_length item.vector) (pos 1) (pos longest) items (λ k d l. weaken (h.weights k d l)) (λ k d l. once (h.short k d l))))
@@ -62,12 +62,12 @@ closer L n d m e h = lt_by (positive_difference h) (read (L ∷ n ∷ d ∷ m �
 
 -- where the value rises, the measure falls
 pub measure_falls : MeasureFalls
-measure_falls square flag longest limit old found bounded_old bounded_found below =
-    let v = value square old in
-    let w = value square found in
+measure_falls quadratic flag longest limit old found bounded_old bounded_found below =
+    let v = value quadratic old in
+    let w = value quadratic found in
     falls (pos longest *ℤ w.d -ℤ w.n) w.d (pos longest *ℤ v.d -ℤ v.n) v.d (limit * limit)
-    (gap_nonneg square flag longest limit found bounded_found) (positive_mul bounded_found.some bounded_found.some)
-    (gap_nonneg square flag longest limit old bounded_old) (positive_mul bounded_old.some bounded_old.some)
+    (gap_nonneg quadratic flag longest limit found bounded_found) (positive_mul bounded_found.some bounded_found.some)
+    (gap_nonneg quadratic flag longest limit old bounded_old) (positive_mul bounded_old.some bounded_old.some)
     (mul_le_both (nonneg_from_positive bounded_found.some) (nonneg_from_positive bounded_found.some) bounded_found.light bounded_found.light)
     (mul_le_both (nonneg_from_positive bounded_old.some) (nonneg_from_positive bounded_old.some) bounded_old.light bounded_old.light)
     (closer (pos longest) v.n v.d w.n w.d below)
@@ -87,11 +87,11 @@ squared_length_within n v h = sum (square_within h.x) (square_within h.y) (squar
     sum : {a b c : ℤ} {m : ℕ} → a ≤ℤ pos m → b ≤ℤ pos m → c ≤ℤ pos m → (a +ℤ b +ℤ c) ≤ℤ pos (3 * m)
     sum h k l = omega (arith, ints)
 
--- by the limit of their sum of weights and by the reach of their vectors
-pub supports_bounded : (square : ℤ) (dim limit : ℕ) (items : List WeightedVector) → AreSupports square items → mass items ≤ℤ pos limit → All (IsDifference dim) (support_vectors items) → AreBounded (3 * (reach dim * reach dim)) limit items
-supports_bounded square dim limit items supports light differences = record {
+-- by the limit of their sum of weights and by the limit of their vectors
+pub supports_bounded : (quadratic : ℤ) (dim limit : ℕ) (items : List WeightedVector) → AreSupports quadratic items → mass items ≤ℤ pos limit → All (IsDifference dim) (support_vectors items) → AreBounded (3 * (difference_limit dim * difference_limit dim)) limit items
+supports_bounded quadratic dim limit items supports light differences = record {
   weights = supports.weights;
   some = mass_positive items supports.some supports.weights;
   light = light;
-  short = all_vectors (λ v. squared_length v ≤ℤ pos (3 * (reach dim * reach dim))) items (All-weaker (IsDifference dim) (λ v. squared_length v ≤ℤ pos (3 * (reach dim * reach dim))) (λ v h. squared_length_within (reach dim) v h.within) (support_vectors items) differences);
+  short = all_vectors (λ v. squared_length v ≤ℤ pos (3 * (difference_limit dim * difference_limit dim))) items (All-weaker (IsDifference dim) (λ v. squared_length v ≤ℤ pos (3 * (difference_limit dim * difference_limit dim))) (λ v h. squared_length_within (difference_limit dim) v h.within) (support_vectors items) differences);
 }

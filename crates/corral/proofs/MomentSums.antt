@@ -9,7 +9,7 @@ use Rattle.integers.specs.Total.{total}
 use Rattle.integers.proofs.Sizes.{size_add, size_mul, size_between}
 use Rattle.integers.proofs.Sums.{total_nonneg_all}
 use Rattle.bounds_model.specs.Space.{SpacePoint, plus, times}
-use Rattle.bounds_model.specs.Potentials.{WeightedVector, mass, moment}
+use Rattle.bounds_model.specs.Slacks.{WeightedVector, mass, moment}
 use Rattle.kernel_laws.specs.Vectors.{vector_of, vectors_of, sum_of}
 use Rattle.kernel_laws.specs.declared.vectors.Vector.{Vector}
 use Rattle.kernel_laws.specs.Limits.{IsVectorWithin}

@@ -3,7 +3,7 @@ use Rattle.std.proofs.Common.{◌≡◌, refl, sym, subst, ◌⊎◌, inl, inr, 
 use Rattle.std.specs.Prelude.{All}
 use Rattle.std.proofs.lemmas.List.Elements.{All-head, All-tail}
 use Rattle.bounds_model.specs.Space.{SpacePoint}
-use Rattle.bounds_model.specs.Potentials.{WeightedVector}
+use Rattle.bounds_model.specs.Slacks.{WeightedVector}
 use Rattle.corral.specs.Parts.{IsPart}
 use Rattle.corral.specs.Parts.IsPart.{omits, keeps}
 use Rattle.corral.specs.Supports.{support_vectors}

@@ -3,8 +3,8 @@ use Rattle.std.proofs.Common.{◌≡◌, sym, ap, ap₂, ◌∙◌, ℕ, zero, s
 use Rattle.std.specs.Prelude.{slice_get, Some}
 use Rattle.bounds_model.specs.Space.{SpacePoint, point_at, vector, dot}
 use Rattle.corral.specs.declared.sums.Moments.{Moments}
-use Rattle.corral.specs.Moments.{potential_at}
-use Rattle.corral.specs.Lowest.{along}
+use Rattle.corral.specs.Moments.{slack_at}
+use Rattle.corral.specs.LeastSlacks.{along}
 
 -- the coordinates of the point of a number
 pub point_at_place : {P : Type 0} (place : P → SpacePoint) (points : List P) (i : ℕ) (p : P) → slice_get points i ≡ Some p → point_at (map place points) i ≡ place p
@@ -18,12 +18,12 @@ pub along_is : {P : Type 0} (place : P → SpacePoint) (origin : P) (points : Li
 along_is place origin points sum i p v r h e f =
     f ∙ ap (λ u. dot u sum) (e ∙ ap (λ q. vector (place origin) q) (sym (point_at_place place points i p h)))
 
--- the potential of a point as seen from the first
-abbrev pub point_potential : {P : Type 0} → ℤ → Moments → (P → SpacePoint) → List P → ℕ → ℤ
-point_potential square m place points i = potential_at square m (vector (point_at (map place points) 0) (point_at (map place points) i))
+-- the slack of a point as seen from the first
+abbrev pub point_slack : {P : Type 0} → ℤ → Moments → (P → SpacePoint) → List P → ℕ → ℤ
+point_slack quadratic m place points i = slack_at quadratic m (vector (point_at (map place points) 0) (point_at (map place points) i))
 
 -- what it is
-pub point_potential_is : {P : Type 0} (square : ℤ) (m : Moments) (place : P → SpacePoint) (points : List P) (i : ℕ) (o p : P) (v : SpacePoint) (r : ℤ)
-    → slice_get points 0 ≡ Some o → slice_get points i ≡ Some p → v ≡ vector (place o) (place p) → r ≡ potential_at square m v → r ≡ point_potential square m place points i
-point_potential_is square m place points i o p v r g h e f =
-    f ∙ ap (potential_at square m) (e ∙ ap₂ vector (sym (point_at_place place points 0 o g)) (sym (point_at_place place points i p h)))
+pub point_slack_is : {P : Type 0} (quadratic : ℤ) (m : Moments) (place : P → SpacePoint) (points : List P) (i : ℕ) (o p : P) (v : SpacePoint) (r : ℤ)
+    → slice_get points 0 ≡ Some o → slice_get points i ≡ Some p → v ≡ vector (place o) (place p) → r ≡ slack_at quadratic m v → r ≡ point_slack quadratic m place points i
+point_slack_is quadratic m place points i o p v r g h e f =
+    f ∙ ap (slack_at quadratic m) (e ∙ ap₂ vector (sym (point_at_place place points 0 o g)) (sym (point_at_place place points i p h)))

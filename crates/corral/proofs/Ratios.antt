@@ -6,7 +6,7 @@ use Rattle.std.proofs.lemmas.List.Elements.{All-nil, All-cons, All-head, All-tai
 use Rattle.integers.proofs.Identities.{den-ring, read, polys, lits}
 use Rattle.integers.proofs.Order.{nonneg_difference, nonneg_add, positive_difference, positive_add, positive_from_one, mul_lt_left, mul_le_left, le_by, lt_by, le_of_mul_le, lt_of_mul_lt}
 use Rattle.integers.proofs.Fractions.{fraction_le_trans, fraction_total}
-use Rattle.bounds_model.specs.Potentials.{WeightedVector}
+use Rattle.bounds_model.specs.Slacks.{WeightedVector}
 use Rattle.corral.proofs.Blends.{Numbered, blended}
 use Rattle.corral.proofs.Insertions.{IsInserted, at_inserted}
 use Rattle.corral.proofs.Insertions.IsInserted.{first, later}

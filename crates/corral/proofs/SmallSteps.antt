@@ -8,12 +8,12 @@ use Rattle.integers.proofs.Order.{combine1, mul_le_both}
 use Rattle.integers.proofs.RingLaws.{one-*ℤ}
 use Rattle.bounds_model.specs.Space.{SpacePoint, plus, times, dot, squared_length}
 use Rattle.bounds_model.specs.Fractions.{Fraction}
-use Rattle.bounds_model.specs.Potentials.{WeightedVector, mass, moment, second_moment, potential, value, IsLow}
+use Rattle.bounds_model.specs.Slacks.{WeightedVector, mass, moment, second_moment, slack, value, IsLow}
 use Rattle.exact_fractions.specs.Order.{IsBelow}
 use Rattle.kernel_laws.proofs.Points.{same_point}
 use Rattle.corral.specs.Supports.{support_vectors, AreSupports}
 use Rattle.corral.proofs.Values.{outweighs, step_raises}
-use Rattle.corral.proofs.Moments.{mean_is, common_potential, below_common, mass_positive}
+use Rattle.corral.proofs.Moments.{mean_is, common_slack, below_common, mass_positive}
 use Rattle.corral.proofs.Insertions.{IsInserted, total-inserted}
 use Rattle.corral.proofs.Insertions.IsInserted.{first, later}
 
@@ -78,42 +78,42 @@ moment-inserted (later {x} {y} {rest} {whole} at) =
     swapped b a s = omega (arith, ints)
 
 -- the value of k times the items and a vector of weight 1
-value-inserted : (square k : ℤ) (v : SpacePoint) (items more : List WeightedVector) → IsInserted (record { weight = pos 1; vector = v }) (scaled_items k items) more
-    → value square more ≡ (let f : Fraction = record {
-      n = square *ℤ ((pos 1 +ℤ k *ℤ mass items) *ℤ (squared_length v +ℤ k *ℤ second_moment items)) -ℤ (squared_length v +ℤ pos 2 *ℤ (k *ℤ dot v (moment items)) +ℤ k *ℤ k *ℤ squared_length (moment items));
+value-inserted : (quadratic k : ℤ) (v : SpacePoint) (items more : List WeightedVector) → IsInserted (record { weight = pos 1; vector = v }) (scaled_items k items) more
+    → value quadratic more ≡ (let f : Fraction = record {
+      n = quadratic *ℤ ((pos 1 +ℤ k *ℤ mass items) *ℤ (squared_length v +ℤ k *ℤ second_moment items)) -ℤ (squared_length v +ℤ pos 2 *ℤ (k *ℤ dot v (moment items)) +ℤ k *ℤ k *ℤ squared_length (moment items));
       d = (pos 1 +ℤ k *ℤ mass items) *ℤ (pos 1 +ℤ k *ℤ mass items);
     } in f)
-value-inserted square k v items more at =
+value-inserted quadratic k v items more at =
     let s = moment items in
-    ap₂ (λ m q. record { n = square *ℤ (m *ℤ q) -ℤ squared_length (moment more); d = m *ℤ m })
+    ap₂ (λ m q. record { n = quadratic *ℤ (m *ℤ q) -ℤ squared_length (moment more); d = m *ℤ m })
     (total-inserted (λ (item : WeightedVector). item.weight) at ∙ ap (λ m. pos 1 +ℤ m) (mass-scaled k items))
     (total-inserted (λ (item : WeightedVector). item.weight *ℤ squared_length item.vector) at ∙ ap₂ (λ y q. y +ℤ q) (one-*ℤ (squared_length v)) (second_moment-scaled k items))
-    ∙ ap (λ l. record { n = square *ℤ ((pos 1 +ℤ k *ℤ mass items) *ℤ (squared_length v +ℤ k *ℤ second_moment items)) -ℤ l; d = (pos 1 +ℤ k *ℤ mass items) *ℤ (pos 1 +ℤ k *ℤ mass items) })
+    ∙ ap (λ l. record { n = quadratic *ℤ ((pos 1 +ℤ k *ℤ mass items) *ℤ (squared_length v +ℤ k *ℤ second_moment items)) -ℤ l; d = (pos 1 +ℤ k *ℤ mass items) *ℤ (pos 1 +ℤ k *ℤ mass items) })
     (ap squared_length (moment-inserted at ∙ ap₂ plus (same_point (one-*ℤ v.x) (one-*ℤ v.y) (one-*ℤ v.z)) (moment-scaled k items)) ∙ length_of_sum k v s)
   where
     length_of_sum : (k : ℤ) (v s : SpacePoint) → squared_length (plus v (times k s)) ≡ squared_length v +ℤ pos 2 *ℤ (k *ℤ dot v s) +ℤ k *ℤ k *ℤ squared_length s
     length_of_sum k v s = read (k ∷ v.x ∷ v.y ∷ v.z ∷ s.x ∷ s.y ∷ s.z ∷ []) (λ xs a b c d e f g. simp (a, b, c, d, e, f, g, polys, lits xs) (den-ring xs _ _ tt))
 
 -- k times the items' weights, with the vector, have a greater value
-pub record HasStep (square : ℤ) (items : List WeightedVector) (v : SpacePoint) : Type 0 where
+pub record HasStep (quadratic : ℤ) (items : List WeightedVector) (v : SpacePoint) : Type 0 where
   pub k : ℤ
   pub at_least_one : pos 1 ≤ℤ k
-  pub raises : (more : List WeightedVector) → IsInserted (record { weight = pos 1; vector = v }) (scaled_items k items) more → IsBelow (value square items) (value square more)
+  pub raises : (more : List WeightedVector) → IsInserted (record { weight = pos 1; vector = v }) (scaled_items k items) more → IsBelow (value quadratic items) (value quadratic more)
 
 -- where the vector is low
-pub has_step : (square : ℤ) (items : List WeightedVector) (v : SpacePoint) → AreSupports square items → IsLow square items v → HasStep square items v
-has_step square items v supports low =
-    let common = common_potential square items supports.some supports.equal in
+pub has_step : (quadratic : ℤ) (items : List WeightedVector) (v : SpacePoint) → AreSupports quadratic items → IsLow quadratic items v → HasStep quadratic items v
+has_step quadratic items v supports low =
+    let common = common_slack quadratic items supports.some supports.equal in
     let y = squared_length v in
     let m = mass items in
-    let k = outweighs ((square -ℤ pos 1) *ℤ y *ℤ (m *ℤ m) -ℤ (square *ℤ (m *ℤ second_moment items) -ℤ squared_length (moment items))) in
+    let k = outweighs ((quadratic -ℤ pos 1) *ℤ y *ℤ (m *ℤ m) -ℤ (quadratic *ℤ (m *ℤ second_moment items) -ℤ squared_length (moment items))) in
     record {
       k = k.0;
       at_least_one = k.1;
       raises = λ more at.
-          subst (λ f. IsBelow (value square items) f) (sym (value-inserted square k.0 v items more at))
-          (step_raises square m (second_moment items) (squared_length (moment items)) (dot v (moment items)) y common.0 (potential square items v) k.0
+          subst (λ f. IsBelow (value quadratic items) f) (sym (value-inserted quadratic k.0 v items more at))
+          (step_raises quadratic m (second_moment items) (squared_length (moment items)) (dot v (moment items)) y common.0 (slack quadratic items v) k.0
           (mass_positive items supports.some supports.weights) k.1
-          (mean_is square items items common.0 common.1) refl
-          (below_common square items common.0 supports.some common.1 v low) k.2);
+          (mean_is quadratic items items common.0 common.1) refl
+          (below_common quadratic items common.0 supports.some common.1 v low) k.2);
     }

@@ -5,7 +5,7 @@ use Rattle.std.proofs.lemmas.Int.{ints}
 use Rattle.std.proofs.lemmas.List.Elements.{All-nil, All-cons, All-head, All-tail}
 use Rattle.integers.specs.Total.{total}
 use Rattle.bounds_model.specs.Space.{SpacePoint, plus, times, weighted_sum}
-use Rattle.bounds_model.specs.Potentials.{WeightedVector, mass, moment}
+use Rattle.bounds_model.specs.Slacks.{WeightedVector, mass, moment}
 use Rattle.kernel_laws.specs.Solutions.{weighted, IsWeighting}
 use Rattle.corral.specs.Supports.{support_vectors, AreSupports, AreBalanced}
 
@@ -55,22 +55,22 @@ all_vectors P (item ∷ items) h =
 -- ---- weights that balance
 
 -- the solver's weights balance
-pub balanced_from_weighting : (square : ℤ) (limit : ℕ) (vs : List SpacePoint) (ws : List ℤ) → IsWeighting square limit vs ws → AreBalanced square vs ws
-balanced_from_weighting square limit vs ws h = record { as_many = h.as_many; positive = h.positive; equal = h.equal }
+pub balanced_from_weighting : (quadratic : ℤ) (limit : ℕ) (vs : List SpacePoint) (ws : List ℤ) → IsWeighting quadratic limit vs ws → AreBalanced quadratic vs ws
+balanced_from_weighting quadratic limit vs ws h = record { as_many = h.as_many; positive = h.positive; equal = h.equal }
 
 -- there is a vector
-pub some_balanced : (square : ℤ) (vs : List SpacePoint) (ws : List ℤ) → AreBalanced square vs ws → 1 ≤ length vs
-some_balanced square vs [] h = absurd (never h.positive)
+pub some_balanced : (quadratic : ℤ) (vs : List SpacePoint) (ws : List ℤ) → AreBalanced quadratic vs ws → 1 ≤ length vs
+some_balanced quadratic vs [] h = absurd (never h.positive)
   where
     never : pos 0 <ℤ pos 0 → ⊥
     never h = omega (arith, ints)
-some_balanced square [] (w ∷ ws) h = let e = h.as_many in absurd (omega arith)
-some_balanced square (v ∷ vs) (w ∷ ws) h = omega arith
+some_balanced quadratic [] (w ∷ ws) h = let e = h.as_many in absurd (omega arith)
+some_balanced quadratic (v ∷ vs) (w ∷ ws) h = omega arith
 
 -- weights of at least 1 that balance make supports
-pub supports_from_balanced : (square : ℤ) (vs : List SpacePoint) (ws : List ℤ) → AreBalanced square vs ws → All (λ w. pos 1 ≤ℤ w) ws → AreSupports square (weighted ws vs)
-supports_from_balanced square vs ws h all = record {
-  some = let some = some_balanced square vs ws h in let e = length-weighted ws vs h.as_many in omega arith;
+pub supports_from_balanced : (quadratic : ℤ) (vs : List SpacePoint) (ws : List ℤ) → AreBalanced quadratic vs ws → All (λ w. pos 1 ≤ℤ w) ws → AreSupports quadratic (weighted ws vs)
+supports_from_balanced quadratic vs ws h all = record {
+  some = let some = some_balanced quadratic vs ws h in let e = length-weighted ws vs h.as_many in omega arith;
   weights = all-weighted (λ w. pos 1 ≤ℤ w) ws vs all;
   equal = h.equal;
 }

@@ -3,7 +3,7 @@ use Rattle.std.proofs.Common.{◌≡◌, refl, ◌∙◌, ap, ap₂, ◌⊎◌, 
 use Rattle.std.specs.Prelude.{All}
 use Rattle.std.proofs.lemmas.Int.{ints}
 use Rattle.bounds_model.specs.Space.{SpacePoint, vector, origin, dot}
-use Rattle.bounds_model.specs.Potentials.{AreAffinelyDependent}
+use Rattle.bounds_model.specs.Slacks.{AreAffinelyDependent}
 use Rattle.kernel_laws.specs.Limits.{IsDifference}
 use Rattle.kernel_laws.specs.Systems.{cross}
 use Rattle.kernel_laws.proofs.Points.{same_point, squared_length_positive}

@@ -24,7 +24,7 @@ spread_nonneg k l a b =
 
 -- ---- where nothing is low
 
--- a weighting with one potential p has no less value than one whose mean potential under it is at least p
+-- a weighting with one slack p has no less value than one whose mean slack under it is at least p
 pub level_is_best : (g M Q W N R U A p : ℤ) → pos 0 <ℤ M → pos 0 <ℤ N
     → M *ℤ p ≡ pos 2 *ℤ W -ℤ g *ℤ (M *ℤ Q)
     → (N *ℤ p) ≤ℤ (pos 2 *ℤ A -ℤ g *ℤ (M *ℤ R))
@@ -36,7 +36,7 @@ level_is_best g M Q W N R U A p hM hN level mean spread =
 
 -- ---- along a line of weightings
 
--- the value of k u + l w is no less than that of u, where w has the potential p at its own vectors and at those of u
+-- the value of k u + l w is no less than that of u, where w has the slack p at its own vectors and at those of u
 pub towards_is_no_less : (g M Q W N R U A p k l : ℤ) → pos 0 <ℤ M → pos 0 <ℤ N → pos 0 ≤ℤ k → pos 0 ≤ℤ l
     → M *ℤ p ≡ pos 2 *ℤ W -ℤ g *ℤ (M *ℤ Q)
     → N *ℤ p ≡ pos 2 *ℤ A -ℤ g *ℤ (M *ℤ R)
@@ -69,7 +69,7 @@ pub outweighs : (x : ℤ) → (k : ℤ) × (pos 1 ≤ℤ k) × (pos 0 <ℤ (k +�
 outweighs (pos n) = (pos 1, omega (arith, ints), omega (arith, ints))
 outweighs (negsuc n) = (pos (suc (suc n)), omega (arith, ints), omega (arith, ints))
 
--- the value of k w and one vector more, of squared length Y, is greater than that of w, where the vector's potential q is below p
+-- the value of k w and one vector more, of squared length Y, is greater than that of w, where the vector's slack q is below p
 pub step_raises : (g M Q W A Y p q k : ℤ) → pos 0 <ℤ M → pos 1 ≤ℤ k
     → M *ℤ p ≡ pos 2 *ℤ W -ℤ g *ℤ (M *ℤ Q)
     → q ≡ pos 2 *ℤ A -ℤ g *ℤ (M *ℤ Y)

@@ -1,9 +1,9 @@
--- Supports with what potentials under them are computed from, and the search for them among a few candidates.
+-- Supports with what slacks under them are computed from, and the search for them among a few candidates.
 use Rattle.std.specs.Prelude.{◌≡◌, ℕ, ◌≤◌, ℤ, pos, ◌≤ℤ◌, List, ◌++◌, All, length, map}
 use Rattle.bounds_model.specs.Space.{SpacePoint, vector}
-use Rattle.bounds_model.specs.Potentials.{WeightedVector, mass, AreAffinelyDependent, IsLow}
+use Rattle.bounds_model.specs.Slacks.{WeightedVector, mass, AreAffinelyDependent, IsLow}
 use Rattle.kernel_laws.specs.Vectors.{vector_of}
-use Rattle.kernel_laws.specs.Limits.{IsVectorWithin, IsDifference, reach}
+use Rattle.kernel_laws.specs.Limits.{IsVectorWithin, IsDifference, difference_limit}
 use Rattle.kernel_laws.specs.Solutions.{weighted, weight_limit}
 use Rattle.corral.specs.declared.items.Id.{Id}
 use Rattle.corral.specs.declared.items.Items.{Items}
@@ -15,14 +15,14 @@ use Rattle.corral.specs.Items.{item}
 use Rattle.corral.specs.WeightedItems.{names, weights}
 use Rattle.corral.specs.Moments.{AreMoments, IsLevel}
 
--- affinely independent supports, whose weights have a sum within the limit of the solver, with their sums and their potential
-pub record IsBalance (dim : ℕ) (square : ℤ) (items : List WeightedVector) (b : Balance) : Type 0 where
-  pub supports : AreSupports square items
+-- affinely independent supports, whose weights have a sum within the limit of the solver, with their sums and their slack
+pub record IsBalance (dim : ℕ) (quadratic : ℤ) (items : List WeightedVector) (b : Balance) : Type 0 where
+  pub supports : AreSupports quadratic items
   pub independent : ¬ AreAffinelyDependent (support_vectors items)
   pub differences : All (IsDifference dim) (support_vectors items)
-  pub limit : mass items ≤ℤ pos (weight_limit square dim)
+  pub limit : mass items ≤ℤ pos (weight_limit quadratic dim)
   pub moments : AreMoments items b.moments
-  pub level : IsLevel square items b.level
+  pub level : IsLevel quadratic items b.level
 
 -- the vectors of candidates
 abbrev pub vectors : List Candidate → List SpacePoint
@@ -38,16 +38,16 @@ AreCandidates place items candidates = All (λ c. vector_of c.vector ≡ item pl
 
 -- two items are no farther apart than the solver takes
 abbrev pub IsNear : {K P : Type 0} → ℕ → (P → SpacePoint) → Items K P → Id → Id → Type 0
-IsNear dim place items a b = IsVectorWithin (reach dim) (vector (item place items a) (item place items b))
+IsNear dim place items a b = IsVectorWithin (difference_limit dim) (vector (item place items a) (item place items b))
 
 -- the supports on the chosen candidates, none of all candidates being low under them
-pub record IsFound (dim : ℕ) (square : ℤ) (all chosen : List Candidate) (b : Balance) : Type 0 where
+pub record IsFound (dim : ℕ) (quadratic : ℤ) (all chosen : List Candidate) (b : Balance) : Type 0 where
   pub is_part : IsPart chosen all
   pub named : names b.held.items ≡ candidate_names chosen
-  pub balance : IsBalance dim square (weighted (weights b.held.items) (vectors chosen)) b
-  pub none_low : All (λ v. ¬ IsLow square (weighted (weights b.held.items) (vectors chosen)) v) (vectors all)
+  pub balance : IsBalance dim quadratic (weighted (weights b.held.items) (vectors chosen)) b
+  pub none_low : All (λ v. ¬ IsLow quadratic (weighted (weights b.held.items) (vectors chosen)) v) (vectors all)
 
 -- each part that begins with the chosen ones and goes on with some of the rest is refuted
 abbrev pub AreRefuted : ℤ → List Candidate → List Candidate → List Candidate → Type 0
-AreRefuted square all chosen rest =
-    (more : List Candidate) → IsPart more rest → 1 ≤ length (chosen ++ more) → IsRefuted square (vectors all) (vectors (chosen ++ more))
+AreRefuted quadratic all chosen rest =
+    (more : List Candidate) → IsPart more rest → 1 ≤ length (chosen ++ more) → IsRefuted quadratic (vectors all) (vectors (chosen ++ more))

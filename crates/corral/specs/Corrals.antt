@@ -1,7 +1,7 @@
--- What a corral holds, and items of least potential.
+-- What a corral holds, and items of least slack.
 use Rattle.std.specs.Prelude.{List}
 use Rattle.bounds_model.specs.Space.{SpacePoint}
-use Rattle.bounds_model.specs.Potentials.{WeightedVector}
+use Rattle.bounds_model.specs.Slacks.{WeightedVector}
 use Rattle.corral.specs.declared.items.Items.{Items}
 use Rattle.corral.specs.declared.support.WeightedItem.{WeightedItem}
 use Rattle.corral.specs.declared.unsettled.Corral.{Corral}

@@ -27,7 +27,7 @@ abbrev pub second_points : {K P : Type 0} → Items K P → List P
 second_points (Points cloud) = points_of cloud
 second_points (Differences p q) = points_of q
 
--- points come with the potential of balls, and differences with that of distances
+-- points come with the slack of balls, and differences with that of distances
 abbrev pub square_of : {K P : Type 0} → Items K P → ℤ
 square_of (Points cloud) = pos 1
 square_of (Differences p q) = pos 0

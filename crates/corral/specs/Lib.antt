@@ -8,4 +8,4 @@ pub mod Supported
 pub mod Moments
 pub mod Balances
 pub mod Corrals
-pub mod Lowest
+pub mod LeastSlacks

@@ -3,7 +3,7 @@ use Rattle.std.specs.Prelude.{ℕ, ◌+◌, ℤ, pos, List, All, map}
 use Rattle.std.specs.Coded.{le_prop}
 use Rattle.bounds_model.specs.Numbers.{HasCount}
 use Rattle.bounds_model.specs.Space.{SpacePoint}
-use Rattle.bounds_model.specs.Potentials.{WeightedVector}
+use Rattle.bounds_model.specs.Slacks.{WeightedVector}
 use Rattle.corral.specs.declared.items.Id.{Id}
 use Rattle.corral.specs.declared.items.Items.{Items}
 use Rattle.corral.specs.declared.support.WeightedItem.{WeightedItem}

@@ -14,7 +14,7 @@ pub struct Id {
     pub second: u32,
 }
 
-/// The vectors that potentials are asked of.
+/// The vectors that slacks are asked of.
 pub enum Items<'a, K: Kernel> {
     /// Each point as seen from point 0: item (i, i) is the vector from point 0 to point i.
     Points(Cloud<'a, K::P>),

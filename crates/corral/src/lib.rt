@@ -2,17 +2,17 @@
 //!
 //! - `items`: the items that supports are chosen from, points or differences of points
 //! - `support`: weighted items
-//! - `sums`: what potentials are computed from
+//! - `sums`: what slacks are computed from
 //! - `search`: the part of a few items whose supports settle them
 //! - `unsettled`: supports that are exchanged for greater ones
-//! - `lowest`: an item of least potential
+//! - `least_slack`: an item of least slack
 //! - `settling`: the exchange until no item is low
 //! - `laws`: why an exchange finds its supports, why their value rises, and why that ends
 #![tactic(auto)]
 
 mod items;
 pub mod laws;
-mod lowest;
+mod least_slack;
 mod search;
 mod settling;
 mod sums;

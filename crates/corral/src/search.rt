@@ -2,12 +2,12 @@
 ghost use Rattle.std.specs.Prelude.{◌≡◌, ◌↔◌, pos, ◌^◌, ◌≤◌, ◌≤ℤ◌, ◌++◌, [], All, length, map, take, IsNone, IfSome, IsTrue};
 ghost use Rattle.integers.specs.Total.{total};
 ghost use Rattle.kernel_laws.specs.Vectors.{vectors_of};
-ghost use Rattle.kernel_laws.specs.Limits.{IsVectorWithin, reach};
+ghost use Rattle.kernel_laws.specs.Limits.{IsVectorWithin, difference_limit};
 ghost use Rattle.kernel_laws.specs.Solutions.{AreItems, weighted};
 ghost use Rattle.corral.specs.Parts.{IsPart};
 ghost use Rattle.corral.specs.Supports.{IsRefuted};
 ghost use Rattle.corral.specs.WeightedItems.{names, weights as weights_of};
-ghost use Rattle.corral.specs.Moments.{AreMoments, AreWithin, potential_at};
+ghost use Rattle.corral.specs.Moments.{AreMoments, AreWithin, slack_at};
 ghost use Rattle.corral.specs.Balances.{vectors as vectors_in, candidate_names, IsFound, AreRefuted};
 
 use crate::items::Id;
@@ -40,12 +40,12 @@ impl Default for Candidate {
     }
 }
 
-/// Items with weights under which they have one potential, and what potentials are computed from.
+/// Items with weights under which they have one slack, and what slacks are computed from.
 #[derive(Drop)]
 pub(crate) struct Balance {
     pub(crate) held: ArrayVec<WeightedItem, 4>,
     pub(crate) moments: Moments,
-    /// The potential of each of the items.
+    /// The slack of each of the items.
     pub(crate) level: i128,
 }
 
@@ -101,7 +101,7 @@ fn settled<K: Kernel, T: Potential>(
         return None;
     }
     let moments = moments(weights, vectors);
-    let level = moments.potential::<K, T>(kernel, vectors[0]);
+    let level = moments.slack::<K, T>(kernel, vectors[0]);
     if !are_above::<K, T>(kernel, all, moments, level) {
         return None;
     }
@@ -145,7 +145,7 @@ fn moments(weights: &[i128], vectors: &[Vector]) -> Moments
     }
 }
 
-/// Whether no candidate has a potential below this one.
+/// Whether no candidate has a slack below this one.
 fn are_above<K: Kernel, T: Potential>(
     kernel: &K,
     all: &[Candidate],
@@ -153,11 +153,11 @@ fn are_above<K: Kernel, T: Potential>(
     level: i128,
 ) -> bool
     requires within { AreWithin T.SQUARE K.DIM moments }
-    requires vectors { All (IsVectorWithin (reach K.DIM)) (vectors_in all.now) }
-    ensures { IsTrue result ↔ All (λ v. level ≤ℤ potential_at T.SQUARE moments v) (vectors_in all.now) }
+    requires vectors { All (IsVectorWithin (difference_limit K.DIM)) (vectors_in all.now) }
+    ensures { IsTrue result ↔ All (λ v. level ≤ℤ slack_at T.SQUARE moments v) (vectors_in all.now) }
 {
     for candidate in all {
-        if moments.potential::<K, T>(kernel, candidate.vector) < level {
+        if moments.slack::<K, T>(kernel, candidate.vector) < level {
             return false;
         }
     }

@@ -1,6 +1,6 @@
 //! The exchange until no item is low.
 ghost use Rattle.std.specs.Prelude.{◌≡◌, ◌≤ℤ◌, pos};
-ghost use Rattle.bounds_model.specs.Potentials.{mass, IsLow};
+ghost use Rattle.bounds_model.specs.Slacks.{mass, IsLow};
 ghost use Rattle.kernel_laws.specs.Solutions.{weight_limit};
 ghost use Rattle.corral.specs.Items.{IsItem, item, square_of};
 ghost use Rattle.corral.specs.WeightedItems.{AreSupportItems, weighted_items};
@@ -12,7 +12,7 @@ use crate::support::Support;
 use crate::unsettled::Corral;
 use kernel_laws::{Kernel, Potential};
 
-/// Supports under which no item is low. It begins with an item that is lowest under the first one, so that the first exchange
+/// Supports under which no item is low. It begins with an item of least slack under the first one, so that the first exchange
 /// finds two items that lie far apart.
 pub fn settle<'a, K: Kernel, T: Potential>(kernel: K, items: Items<'a, K>) -> Support<'a, K>
     requires { T.SQUARE ≡ square_of items }

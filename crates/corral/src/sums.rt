@@ -1,14 +1,14 @@
-//! What potentials are computed from.
+//! What slacks are computed from.
 ghost use Rattle.std.specs.Prelude.{◌≡◌, ◌↔◌, ◌^◌, ◌+ℤ◌, pos, IsTrue};
 ghost use Rattle.integers.specs.Size.{Size};
 ghost use Rattle.bounds_model.specs.Space.{origin, plus, times, dot as product};
 ghost use Rattle.kernel_laws.specs.Vectors.{vector_of, sum_of};
-ghost use Rattle.kernel_laws.specs.Limits.{IsVectorWithin, reach};
-ghost use Rattle.corral.specs.Moments.{potential_at, AreWithin, AreNarrow};
+ghost use Rattle.kernel_laws.specs.Limits.{IsVectorWithin, difference_limit};
+ghost use Rattle.corral.specs.Moments.{slack_at, AreWithin, AreNarrow};
 
 use kernel_laws::{Kernel, Potential, Sum, Vector};
 
-/// The greatest sum of weights, and the greatest coordinate of a weighted sum, for which potentials are computed in 64 bits.
+/// The greatest sum of weights, and the greatest coordinate of a weighted sum, for which slacks are computed in 64 bits.
 const MOST_NARROW_MASS: u128 = 1 << 20;
 
 const MOST_NARROW_SUM: u128 = 1 << 40;
@@ -54,7 +54,7 @@ impl Moments {
     /// The product of a vector with the weighted sum.
     pub(crate) fn along<K: Kernel, T: Potential>(self, v: Vector) -> i128
         requires within { AreWithin T.SQUARE K.DIM self }
-        requires vector { IsVectorWithin (reach K.DIM) (vector_of v) }
+        requires vector { IsVectorWithin (difference_limit K.DIM) (vector_of v) }
         ensures { result ≡ product (vector_of v) (sum_of self.sum) }
     {
         if self.are_narrow() {
@@ -63,19 +63,19 @@ impl Moments {
         self.wide_along::<K, T>(v)
     }
 
-    /// The potential of a vector.
-    pub(crate) fn potential<K: Kernel, T: Potential>(self, kernel: &K, v: Vector) -> i128
+    /// The slack of a vector.
+    pub(crate) fn slack<K: Kernel, T: Potential>(self, kernel: &K, v: Vector) -> i128
         requires within { AreWithin T.SQUARE K.DIM self }
-        requires vector { IsVectorWithin (reach K.DIM) (vector_of v) }
-        ensures { result ≡ potential_at T.SQUARE self (vector_of v) }
+        requires vector { IsVectorWithin (difference_limit K.DIM) (vector_of v) }
+        ensures { result ≡ slack_at T.SQUARE self (vector_of v) }
     {
         if self.are_narrow() {
-            return self.narrow_potential::<T>(v) as i128;
+            return self.narrow_slack::<T>(v) as i128;
         }
-        self.wide_potential::<K, T>(kernel, v)
+        self.wide_slack::<K, T>(kernel, v)
     }
 
-    /// Whether potentials fit 64 bits. Sums of one or two vectors mostly do.
+    /// Whether slacks fit 64 bits. Sums of one or two vectors mostly do.
     fn are_narrow(self) -> bool
         ensures { IsTrue result ↔ AreNarrow self }
     {
@@ -101,30 +101,30 @@ impl Moments {
         v.x * self.sum.x as i64 + v.y * self.sum.y as i64 + v.z * self.sum.z as i64
     }
 
-    /// The potential in 64 bits.
-    fn narrow_potential<T: Potential>(self, v: Vector) -> i64
+    /// The slack in 64 bits.
+    fn narrow_slack<T: Potential>(self, v: Vector) -> i64
         requires narrow { AreNarrow self }
         requires vector { IsVectorWithin 400000 (vector_of v) }
-        ensures { result ≡ potential_at T.SQUARE self (vector_of v) }
+        ensures { result ≡ slack_at T.SQUARE self (vector_of v) }
     {
-        let square = v.x * v.x + v.y * v.y + v.z * v.z;
-        2 * self.narrow_along(v) - T::SQUARE as i64 * (self.mass as i64 * square)
+        let squared_length = v.x * v.x + v.y * v.y + v.z * v.z;
+        2 * self.narrow_along(v) - T::SQUARE as i64 * (self.mass as i64 * squared_length)
     }
 
     /// The product with the weighted sum, in 128 bits.
     fn wide_along<K: Kernel, T: Potential>(self, v: Vector) -> i128
         requires within { AreWithin T.SQUARE K.DIM self }
-        requires vector { IsVectorWithin (reach K.DIM) (vector_of v) }
+        requires vector { IsVectorWithin (difference_limit K.DIM) (vector_of v) }
         ensures { result ≡ product (vector_of v) (sum_of self.sum) }
     {
         v.x as i128 * self.sum.x + v.y as i128 * self.sum.y + v.z as i128 * self.sum.z
     }
 
-    /// The potential in 128 bits.
-    fn wide_potential<K: Kernel, T: Potential>(self, kernel: &K, v: Vector) -> i128
+    /// The slack in 128 bits.
+    fn wide_slack<K: Kernel, T: Potential>(self, kernel: &K, v: Vector) -> i128
         requires within { AreWithin T.SQUARE K.DIM self }
-        requires vector { IsVectorWithin (reach K.DIM) (vector_of v) }
-        ensures { result ≡ potential_at T.SQUARE self (vector_of v) }
+        requires vector { IsVectorWithin (difference_limit K.DIM) (vector_of v) }
+        ensures { result ≡ slack_at T.SQUARE self (vector_of v) }
     {
         2 * self.wide_along::<K, T>(v) - T::SQUARE * (self.mass * kernel.dot(v, v))
     }

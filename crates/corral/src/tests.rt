@@ -158,23 +158,23 @@ fn sums(supports: &[Weighted]) -> (i64, Place) {
     (mass, sum)
 }
 
-/// The potential, by its definition.
-fn potential(square: i64, supports: &[Weighted], v: Place) -> i64 {
+/// The slack, by its definition.
+fn slack(quadratic: i64, supports: &[Weighted], v: Place) -> i64 {
     let (mass, sum) = sums(supports);
     product(v, sum)
         .wrapping_mul(2)
-        .wrapping_sub(square.wrapping_mul(mass).wrapping_mul(product(v, v)))
+        .wrapping_sub(quadratic.wrapping_mul(mass).wrapping_mul(product(v, v)))
 }
 
-/// Whether all supports have a weight of at least 1 and one potential, and this vector has none below it.
-fn settle_one(square: i64, supports: &[Weighted], v: Place) -> bool {
+/// Whether all supports have a weight of at least 1 and one slack, and this vector has none below it.
+fn settle_one(quadratic: i64, supports: &[Weighted], v: Place) -> bool {
     let mut all = !supports.is_empty();
     for s in supports {
-        let level = potential(square, supports, s.vector);
+        let level = slack(quadratic, supports, s.vector);
         all = all
             && s.weight >= 1
-            && level == potential(square, supports, supports[0].vector)
-            && potential(square, supports, v) >= level;
+            && level == slack(quadratic, supports, supports[0].vector)
+            && slack(quadratic, supports, v) >= level;
     }
     all
 }

@@ -1,6 +1,6 @@
 //! Supports that are exchanged for greater ones.
 ghost use Rattle.std.specs.Prelude.{◌≡◌, ◌↔◌, ◌≤ℤ◌, pos, [], ◌∷◌, All, IsTrue};
-ghost use Rattle.bounds_model.specs.Potentials.{potential, IsLow, value};
+ghost use Rattle.bounds_model.specs.Slacks.{slack, IsLow, value};
 ghost use Rattle.exact_fractions.specs.Order.{IsBelow};
 ghost use Rattle.kernel_laws.specs.Vectors.{vector_of};
 ghost use Rattle.kernel_laws.specs.Limits.{IsDifference};
@@ -11,7 +11,7 @@ ghost use Rattle.corral.specs.WeightedItems.{AreSupportItems, AreSupportItems-pr
 ghost use Rattle.corral.specs.Balances.{IsBalance, vectors, candidate_names, AreCandidates, IsNear};
 
 use crate::items::{Id, Items};
-use crate::lowest::{lowest_difference, lowest_point};
+use crate::least_slack::{difference_of_least_slack, point_of_least_slack};
 use crate::search::{Balance, Candidate, search};
 use crate::sums::Moments;
 use crate::support::{Support, WeightedItem};
@@ -20,13 +20,13 @@ use kernel_laws::{Kernel, Potential};
 use std::marker::PhantomData;
 
 /// Supports on the way to those that settle all items: 1 to DIM + 1 affinely independent items with weights of at least 1,
-/// under which they have one potential.
+/// under which they have one slack.
 #[derive(Drop)]
 pub struct Corral<'a, K: Kernel, T: Potential> {
     kernel: K,
     items: Items<'a, K>,
     balance: Balance,
-    potential: PhantomData<T>,
+    slack: PhantomData<T>,
     ghost suited: { T.SQUARE ≡ square_of items },
     ghost held: { AreSupportItems K.DIM items balance.held.items } by { AreSupportItems-prop K.DIM items balance.held.items },
     ghost balanced: { IsBalance K.DIM T.SQUARE (weighted_items K.place items balance.held.items) balance },
@@ -46,7 +46,7 @@ impl<'a, K: Kernel, T: Potential> Corral<'a, K, T> {
     {
         let vector = items.vector(&kernel, id);
         let moments = Moments::none().with(1, vector);
-        let level = moments.potential::<K, T>(&kernel, vector);
+        let level = moments.slack::<K, T>(&kernel, vector);
         let mut held = ArrayVec::new();
         held.push(WeightedItem { id, weight: 1 });
         Corral {
@@ -57,34 +57,34 @@ impl<'a, K: Kernel, T: Potential> Corral<'a, K, T> {
                 moments,
                 level,
             },
-            potential: PhantomData,
+            slack: PhantomData,
         }
     }
 
-    /// An item of least potential. This is one pass over the points of each cloud.
+    /// An item of least slack. This is one pass over the points of each cloud.
     pub fn lowest(&self) -> Id
         ensures item { IsItem (all_items self.now) result }
         ensures least { (other : _) → IsItem (all_items self.now) other
-            → potential T.SQUARE (supports_in K.place self.now) (item K.place (all_items self.now) result) ≤ℤ potential T.SQUARE
+            → slack T.SQUARE (supports_in K.place self.now) (item K.place (all_items self.now) result) ≤ℤ slack T.SQUARE
             (supports_in K.place self.now) (item K.place (all_items self.now) other) }
     {
         match self.items {
             Items::Points(cloud) => {
-                lowest_point::<K, T>(&self.kernel, cloud, self.balance.moments)
+                point_of_least_slack::<K, T>(&self.kernel, cloud, self.balance.moments)
             }
             Items::Differences(p, q) => {
-                lowest_difference::<K, T>(&self.kernel, p, q, self.balance.moments)
+                difference_of_least_slack::<K, T>(&self.kernel, p, q, self.balance.moments)
             }
         }
     }
 
-    /// Whether an item's potential is below that of the supports.
+    /// Whether an item's slack is below that of the supports.
     pub fn is_low(&self, id: Id) -> bool
         requires { IsItem (all_items self.now) id }
         ensures { IsTrue result ↔ IsLow T.SQUARE (supports_in K.place self.now) (item K.place (all_items self.now) id) }
     {
         let vector = self.items.vector(&self.kernel, id);
-        self.balance.moments.potential::<K, T>(&self.kernel, vector) < self.balance.level
+        self.balance.moments.slack::<K, T>(&self.kernel, vector) < self.balance.level
     }
 
     /// Takes a low item in: it keeps supports among this item and the old ones under which none of these is low.

@@ -84,9 +84,9 @@ areas-more ways i old new h more = record {
     inside : (x y j k : ℕ) → j < k → x + k ≤ y → x + j < y
     inside x y j k h l = omega arith
 
--- the same reach, with areas that are the same
-pub reach-as : (f g : ℕ → ℤ) (before : List ℤ) (i : ℕ) (u : ℤ) → ((j : ℕ) → j < i → f j ≡ g j) → IsBestSum f before i u → IsBestSum g before i u
-reach-as f g before i u same r = record {
+-- the same best sum, with areas that are the same
+pub best_sum-as : (f g : ℕ → ℤ) (before : List ℤ) (i : ℕ) (u : ℤ) → ((j : ℕ) → j < i → f j ≡ g j) → IsBestSum f before i u → IsBestSum g before i u
+best_sum-as f g before i u same r = record {
   not_negative = r.not_negative;
   grows = λ j low. subst (λ z. (at before j +ℤ z) ≤ℤ u) (same j low) (r.grows j low);
   reached = elim r.reached [

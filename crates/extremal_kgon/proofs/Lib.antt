@@ -6,7 +6,7 @@ pub mod Tails
 pub mod HullCorners
 pub mod PassingPolygons
 pub mod Reading
-pub mod Reaching
+pub mod BestSums
 pub mod NextRows
 pub mod FewCorners
 pub mod AreaLists

@@ -12,11 +12,11 @@ pub record IsRowSoFar (ways : List PlanePoint) (before row : List ℤ) (i : ℕ)
 
 -- one number more
 pub row-more : (ways : List PlanePoint) (before row pushed : List ℤ) (i : ℕ) (u : ℤ) → IsRowSoFar ways before row i → IsBestSum (area_at ways i) before i u → pushed ≡ row ++ u ∷ [] → IsRowSoFar ways before pushed (i + 1)
-row-more ways before row pushed i u r reach is = subst (λ p. IsRowSoFar ways before p (i + 1)) (sym is) (record {
+row-more ways before row pushed i u r best_sum is = subst (λ p. IsRowSoFar ways before p (i + 1)) (sym is) (record {
   as_many = length_push row u ∙ ap (λ n. n + 1) r.as_many;
   each = λ k low. elim (below_or_at k i low) [
     | inl less ↦ subst (IsBestSum (area_at ways k) before k) (sym (get_or_append_left row (u ∷ []) (pos 0) k (in_row less r.as_many))) (r.each k less)
-    | inr same ↦ subst (λ n. IsBestSum (area_at ways n) before n (at (row ++ u ∷ []) n)) (sym same) (subst (IsBestSum (area_at ways i) before i) (sym (get_or_push row u (pos 0) i r.as_many)) reach)
+    | inr same ↦ subst (λ n. IsBestSum (area_at ways n) before n (at (row ++ u ∷ []) n)) (sym same) (subst (IsBestSum (area_at ways i) before i) (sym (get_or_push row u (pos 0) i r.as_many)) best_sum)
   ];
 })
   where

@@ -66,8 +66,8 @@ potential-new : (corners : List PlanePoint) (layers : ℕ) (us row : List ℤ) (
     → ((last : ℕ) → first < last → last < length corners → at before (last - first - 1) ≡ held (length corners) layers us first layer last)
     → AreWays corners first ways → IsNextRow (map vector_of ways) before row → length row ≡ length ways → (last : ℕ) → first < last → last < length corners → IsPotential corners layers (us ++ row) first layer last
 potential-new corners layers us row first layer before ways as_many in_row w next same last h k = record {
-  grows = λ m l n. subst (λ z. z ≤ℤ held (length corners) layers (us ++ row) first (layer + 1) last) (sym (sum_is m l n)) (subst (λ z. (at before (m - first - 1) +ℤ area_at (map vector_of ways) (last - first - 1) (m - first - 1)) ≤ℤ z) (sym here) (reach.grows (m - first - 1) (earlier l n)));
-  reached = elim reach.reached [
+  grows = λ m l n. subst (λ z. z ≤ℤ held (length corners) layers (us ++ row) first (layer + 1) last) (sym (sum_is m l n)) (subst (λ z. (at before (m - first - 1) +ℤ area_at (map vector_of ways) (last - first - 1) (m - first - 1)) ≤ℤ z) (sym here) (best_sum.grows (m - first - 1) (earlier l n)));
+  reached = elim best_sum.reached [
     | inl none ↦ inl (here ∙ none)
     | inr some ↦ inr (
       first + 1 + some.0,
@@ -83,8 +83,8 @@ potential-new corners layers us row first layer before ways as_many in_row w nex
     in_ways : {m : ℕ} → first < m → m < length corners → m - first - 1 < length ways
     in_ways h k = omega (arith, w.as_many)
 
-    reach : IsBestSum (area_at (map vector_of ways) (last - first - 1)) before (last - first - 1) (at row (last - first - 1))
-    reach = next.each (last - first - 1) (subst (λ n. last - first - 1 < n) (sym same) (in_ways h k))
+    best_sum : IsBestSum (area_at (map vector_of ways) (last - first - 1)) before (last - first - 1) (at row (last - first - 1))
+    best_sum = next.each (last - first - 1) (subst (λ n. last - first - 1 < n) (sym same) (in_ways h k))
 
     here : held (length corners) layers (us ++ row) first (layer + 1) last ≡ at row (last - first - 1)
     here = held-row (length corners) layers us row first layer last h as_many

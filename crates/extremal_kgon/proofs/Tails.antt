@@ -6,7 +6,7 @@ use Rattle.std.proofs.lemmas.Int.{ints}
 use Rattle.std.proofs.lemmas.List.Elements.{All-nil, All-cons}
 use native.Mathlib.Nat.{mul-le-mul_right}
 use Rattle.bounds_model.specs.Plane.{PlanePoint, point_at}
-use Rattle.bounds_model.specs.Kgon.{fan_area}
+use Rattle.bounds_model.specs.Kgon.{triangulated_area}
 use Rattle.extremal_kgon.specs.declared.table.Best.{Best}
 use Rattle.extremal_kgon.specs.Rows.{at}
 use Rattle.extremal_kgon.specs.Tables.{place, ending, held, IsTriangleMore, StandsAt, IsTable}
@@ -21,7 +21,7 @@ pub record IsTail (corners : List PlanePoint) (layers : ℕ) (us : List ℤ) (fi
   pub some : 1 ≤ layers
   pub few : length positions + layer ≤ layers + 1
   pub begins : (rest : List ℕ) × (positions ≡ last ∷ rest)
-  pub sum : (held (length corners) layers us first layer last +ℤ fan_area (point_at corners first) (map (point_at corners) positions)) ≡ area
+  pub sum : (held (length corners) layers us first layer last +ℤ triangulated_area (point_at corners first) (map (point_at corners) positions)) ≡ area
   pub rising : IsStrictlyIncreasing positions
   pub in_range : All (λ i. i < length corners) positions
 
@@ -83,9 +83,9 @@ tail-more corners layers us first layer last middle positions more area t in_one
   some = t.some;
   few = omega (arith, t.few, in_one);
   begins = (positions, refl);
-  sum = ap (λ ps. held (length corners) layers us first (layer - 1) middle +ℤ fan_area (point_at corners first) (map (point_at corners) (middle ∷ ps))) t.begins.1
+  sum = ap (λ ps. held (length corners) layers us first (layer - 1) middle +ℤ triangulated_area (point_at corners first) (map (point_at corners) (middle ∷ ps))) t.begins.1
       ∙ regroup _ _ _ _ (ap (λ l. held (length corners) layers us first l last) (sym (again in_one)) ∙ m.sum)
-      ∙ ap (λ ps. held (length corners) layers us first layer last +ℤ fan_area (point_at corners first) (map (point_at corners) ps)) (sym t.begins.1) ∙ t.sum;
+      ∙ ap (λ ps. held (length corners) layers us first layer last +ℤ triangulated_area (point_at corners first) (map (point_at corners) ps)) (sym t.begins.1) ∙ t.sum;
   rising = subst (λ ps. IsStrictlyIncreasing (middle ∷ ps)) (sym t.begins.1) (rising-cons middle last t.begins.0 m.before (subst IsStrictlyIncreasing t.begins.1 t.rising));
   in_range = All-cons (λ i. i < length corners) middle positions (omega (arith, m.before, t.below)) t.in_range;
 })

@@ -24,7 +24,7 @@ pub(crate) fn zero_row(count: usize) -> Row
 
 /// The greatest of 0 and of what each earlier corner's potential and the triangle that it makes with the one at this place come to. The
 /// areas of those triangles begin at `start`.
-fn reach(areas: &[i64], start: usize, before: &[i64], i: usize) -> i64
+fn best_sum(areas: &[i64], start: usize, before: &[i64], i: usize) -> i64
     requires end { start + i ≤ length areas.now }
     requires place { i ≤ length before.now }
     requires areas { All (Size (2 ^ 39)) areas.now }
@@ -49,7 +49,7 @@ pub(crate) fn next_row(ways: &[Way], areas: &[i64], before: &[i64]) -> Row
     let mut row = ArrayVec::new();
     let mut start = 0;
     'later: for i in 0..ways.len() {
-        row.push(reach(areas, start, before, i));
+        row.push(best_sum(areas, start, before, i));
         start += i;
     }
     row

@@ -27,15 +27,15 @@ abbrev pub SpaceSizes : ℕ → SpacePoint → SpacePoint → SpacePoint → Spa
 SpaceSizes limit u v w m k = FourSizes limit (k *ℤ dot (cross u v) w) (dot m (cross v w)) (dot m (cross w u)) (dot m (cross u v))
 
 -- the weights, by a centre m / k
-pub space_weighting : (square : ℤ) (limit : ℕ) (a b c d m : SpacePoint) (k : ℤ) (ws : List ℤ)
-    → (let u = vector a b in let v = vector a c in let w = vector a d in pos 2 *ℤ dot u m ≡ k *ℤ right_side square a b → pos 2 *ℤ dot v m ≡ k *ℤ right_side square a c → pos 2 *ℤ dot w m ≡ k *ℤ right_side square a d
-    → Reduces (space_weights u v w m k) ws → pos 0 <ℤ (k *ℤ dot (cross u v) w) → SpaceSizes limit u v w m k → IsWeighting square limit (a ∷ b ∷ c ∷ d ∷ []) ws)
-space_weighting square limit a b c d m k ws hb hc hd reduces some sizes =
+pub space_weighting : (quadratic : ℤ) (limit : ℕ) (a b c d m : SpacePoint) (k : ℤ) (ws : List ℤ)
+    → (let u = vector a b in let v = vector a c in let w = vector a d in pos 2 *ℤ dot u m ≡ k *ℤ right_side quadratic a b → pos 2 *ℤ dot v m ≡ k *ℤ right_side quadratic a c → pos 2 *ℤ dot w m ≡ k *ℤ right_side quadratic a d
+    → Reduces (space_weights u v w m k) ws → pos 0 <ℤ (k *ℤ dot (cross u v) w) → SpaceSizes limit u v w m k → IsWeighting quadratic limit (a ∷ b ∷ c ∷ d ∷ []) ws)
+space_weighting quadratic limit a b c d m k ws hb hc hd reduces some sizes =
     let u : SpacePoint = vector a b in
     let v : SpacePoint = vector a c in
     let w : SpacePoint = vector a d in
-    weighting_of_four square limit a b c d (dot m (cross v w)) (dot m (cross w u)) (dot m (cross u v)) (k *ℤ dot (cross u v) w) ws reduces
-    (solves_three u u v w m k (right_side square a b) hb) (solves_three v u v w m k (right_side square a c) hc) (solves_three w u v w m k (right_side square a d) hd)
+    weighting_of_four quadratic limit a b c d (dot m (cross v w)) (dot m (cross w u)) (dot m (cross u v)) (k *ℤ dot (cross u v) w) ws reduces
+    (solves_three u u v w m k (right_side quadratic a b) hb) (solves_three v u v w m k (right_side quadratic a c) hc) (solves_three w u v w m k (right_side quadratic a d) hd)
     some sizes.sum sizes.first sizes.second sizes.third sizes.fourth
 
 -- ---- balls
@@ -82,8 +82,8 @@ pub record AreNear (a b c d : SpacePoint) : Type 0 where
   pub bd : IsVectorWithin 16000 (vector b d)
 
 -- from the conditions of the solver
-pub are_near : (square : ℤ) (a b c d : SpacePoint) → AreItems square 3 (a ∷ b ∷ c ∷ d ∷ []) → square ≡ pos 1 → AreNear a b c d
-are_near square a b c d items e =
+pub are_near : (quadratic : ℤ) (a b c d : SpacePoint) → AreItems quadratic 3 (a ∷ b ∷ c ∷ d ∷ []) → quadratic ≡ pos 1 → AreNear a b c d
+are_near quadratic a b c d items e =
     let P : SpacePoint → SpacePoint → Type 0 = λ x y. IsVectorWithin 16000 (vector x y) in
     let rows : All (λ x. All (P x) (a ∷ b ∷ c ∷ d ∷ [])) (a ∷ b ∷ c ∷ d ∷ []) = items.near e in
     let from_a : All (P a) (a ∷ b ∷ c ∷ d ∷ []) = All-head (λ x. All (P x) (a ∷ b ∷ c ∷ d ∷ [])) a (b ∷ c ∷ d ∷ []) rows in
@@ -100,23 +100,23 @@ between {n} a b c h = record { x = move a.x b.x c.x h.x; y = move a.y b.y c.y h.
     move a b c s = let e : c -ℤ a -ℤ (b -ℤ a) ≡ c -ℤ b = omega (arith, ints) in subst (Size n) (sym e) s
 
 -- the answer for balls
-pub ball_answer : (square : ℤ) → square ≡ pos 1 → (a b c d : SpacePoint) → AreNear a b c d → (ws : List ℤ)
-    → (let u = vector a b in let v = vector a c in let w = vector a d in let k = pos 2 *ℤ dot (cross u v) w in Reduces (space_weights u v w (ball_centre u v w (right_side square a b) (right_side square a c) (right_side square a d)) k) ws → pos 0 <ℤ (k *ℤ dot (cross u v) w) → IsWeighting square (weight_limit square 3) (a ∷ b ∷ c ∷ d ∷ []) ws)
-ball_answer square one a b c d near ws reduces some =
+pub ball_answer : (quadratic : ℤ) → quadratic ≡ pos 1 → (a b c d : SpacePoint) → AreNear a b c d → (ws : List ℤ)
+    → (let u = vector a b in let v = vector a c in let w = vector a d in let k = pos 2 *ℤ dot (cross u v) w in Reduces (space_weights u v w (ball_centre u v w (right_side quadratic a b) (right_side quadratic a c) (right_side quadratic a d)) k) ws → pos 0 <ℤ (k *ℤ dot (cross u v) w) → IsWeighting quadratic (weight_limit quadratic 3) (a ∷ b ∷ c ∷ d ∷ []) ws)
+ball_answer quadratic one a b c d near ws reduces some =
     let u : SpacePoint = vector a b in
     let v : SpacePoint = vector a c in
     let w : SpacePoint = vector a d in
     let k : ℤ = pos 2 *ℤ dot (cross u v) w in
-    let right : (x : SpacePoint) → squared_length (vector a x) ≡ right_side square a x = λ x. sym (ap (λ q. right_side q a x) one ∙ right_of_ball a x) in
-    let sizes : SpaceSizes (2 ^ 92) u v w (ball_centre u v w (right_side square a b) (right_side square a c) (right_side square a d)) k =
-    subst (λ r. SpaceSizes (2 ^ 92) u v w (ball_centre u v w r (right_side square a c) (right_side square a d)) k) (right b)
-    (subst (λ s. SpaceSizes (2 ^ 92) u v w (ball_centre u v w (squared_length u) s (right_side square a d)) k) (right c)
+    let right : (x : SpacePoint) → squared_length (vector a x) ≡ right_side quadratic a x = λ x. sym (ap (λ q. right_side q a x) one ∙ right_of_ball a x) in
+    let sizes : SpaceSizes (2 ^ 92) u v w (ball_centre u v w (right_side quadratic a b) (right_side quadratic a c) (right_side quadratic a d)) k =
+    subst (λ r. SpaceSizes (2 ^ 92) u v w (ball_centre u v w r (right_side quadratic a c) (right_side quadratic a d)) k) (right b)
+    (subst (λ s. SpaceSizes (2 ^ 92) u v w (ball_centre u v w (squared_length u) s (right_side quadratic a d)) k) (right c)
     (subst (λ t. SpaceSizes (2 ^ 92) u v w (ball_centre u v w (squared_length u) (squared_length v) t) k) (right d)
     (ball_sizes u v w near.ab near.ac near.ad (between a b c near.bc) (between a b d near.bd)))) in
-    let limit : 2 ^ 92 ≡ weight_limit square 3 = sym (ap (λ q. weight_limit q 3) one) in
-    subst (λ l. IsWeighting square l (a ∷ b ∷ c ∷ d ∷ []) ws) limit
-    (space_weighting square (2 ^ 92) a b c d (ball_centre u v w (right_side square a b) (right_side square a c) (right_side square a d)) k ws
-    (centre_first u v w (right_side square a b) (right_side square a c) (right_side square a d)) (centre_second u v w (right_side square a b) (right_side square a c) (right_side square a d)) (centre_third u v w (right_side square a b) (right_side square a c) (right_side square a d)) reduces some sizes)
+    let limit : 2 ^ 92 ≡ weight_limit quadratic 3 = sym (ap (λ q. weight_limit q 3) one) in
+    subst (λ l. IsWeighting quadratic l (a ∷ b ∷ c ∷ d ∷ []) ws) limit
+    (space_weighting quadratic (2 ^ 92) a b c d (ball_centre u v w (right_side quadratic a b) (right_side quadratic a c) (right_side quadratic a d)) k ws
+    (centre_first u v w (right_side quadratic a b) (right_side quadratic a c) (right_side quadratic a d)) (centre_second u v w (right_side quadratic a b) (right_side quadratic a c) (right_side quadratic a d)) (centre_third u v w (right_side quadratic a b) (right_side quadratic a c) (right_side quadratic a d)) reduces some sizes)
 
 -- ---- distances
 
@@ -138,13 +138,13 @@ pub difference_within : (a b : SpacePoint) → IsVectorWithin 16000 a → IsVect
 difference_within a b ha hb = record { x = record { abs = let s = ha.x.abs in let t = hb.x.abs in omega (arith, ints) }; y = record { abs = let s = ha.y.abs in let t = hb.y.abs in omega (arith, ints) }; z = record { abs = let s = ha.z.abs in let t = hb.z.abs in omega (arith, ints) } }
 
 -- the answer for distances
-pub norm_answer : (square : ℤ) → square ≡ pos 0 → (a b c d : SpacePoint) (k : ℤ) → Size 1 k → IsVectorWithin 16000 a → IsVectorWithin 16000 b → IsVectorWithin 16000 c → IsVectorWithin 16000 d → (ws : List ℤ)
-    → (let u = vector a b in let v = vector a c in let w = vector a d in Reduces (space_weights u v w (times (neg_ℤ k) a) k) ws → pos 0 <ℤ (k *ℤ dot (cross u v) w) → IsWeighting square (weight_limit square 3) (a ∷ b ∷ c ∷ d ∷ []) ws)
-norm_answer square none a b c d k hk ha hb hc hd ws reduces some =
-    let right : (x : SpacePoint) → k *ℤ right_side (pos 0) a x ≡ k *ℤ right_side square a x = λ x. ap (λ q. k *ℤ right_side q a x) (sym none) in
-    let limit : 2 ^ 66 ≡ weight_limit square 3 = sym (ap (λ q. weight_limit q 3) none) in
-    subst (λ l. IsWeighting square l (a ∷ b ∷ c ∷ d ∷ []) ws) limit
-    (space_weighting square (2 ^ 66) a b c d (times (neg_ℤ k) a) k ws (origin_solves a b k ∙ right b) (origin_solves a c k ∙ right c) (origin_solves a d k ∙ right d) reduces some
+pub norm_answer : (quadratic : ℤ) → quadratic ≡ pos 0 → (a b c d : SpacePoint) (k : ℤ) → Size 1 k → IsVectorWithin 16000 a → IsVectorWithin 16000 b → IsVectorWithin 16000 c → IsVectorWithin 16000 d → (ws : List ℤ)
+    → (let u = vector a b in let v = vector a c in let w = vector a d in Reduces (space_weights u v w (times (neg_ℤ k) a) k) ws → pos 0 <ℤ (k *ℤ dot (cross u v) w) → IsWeighting quadratic (weight_limit quadratic 3) (a ∷ b ∷ c ∷ d ∷ []) ws)
+norm_answer quadratic none a b c d k hk ha hb hc hd ws reduces some =
+    let right : (x : SpacePoint) → k *ℤ right_side (pos 0) a x ≡ k *ℤ right_side quadratic a x = λ x. ap (λ q. k *ℤ right_side q a x) (sym none) in
+    let limit : 2 ^ 66 ≡ weight_limit quadratic 3 = sym (ap (λ q. weight_limit q 3) none) in
+    subst (λ l. IsWeighting quadratic l (a ∷ b ∷ c ∷ d ∷ []) ws) limit
+    (space_weighting quadratic (2 ^ 66) a b c d (times (neg_ℤ k) a) k ws (origin_solves a b k ∙ right b) (origin_solves a c k ∙ right c) (origin_solves a d k ∙ right d) reduces some
     (norm_sizes k a (vector a b) (vector a c) (vector a d) hk ha (difference_within a b ha hb) (difference_within a c ha hc) (difference_within a d ha hd)))
 
 -- equal parts give equal weights

@@ -5,7 +5,7 @@ use Rattle.std.proofs.lemmas.List.Elements.{All-nil, All-cons}
 use Rattle.integers.proofs.Identities.{den-ring, read, polys, lits}
 use Rattle.integers.proofs.Order.{combine2, combine3, same_of_mul, square_positive}
 use Rattle.bounds_model.specs.Space.{SpacePoint, vector, dot, squared_length}
-use Rattle.bounds_model.specs.Potentials.{IsDependence, AreAffinelyDependent}
+use Rattle.bounds_model.specs.Slacks.{IsDependence, AreAffinelyDependent}
 use Rattle.kernel_laws.specs.Systems.{cross}
 
 zero_product : (k y : ℤ) → pos 0 <ℤ k → k *ℤ y ≡ k *ℤ pos 0 → y ≡ pos 0

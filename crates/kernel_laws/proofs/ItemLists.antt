@@ -6,12 +6,12 @@ use Rattle.std.proofs.lemmas.Int.{ints}
 use Rattle.std.proofs.lemmas.List.Elements.{All-head, All-tail}
 use Rattle.std.proofs.Math.Nat.{eq-one_of_dvd-one}
 use Rattle.bounds_model.specs.Space.{SpacePoint}
-use Rattle.bounds_model.specs.Potentials.{AreAffinelyDependent}
+use Rattle.bounds_model.specs.Slacks.{AreAffinelyDependent}
 use Rattle.kernel_laws.specs.declared.vectors.Vector.{Vector}
 use Rattle.kernel_laws.specs.declared.solver.Solved.{Solved}
 use Rattle.kernel_laws.specs.declared.solver.Solved.TheVariants.{Weights, Null}
 use Rattle.kernel_laws.specs.Vectors.{vector_of, vectors_of}
-use Rattle.kernel_laws.specs.Limits.{IsVectorWithin, IsDifference, reach}
+use Rattle.kernel_laws.specs.Limits.{IsVectorWithin, IsDifference, difference_limit}
 use Rattle.kernel_laws.specs.Solutions.{IsWeighting, AreItems, Reduces}
 use Rattle.kernel_laws.specs.Answers.{Answers, IsNull, Shows}
 use Rattle.kernel_laws.proofs.SideLimits.{more_within}
@@ -66,8 +66,8 @@ five_items (a ∷ b ∷ c ∷ x ∷ y ∷ z ∷ xs) d e = absurd (omega arith)
 
 -- a difference in either dimension
 pub any_within : (dim : ℕ) (v : SpacePoint) → (dim ≡ 2) ⊎ (dim ≡ 3) → IsDifference dim v → IsVectorWithin 400000 v
-any_within dim v (inl e) h = subst (λ d. IsVectorWithin (reach d) v) e h.within
-any_within dim v (inr e) h = more_within (omega arith) (subst (λ d. IsVectorWithin (reach d) v) e h.within)
+any_within dim v (inl e) h = subst (λ d. IsVectorWithin (difference_limit d) v) e h.within
+any_within dim v (inr e) h = more_within (omega arith) (subst (λ d. IsVectorWithin (difference_limit d) v) e h.within)
 
 -- the element at place 0
 pub at_0 : (P : SpacePoint → Type 0) (a : SpacePoint) (vs : List SpacePoint) → All P (a ∷ vs) → P a
@@ -92,15 +92,15 @@ at_4 P a b c d e vs h = at_3 P b c d e vs (All-tail P a (b ∷ c ∷ d ∷ e ∷
 -- ---- answers
 
 -- one vector has the weight 1
-pub one_weight : (square : ℤ) (limit : ℕ) (a : SpacePoint) → 1 ≤ limit → IsWeighting square limit (a ∷ []) (pos 1 ∷ [])
-one_weight square limit a h =
+pub one_weight : (quadratic : ℤ) (limit : ℕ) (a : SpacePoint) → 1 ≤ limit → IsWeighting quadratic limit (a ∷ []) (pos 1 ∷ [])
+one_weight quadratic limit a h =
     let reduces : Reduces (pos 1 ∷ []) (pos 1 ∷ []) = record { factor = 1; positive = omega arith; scaled = refl; no_factor = λ k all. eq-one_of_dvd-one (All-head (λ e. k ∣ nat_abs e) (pos 1) [] all) } in
-    weighting_of_one square limit a (pos 1) (pos 1 ∷ []) reduces (omega (arith, ints)) (record { abs = h })
+    weighting_of_one quadratic limit a (pos 1) (pos 1 ∷ []) reduces (omega (arith, ints)) (record { abs = h })
 
 -- a dependence that is shown is an answer
-pub answer_shown : (square : ℤ) (limit : ℕ) (vs : List SpacePoint) (r : Solved) → Shows vs r → Answers square limit vs r
-answer_shown square limit vs (Weights ws) h = absurd h
-answer_shown square limit vs (Null ns) h = h
+pub answer_shown : (quadratic : ℤ) (limit : ℕ) (vs : List SpacePoint) (r : Solved) → Shows vs r → Answers quadratic limit vs r
+answer_shown quadratic limit vs (Weights ws) h = absurd h
+answer_shown quadratic limit vs (Null ns) h = h
 
 -- and comes where there is one
 pub null_shown : (vs : List SpacePoint) (r : Solved) → Shows vs r → IsNull r ↔ AreAffinelyDependent vs
@@ -120,8 +120,8 @@ five_in_space dim n (inl e) f h = absurd (omega arith)
 five_in_space dim n (inr e) f h = e
 
 -- how many items the solver has, where it has none of 1 to 4
-pub five_count : (square : ℤ) (dim : ℕ) (xs : List Vector) → (dim ≡ 2) ⊎ (dim ≡ 3) → AreItems square dim (vectors_of xs) → (length xs ≡ 1 → ⊥) → (length xs ≡ 2 → ⊥) → (length xs ≡ 3 → ⊥) → (length xs ≡ 4 → ⊥) → length xs ≡ 5
-five_count square dim xs dims h not_one not_two not_three not_four =
+pub five_count : (quadratic : ℤ) (dim : ℕ) (xs : List Vector) → (dim ≡ 2) ⊎ (dim ≡ 3) → AreItems quadratic dim (vectors_of xs) → (length xs ≡ 1 → ⊥) → (length xs ≡ 2 → ⊥) → (length xs ≡ 3 → ⊥) → (length xs ≡ 4 → ⊥) → length xs ≡ 5
+five_count quadratic dim xs dims h not_one not_two not_three not_four =
     let same : length (vectors_of xs) ≡ length xs = length-vectors_of xs in
     five_of dim (length xs) dims (subst (λ n. n ≤ dim + 2) same h.few) (subst (λ n. 1 ≤ n) same h.some) not_one not_two not_three not_four
 
@@ -134,8 +134,8 @@ pub record FiveWithin (a b c d e : SpacePoint) : Type 0 where
   pub fifth : IsVectorWithin 16000 e
 
 -- from the conditions of the solver
-pub five_within : (square : ℤ) (dim : ℕ) (xs : List Vector) (x : Vector) → (dim ≡ 2) ⊎ (dim ≡ 3) → AreItems square dim (vectors_of xs) → length xs ≡ 5 → FiveWithin (vector_of (get_or xs 0 x)) (vector_of (get_or xs 1 x)) (vector_of (get_or xs 2 x)) (vector_of (get_or xs 3 x)) (vector_of (get_or xs 4 x))
-five_within square dim xs x dims h many =
+pub five_within : (quadratic : ℤ) (dim : ℕ) (xs : List Vector) (x : Vector) → (dim ≡ 2) ⊎ (dim ≡ 3) → AreItems quadratic dim (vectors_of xs) → length xs ≡ 5 → FiveWithin (vector_of (get_or xs 0 x)) (vector_of (get_or xs 1 x)) (vector_of (get_or xs 2 x)) (vector_of (get_or xs 3 x)) (vector_of (get_or xs 4 x))
+five_within quadratic dim xs x dims h many =
     let a : SpacePoint = vector_of (get_or xs 0 x) in
     let b : SpacePoint = vector_of (get_or xs 1 x) in
     let c : SpacePoint = vector_of (get_or xs 2 x) in
@@ -143,7 +143,7 @@ five_within square dim xs x dims h many =
     let e : SpacePoint = vector_of (get_or xs 4 x) in
     let three : dim ≡ 3 = five_in_space dim (length xs) dims many (subst (λ n. n ≤ dim + 2) (length-vectors_of xs) h.few) in
     let each : All (IsDifference dim) (a ∷ b ∷ c ∷ d ∷ e ∷ []) = subst (All (IsDifference dim)) (five_items xs x many) h.each in
-    let within : (v : SpacePoint) → IsDifference dim v → IsVectorWithin 16000 v = λ v k. subst (λ n. IsVectorWithin (reach n) v) three k.within in
+    let within : (v : SpacePoint) → IsDifference dim v → IsVectorWithin 16000 v = λ v k. subst (λ n. IsVectorWithin (difference_limit n) v) three k.within in
     record {
       first = within a (at_0 (IsDifference dim) a (b ∷ c ∷ d ∷ e ∷ []) each);
       second = within b (at_1 (IsDifference dim) a b (c ∷ d ∷ e ∷ []) each);

@@ -6,7 +6,7 @@ use Rattle.std.proofs.lemmas.List.Elements.{All-head, All-tail}
 use Rattle.integers.proofs.Identities.{den-ring, read, polys, lits}
 use Rattle.integers.proofs.Order.{combine2}
 use Rattle.bounds_model.specs.Space.{SpacePoint, vector, squared_length}
-use Rattle.bounds_model.specs.Potentials.{IsDependence}
+use Rattle.bounds_model.specs.Slacks.{IsDependence}
 use Rattle.kernel_laws.specs.Limits.{IsVectorWithin, IsDifference}
 use Rattle.kernel_laws.specs.Solutions.{AreItems}
 use Rattle.kernel_laws.specs.Systems.{cross}
@@ -20,8 +20,8 @@ pub record FourItems (dim : ℕ) (a b c d : SpacePoint) : Type 0 where
   pub fourth : IsDifference dim d
 
 -- from the conditions of the solver
-pub four_items : (square : ℤ) (dim : ℕ) (a b c d : SpacePoint) → AreItems square dim (a ∷ b ∷ c ∷ d ∷ []) → FourItems dim a b c d
-four_items square dim a b c d h =
+pub four_items : (quadratic : ℤ) (dim : ℕ) (a b c d : SpacePoint) → AreItems quadratic dim (a ∷ b ∷ c ∷ d ∷ []) → FourItems dim a b c d
+four_items quadratic dim a b c d h =
     let one : All (IsDifference dim) (b ∷ c ∷ d ∷ []) = All-tail (IsDifference dim) a (b ∷ c ∷ d ∷ []) h.each in
     let two : All (IsDifference dim) (c ∷ d ∷ []) = All-tail (IsDifference dim) b (c ∷ d ∷ []) one in
     record { first = All-head (IsDifference dim) a (b ∷ c ∷ d ∷ []) h.each; second = All-head (IsDifference dim) b (c ∷ d ∷ []) one; third = All-head (IsDifference dim) c (d ∷ []) two; fourth = All-head (IsDifference dim) d [] (All-tail (IsDifference dim) c (d ∷ []) two) }
@@ -51,17 +51,17 @@ no_height u v uz vz apart e =
     absurd (omega (arith, ints))
 
 -- four vectors of the plane, not all on a line, with the heights of their cross products
-pub heights_shown : (square : ℤ) (dim : ℕ) (a b c d : SpacePoint) {p q s : ℤ} → AreItems square dim (a ∷ b ∷ c ∷ d ∷ []) → dim ≡ 2 → p ≡ (cross (vector a d) (vector a c)).z → q ≡ (cross (vector a b) (vector a d)).z → s ≡ (cross (vector a b) (vector a c)).z → pos 0 <ℤ squared_length (cross (vector a b) (vector a c)) → IsDependence (a ∷ b ∷ c ∷ d ∷ []) ((s -ℤ p -ℤ q) ∷ p ∷ q ∷ neg_ℤ s ∷ [])
-heights_shown square dim a b c d {p} {q} {s} h two ep eq es apart =
-    let items : FourItems dim a b c d = four_items square dim a b c d h in
+pub heights_shown : (quadratic : ℤ) (dim : ℕ) (a b c d : SpacePoint) {p q s : ℤ} → AreItems quadratic dim (a ∷ b ∷ c ∷ d ∷ []) → dim ≡ 2 → p ≡ (cross (vector a d) (vector a c)).z → q ≡ (cross (vector a b) (vector a d)).z → s ≡ (cross (vector a b) (vector a c)).z → pos 0 <ℤ squared_length (cross (vector a b) (vector a c)) → IsDependence (a ∷ b ∷ c ∷ d ∷ []) ((s -ℤ p -ℤ q) ∷ p ∷ q ∷ neg_ℤ s ∷ [])
+heights_shown quadratic dim a b c d {p} {q} {s} h two ep eq es apart =
+    let items : FourItems dim a b c d = four_items quadratic dim a b c d h in
     let uz : (vector a b).z ≡ pos 0 = flat_height dim a b items.first items.second two in
     let vz : (vector a c).z ≡ pos 0 = flat_height dim a c items.first items.third two in
     let wz : (vector a d).z ≡ pos 0 = flat_height dim a d items.first items.fourth two in
     of_plane_of_four a b c d p q s ep eq es (λ e. no_height (vector a b) (vector a c) uz vz apart (sym es ∙ e)) uz vz wz
 
 -- the bounds of four items of three dimensions
-pub near_items : (square : ℤ) (dim : ℕ) (a b c d : SpacePoint) → AreItems square dim (a ∷ b ∷ c ∷ d ∷ []) → dim ≡ 3 → SpaceItems a b c d
-near_items square dim a b c d h three = space_items a b c d (subst (λ n. FourItems n a b c d) three (four_items square dim a b c d h))
+pub near_items : (quadratic : ℤ) (dim : ℕ) (a b c d : SpacePoint) → AreItems quadratic dim (a ∷ b ∷ c ∷ d ∷ []) → dim ≡ 3 → SpaceItems a b c d
+near_items quadratic dim a b c d h three = space_items a b c d (subst (λ n. FourItems n a b c d) three (four_items quadratic dim a b c d h))
 
 -- the dimension is the plane's where it is not that of space
 pub in_plane : {dim : ℕ} → (dim ≡ 2) ⊎ (dim ≡ 3) → (dim ≡ 3 → ⊥) → dim ≡ 2

@@ -1,4 +1,4 @@
--- Equal potentials of weighted vectors, and of the same weights over a common factor.
+-- Equal slacks of weighted vectors, and of the same weights over a common factor.
 use Rattle.std.proofs.Common.{◌≡◌, refl, sym, ◌∙◌, ap, ap₂, subst, ℕ, suc, ◌*◌, ◌≤◌, ℤ, pos, ◌+ℤ◌, ◌-ℤ◌, ◌*ℤ◌, ◌<ℤ◌, List, [], ◌∷◌, length, map, nat_abs, arith, mul-le-mul}
 use Rattle.std.specs.Prelude.{All}
 use Rattle.std.proofs.lemmas.Int.{ints, unsigned_abs-mul}
@@ -8,7 +8,7 @@ use Rattle.integers.specs.Total.{total}
 use Rattle.integers.proofs.Identities.{den-ring, read, polys, lits}
 use Rattle.integers.proofs.Order.{same_of_mul, lt_of_mul_lt}
 use Rattle.bounds_model.specs.Space.{SpacePoint, plus, times, dot, squared_length}
-use Rattle.bounds_model.specs.Potentials.{mass, moment, potential, AreEqualPotentials}
+use Rattle.bounds_model.specs.Slacks.{mass, moment, slack, AreEqualSlacks}
 use Rattle.kernel_laws.specs.Solutions.{weighted, IsWeighting, Reduces}
 use Rattle.kernel_laws.proofs.Points.{same_point}
 
@@ -45,19 +45,19 @@ moment-scaled k (w ∷ ws) (v ∷ vs) =
     ap (λ s. plus (times (k *ℤ w) v) s) (moment-scaled k ws vs)
     ∙ same_point (one_more k w v.x m.x) (one_more k w v.y m.y) (one_more k w v.z m.z)
 
--- so is each potential
-pub potential-scaled : (square k : ℤ) (ws : List ℤ) (vs : List SpacePoint) (v : SpacePoint) → potential square (weighted (scaled k ws) vs) v ≡ k *ℤ potential square (weighted ws vs) v
-potential-scaled square k ws vs v =
+-- so is each slack
+pub slack-scaled : (quadratic k : ℤ) (ws : List ℤ) (vs : List SpacePoint) (v : SpacePoint) → slack quadratic (weighted (scaled k ws) vs) v ≡ k *ℤ slack quadratic (weighted ws vs) v
+slack-scaled quadratic k ws vs v =
     let s = moment (weighted ws vs) in
     let m = mass (weighted ws vs) in
-    ap₂ (λ s m. pos 2 *ℤ dot v s -ℤ square *ℤ (m *ℤ squared_length v)) (moment-scaled k ws vs) (mass-scaled k ws vs)
-    ∙ read (k ∷ square ∷ m ∷ s.x ∷ s.y ∷ s.z ∷ v.x ∷ v.y ∷ v.z ∷ []) (λ xs a b c d e f g h i. simp (a, b, c, d, e, f, g, h, i, polys, lits xs) (den-ring xs _ _ tt))
+    ap₂ (λ s m. pos 2 *ℤ dot v s -ℤ quadratic *ℤ (m *ℤ squared_length v)) (moment-scaled k ws vs) (mass-scaled k ws vs)
+    ∙ read (k ∷ quadratic ∷ m ∷ s.x ∷ s.y ∷ s.z ∷ v.x ∷ v.y ∷ v.z ∷ []) (λ xs a b c d e f g h i. simp (a, b, c, d, e, f, g, h, i, polys, lits xs) (den-ring xs _ _ tt))
 
--- ---- equal potentials
+-- ---- equal slacks
 
--- all vectors have the potential p
+-- all vectors have the slack p
 abbrev pub IsLevel : ℤ → List ℤ → List SpacePoint → ℤ → Type 0
-IsLevel square ws vs p = All (λ v. potential square (weighted ws vs) v ≡ p) vs
+IsLevel quadratic ws vs p = All (λ v. slack quadratic (weighted ws vs) v ≡ p) vs
 
 -- what holds of each vector holds of each item's
 of_items : (P : SpacePoint → Type 0) (ws : List ℤ) (vs : List SpacePoint) → All P vs → All (λ item. P item.vector) (weighted ws vs)
@@ -70,13 +70,13 @@ mapped P Q [] f h = All-nil Q
 mapped P Q (x ∷ xs) f h = All-cons Q x xs (f x (All-head P x xs h)) (mapped P Q xs f (All-tail P x xs h))
 
 -- weights of which k times each make the vectors level
-pub equal_from_level : (square : ℤ) (k : ℤ) → pos 0 <ℤ k → (ws : List ℤ) (vs : List SpacePoint) (p : ℤ) → IsLevel square (scaled k ws) vs p → AreEqualPotentials square (weighted ws vs)
-equal_from_level square k h ws vs p level =
-    let each : All (λ v. k *ℤ potential square (weighted ws vs) v ≡ p) vs = mapped (λ v. potential square (weighted (scaled k ws) vs) v ≡ p) (λ v. k *ℤ potential square (weighted ws vs) v ≡ p) vs (λ v e. sym (potential-scaled square k ws vs v) ∙ e) level in
-    of_items (λ a. All (λ b. potential square (weighted ws vs) a ≡ potential square (weighted ws vs) b.vector) (weighted ws vs)) ws vs
-    (mapped (λ a. k *ℤ potential square (weighted ws vs) a ≡ p) (λ a. All (λ b. potential square (weighted ws vs) a ≡ potential square (weighted ws vs) b.vector) (weighted ws vs)) vs
-    (λ a e. of_items (λ b. potential square (weighted ws vs) a ≡ potential square (weighted ws vs) b) ws vs
-    (mapped (λ b. k *ℤ potential square (weighted ws vs) b ≡ p) (λ b. potential square (weighted ws vs) a ≡ potential square (weighted ws vs) b) vs (λ b f. same_of_mul k h (e ∙ sym f)) each))
+pub equal_from_level : (quadratic : ℤ) (k : ℤ) → pos 0 <ℤ k → (ws : List ℤ) (vs : List SpacePoint) (p : ℤ) → IsLevel quadratic (scaled k ws) vs p → AreEqualSlacks quadratic (weighted ws vs)
+equal_from_level quadratic k h ws vs p level =
+    let each : All (λ v. k *ℤ slack quadratic (weighted ws vs) v ≡ p) vs = mapped (λ v. slack quadratic (weighted (scaled k ws) vs) v ≡ p) (λ v. k *ℤ slack quadratic (weighted ws vs) v ≡ p) vs (λ v e. sym (slack-scaled quadratic k ws vs v) ∙ e) level in
+    of_items (λ a. All (λ b. slack quadratic (weighted ws vs) a ≡ slack quadratic (weighted ws vs) b.vector) (weighted ws vs)) ws vs
+    (mapped (λ a. k *ℤ slack quadratic (weighted ws vs) a ≡ p) (λ a. All (λ b. slack quadratic (weighted ws vs) a ≡ slack quadratic (weighted ws vs) b.vector) (weighted ws vs)) vs
+    (λ a e. of_items (λ b. slack quadratic (weighted ws vs) a ≡ slack quadratic (weighted ws vs) b) ws vs
+    (mapped (λ b. k *ℤ slack quadratic (weighted ws vs) b ≡ p) (λ b. slack quadratic (weighted ws vs) a ≡ slack quadratic (weighted ws vs) b) vs (λ b f. same_of_mul k h (e ∙ sym f)) each))
     each)
 
 -- ---- weights over their common factor
@@ -101,8 +101,8 @@ positive_part k t p h =
     lt_of_mul_lt (pos k) (omega (arith, ints)) above
 
 -- weights that make the vectors level, within the limit and of positive sum, over their common factor
-pub weighting_from_level : (square : ℤ) (limit : ℕ) (vs : List SpacePoint) (raw ws : List ℤ) (p : ℤ) → Reduces raw ws → length raw ≡ length vs → IsLevel square raw vs p → pos 0 <ℤ total (λ w. w) raw → All (Size limit) raw → Size limit (total (λ w. w) raw) → IsWeighting square limit vs ws
-weighting_from_level square limit vs raw ws p r many level positive sizes size =
+pub weighting_from_level : (quadratic : ℤ) (limit : ℕ) (vs : List SpacePoint) (raw ws : List ℤ) (p : ℤ) → Reduces raw ws → length raw ≡ length vs → IsLevel quadratic raw vs p → pos 0 <ℤ total (λ w. w) raw → All (Size limit) raw → Size limit (total (λ w. w) raw) → IsWeighting quadratic limit vs ws
+weighting_from_level quadratic limit vs raw ws p r many level positive sizes size =
     let k = r.factor in
     let e : scaled (pos k) ws ≡ raw = r.scaled in
     let sum : pos k *ℤ total (λ w. w) ws ≡ total (λ w. w) raw = sym (total-scaled (pos k) ws) ∙ ap (total (λ w. w)) e in
@@ -111,7 +111,7 @@ weighting_from_level square limit vs raw ws p r many level positive sizes size =
       as_many = sym (length-scaled (pos k) ws) ∙ ap length e ∙ many;
       lowest = r.no_factor;
       positive = positive_part k (total (λ w. w) ws) r.positive (subst (λ t. pos 0 <ℤ t) (sym sum) positive);
-      equal = equal_from_level square (pos k) some ws vs p (subst (λ raw. IsLevel square raw vs p) (sym e) level);
+      equal = equal_from_level quadratic (pos k) some ws vs p (subst (λ raw. IsLevel quadratic raw vs p) (sym e) level);
       limited = sizes_of_parts k limit r.positive ws (subst (All (Size limit)) (sym e) sizes);
       sum_limited = size_of_part k (total (λ w. w) ws) (total (λ w. w) raw) limit r.positive sum size;
     }

@@ -68,9 +68,9 @@ pub solid : {a b c d : SpacePoint} {t : ℤ} → Volume a b c d t → (of_z w128
 solid h f e = some_volume h f (h.value ∙ e)
 
 -- the centre of a ball, as code finds it
-pub centre_of : (square : ℤ) (a b c d : SpacePoint) {u v w n x y m : SpacePoint} {r s t : ℤ} → u ≡ vector a b → v ≡ vector a c → w ≡ vector a d → n ≡ cross u v → x ≡ cross v w → y ≡ cross w u → r ≡ right_side square a b → s ≡ right_side square a c → t ≡ right_side square a d → m ≡ sum3 r s t x y n
-    → m ≡ ball_centre (vector a b) (vector a c) (vector a d) (right_side square a b) (right_side square a c) (right_side square a d)
-centre_of square a b c d {r = r} {s = s} {t = t} eu ev ew en ex ey er es et e = e ∙ same_sum r s t (ex ∙ ap₂ cross ev ew) (ey ∙ ap₂ cross ew eu) (en ∙ ap₂ cross eu ev) ∙ same_centre (vector a b) (vector a c) (vector a d) er es et
+pub centre_of : (quadratic : ℤ) (a b c d : SpacePoint) {u v w n x y m : SpacePoint} {r s t : ℤ} → u ≡ vector a b → v ≡ vector a c → w ≡ vector a d → n ≡ cross u v → x ≡ cross v w → y ≡ cross w u → r ≡ right_side quadratic a b → s ≡ right_side quadratic a c → t ≡ right_side quadratic a d → m ≡ sum3 r s t x y n
+    → m ≡ ball_centre (vector a b) (vector a c) (vector a d) (right_side quadratic a b) (right_side quadratic a c) (right_side quadratic a d)
+centre_of quadratic a b c d {r = r} {s = s} {t = t} eu ev ew en ex ey er es et e = e ∙ same_sum r s t (ex ∙ ap₂ cross ev ew) (ey ∙ ap₂ cross ew eu) (en ∙ ap₂ cross eu ev) ∙ same_centre (vector a b) (vector a c) (vector a d) er es et
 
 -- equal numbers reduce to the same
 pub same_reduction : {xs ys ws : List ℤ} → xs ≡ ys → Reduces xs ws → Reduces ys ws
@@ -187,11 +187,11 @@ below_from e h = omega (arith, ints)
 pub above_from : {t x : ℤ} → t ≡ x → (t ≡ pos 0 → ⊥) → pos 0 ≤ℤ t → pos 0 <ℤ (pos 1 *ℤ x)
 above_from {t} {x} e some least = let above : pos 0 <ℤ t = positive_from t some least in omega (arith, ints)
 
--- twice a square is above 0
+-- twice a quadratic is above 0
 pub square_from : {t x : ℤ} → t ≡ x → (t ≡ pos 0 → ⊥) → pos 0 <ℤ (pos 2 *ℤ t *ℤ x)
 square_from {t} e some = subst (λ n. pos 0 <ℤ (pos 2 *ℤ t *ℤ n)) e (twice_square t some)
 
--- a square's factor that code found not to be 1
+-- a quadratic's factor that code found not to be 1
 pub not_one : {q r : ℤ} → (q ≡ pos 0) ⊎ (q ≡ pos 1) → r ≡ q → (of_z w128 r ≡ 1 → ⊥) → q ≡ pos 0
 not_one (inl none) e f = none
 not_one (inr one) e f = absurd (f (ap (of_z w128) (e ∙ one)))
@@ -199,8 +199,8 @@ not_one (inr one) e f = absurd (f (ap (of_z w128) (e ∙ one)))
 -- ---- three items of the plane
 
 -- the cross product of their differences, if it is not zero, has a height
-pub some_height : (square : ℤ) (dim : ℕ) (a b c : SpacePoint) {u v n : SpacePoint} → AreItems square dim (a ∷ b ∷ c ∷ []) → dim ≡ 2 → u ≡ vector a b → v ≡ vector a c → n ≡ cross u v → (n ≡ origin → ⊥) → n.z ≡ pos 0 → ⊥
-some_height square dim a b c h two eu ev en some e = height_positive dim a b c two (three_items square dim a b c h) (apart a b c eu ev en some) (sym (height_of eu ev en) ∙ e)
+pub some_height : (quadratic : ℤ) (dim : ℕ) (a b c : SpacePoint) {u v n : SpacePoint} → AreItems quadratic dim (a ∷ b ∷ c ∷ []) → dim ≡ 2 → u ≡ vector a b → v ≡ vector a c → n ≡ cross u v → (n ≡ origin → ⊥) → n.z ≡ pos 0 → ⊥
+some_height quadratic dim a b c h two eu ev en some e = height_positive dim a b c two (three_items quadratic dim a b c h) (apart a b c eu ev en some) (sym (height_of eu ev en) ∙ e)
 
 -- twice a height
 pub twice_height : {t : ℤ} → Size (2 ^ 41) t → Size (2 ^ 43) (pos 2 *ℤ t)

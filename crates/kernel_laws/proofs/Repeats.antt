@@ -3,7 +3,7 @@ use Rattle.std.proofs.Common.{◌≡◌, ap, pos, negsuc, ◌-ℤ◌, [], ◌∷
 use Rattle.std.proofs.lemmas.Int.{ints}
 use Rattle.std.proofs.lemmas.List.Elements.{All-head}
 use Rattle.bounds_model.specs.Space.{SpacePoint, vector, origin}
-use Rattle.bounds_model.specs.Potentials.{IsDependence}
+use Rattle.bounds_model.specs.Slacks.{IsDependence}
 use Rattle.kernel_laws.proofs.Dependences.{dependence_of_two, dependence_of_three, dependence_of_four, dependence_of_five}
 
 -- of two vectors

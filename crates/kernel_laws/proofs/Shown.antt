@@ -3,7 +3,7 @@ use Rattle.std.proofs.Common.{◌≡◌, sym, ap, subst, ℤ, pos, neg_ℤ, ◌+
 use Rattle.std.proofs.lemmas.Int.{ints}
 use Rattle.std.proofs.lemmas.List.Elements.{All-head, All-tail}
 use Rattle.bounds_model.specs.Space.{SpacePoint, vector, dot, squared_length, origin}
-use Rattle.bounds_model.specs.Potentials.{IsDependence}
+use Rattle.bounds_model.specs.Slacks.{IsDependence}
 use Rattle.kernel_laws.specs.Systems.{cross}
 use Rattle.kernel_laws.proofs.Solving.{along_x, along_y, along_z, in_plane_x, in_plane_y, in_plane_z, of_plane_x, of_plane_y, of_plane_z, of_space_x, of_space_y, of_space_z}
 use Rattle.kernel_laws.proofs.Dependences.{dependence_of_four, dependence_of_five}

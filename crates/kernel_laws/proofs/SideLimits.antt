@@ -3,7 +3,7 @@ use Rattle.std.proofs.Common.{◌≡◌, subst, ℕ, ◌*◌, ◌^◌, ◌≤◌
 use Rattle.integers.specs.Size.{Size}
 use Rattle.integers.proofs.Sizes.{size_unsigned}
 use Rattle.bounds_model.specs.Space.{SpacePoint}
-use Rattle.kernel_laws.specs.Limits.{IsVectorWithin, reach, ball_limit}
+use Rattle.kernel_laws.specs.Limits.{IsVectorWithin, difference_limit, ball_limit}
 
 -- a vector x within l, a sum within m, and a total of at most t
 pub record SideSizes (l m t : ℕ) (v s : SpacePoint) (n : ℕ) : Type 0 where
@@ -20,21 +20,21 @@ more_within h w = record {
 }
 
 -- the sizes in the plane, or those in space
-pub side_sizes : (dim total : ℕ) (x sum : SpacePoint) → (dim ≡ 2) ⊎ (dim ≡ 3) → total ≤ ball_limit dim → IsVectorWithin (reach dim) x → IsVectorWithin (total * reach dim) sum
+pub side_sizes : (dim total : ℕ) (x sum : SpacePoint) → (dim ≡ 2) ⊎ (dim ≡ 3) → total ≤ ball_limit dim → IsVectorWithin (difference_limit dim) x → IsVectorWithin (total * difference_limit dim) sum
     → SideSizes 400000 (2 ^ 80 * 400000) (2 ^ 80) x sum total ⊎ SideSizes 16000 (2 ^ 92 * 16000) (2 ^ 92) x sum total
 side_sizes dim total x sum (inl e) most hx hs =
     let fits : total ≤ 2 ^ 80 = subst (λ d. total ≤ ball_limit d) e most in
     let product : total * 400000 ≤ 2 ^ 80 * 400000 = mul-le-mul fits (le_refl 400000) in
     inl (record {
-      vector = subst (λ d. IsVectorWithin (reach d) x) e hx;
-      sum = more_within product (subst (λ d. IsVectorWithin (total * reach d) sum) e hs);
+      vector = subst (λ d. IsVectorWithin (difference_limit d) x) e hx;
+      sum = more_within product (subst (λ d. IsVectorWithin (total * difference_limit d) sum) e hs);
       total = size_unsigned total fits;
     })
 side_sizes dim total x sum (inr e) most hx hs =
     let fits : total ≤ 2 ^ 92 = subst (λ d. total ≤ ball_limit d) e most in
     let product : total * 16000 ≤ 2 ^ 92 * 16000 = mul-le-mul fits (le_refl 16000) in
     inr (record {
-      vector = subst (λ d. IsVectorWithin (reach d) x) e hx;
-      sum = more_within product (subst (λ d. IsVectorWithin (total * reach d) sum) e hs);
+      vector = subst (λ d. IsVectorWithin (difference_limit d) x) e hx;
+      sum = more_within product (subst (λ d. IsVectorWithin (total * difference_limit d) sum) e hs);
       total = size_unsigned total fits;
     })

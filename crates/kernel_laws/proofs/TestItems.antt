@@ -50,8 +50,8 @@ flat_by : (v : SpacePoint) → T (is_flat v) → v.z ≡ pos 0
 flat_by v t = let h = leb→le (nat_abs v.z) 0 t in omega (arith, ints)
 
 -- items of the plane
-pub items_of_plane : (square : ℤ) (vs : List SpacePoint) → T (both (leb 1 (length vs)) (leb (length vs) 4)) → T (all_pass (λ v. both (is_within 400000 v) (is_flat v)) vs) → T (all_pass (λ a. all_pass (λ b. is_within 400000 (vector a b)) vs) vs) → AreItems square 2 vs
-items_of_plane square vs count each near = record {
+pub items_of_plane : (quadratic : ℤ) (vs : List SpacePoint) → T (both (leb 1 (length vs)) (leb (length vs) 4)) → T (all_pass (λ v. both (is_within 400000 v) (is_flat v)) vs) → T (all_pass (λ a. all_pass (λ b. is_within 400000 (vector a b)) vs) vs) → AreItems quadratic 2 vs
+items_of_plane quadratic vs count each near = record {
   some = leb→le 1 (length vs) (both_first (leb 1 (length vs)) (leb (length vs) 4) count);
   few = leb→le (length vs) 4 (both_second (leb 1 (length vs)) (leb (length vs) 4) count);
   each = all_by (IsDifference 2) (λ v. both (is_within 400000 v) (is_flat v)) (λ v t. record { within = within_by 400000 v (both_first (is_within 400000 v) (is_flat v) t); flat = λ _. flat_by v (both_second (is_within 400000 v) (is_flat v) t) }) vs each;
@@ -62,8 +62,8 @@ not_two : (n : ℕ) → n ≡ 3 → n ≡ 2 → ⊥
 not_two n e f = omega arith
 
 -- items of space
-pub items_of_space : (square : ℤ) (vs : List SpacePoint) → T (both (leb 1 (length vs)) (leb (length vs) 5)) → T (all_pass (is_within 16000) vs) → T (all_pass (λ a. all_pass (λ b. is_within 16000 (vector a b)) vs) vs) → AreItems square 3 vs
-items_of_space square vs count each near = record {
+pub items_of_space : (quadratic : ℤ) (vs : List SpacePoint) → T (both (leb 1 (length vs)) (leb (length vs) 5)) → T (all_pass (is_within 16000) vs) → T (all_pass (λ a. all_pass (λ b. is_within 16000 (vector a b)) vs) vs) → AreItems quadratic 3 vs
+items_of_space quadratic vs count each near = record {
   some = leb→le 1 (length vs) (both_first (leb 1 (length vs)) (leb (length vs) 5) count);
   few = leb→le (length vs) 5 (both_second (leb 1 (length vs)) (leb (length vs) 5) count);
   each = all_by (IsDifference 3) (is_within 16000) (λ v t. record { within = within_by 16000 v t; flat = λ e. absurd (not_two 3 refl e) }) vs each;

@@ -9,8 +9,8 @@ use Rattle.integers.proofs.Order.{combine1, combine2, square_positive, lt_by}
 use Rattle.integers.proofs.Sizes.{size_mul, size_neg, size_more}
 use Rattle.integers.proofs.MachineArithmetic.{Given, given, with_inputs, codes, size_within, number}
 use Rattle.bounds_model.specs.Space.{SpacePoint, vector, dot, squared_length, origin}
-use Rattle.bounds_model.specs.Potentials.{IsDependence}
-use Rattle.kernel_laws.specs.Limits.{IsVectorWithin, IsDifference, reach, ball_limit}
+use Rattle.bounds_model.specs.Slacks.{IsDependence}
+use Rattle.kernel_laws.specs.Limits.{IsVectorWithin, IsDifference, difference_limit, ball_limit}
 use Rattle.kernel_laws.specs.Systems.{right_side, cross, gram_weights, plane_weights}
 use Rattle.kernel_laws.specs.Solutions.{IsWeighting, AreItems, Reduces, weight_limit}
 use Rattle.kernel_laws.proofs.Solving.{solves_two_first, solves_two_second, solves_plane, centre_plane_first, centre_plane_second, along_x, along_y, along_z}
@@ -27,31 +27,31 @@ pub record ThreeSizes (limit : ℕ) (t p q : ℤ) : Type 0 where
 -- ---- by Gram's matrix
 
 -- the weights
-pub gram_weighting : (square : ℤ) (limit : ℕ) (a b c : SpacePoint) (r s : ℤ) (ws : List ℤ) → r ≡ right_side square a b → s ≡ right_side square a c
-    → (let u = vector a b in let v = vector a c in Reduces (gram_weights u v r s) ws → pos 0 <ℤ squared_length (cross u v) → ThreeSizes limit (pos 2 *ℤ squared_length (cross u v)) (r *ℤ dot v v -ℤ s *ℤ dot u v) (s *ℤ dot u u -ℤ r *ℤ dot u v) → IsWeighting square limit (a ∷ b ∷ c ∷ []) ws)
-gram_weighting square limit a b c r s ws er es reduces apart sizes =
+pub gram_weighting : (quadratic : ℤ) (limit : ℕ) (a b c : SpacePoint) (r s : ℤ) (ws : List ℤ) → r ≡ right_side quadratic a b → s ≡ right_side quadratic a c
+    → (let u = vector a b in let v = vector a c in Reduces (gram_weights u v r s) ws → pos 0 <ℤ squared_length (cross u v) → ThreeSizes limit (pos 2 *ℤ squared_length (cross u v)) (r *ℤ dot v v -ℤ s *ℤ dot u v) (s *ℤ dot u u -ℤ r *ℤ dot u v) → IsWeighting quadratic limit (a ∷ b ∷ c ∷ []) ws)
+gram_weighting quadratic limit a b c r s ws er es reduces apart sizes =
     let u : SpacePoint = vector a b in
     let v : SpacePoint = vector a c in
     let total : ℤ = pos 2 *ℤ squared_length (cross u v) in
     let p : ℤ = r *ℤ dot v v -ℤ s *ℤ dot u v in
     let q : ℤ = s *ℤ dot u u -ℤ r *ℤ dot u v in
-    weighting_of_three square limit a b c p q total ws reduces (solves_two_first u v r s ∙ ap (λ r. total *ℤ r) er) (solves_two_second u v r s ∙ ap (λ s. total *ℤ s) es) (omega (arith, ints)) sizes.sum sizes.first sizes.second sizes.third
+    weighting_of_three quadratic limit a b c p q total ws reduces (solves_two_first u v r s ∙ ap (λ r. total *ℤ r) er) (solves_two_second u v r s ∙ ap (λ s. total *ℤ s) es) (omega (arith, ints)) sizes.sum sizes.first sizes.second sizes.third
 
 abbrev inputs : {a b c : SpacePoint} {n : ℕ} → IsVectorWithin n a → IsVectorWithin n b → IsVectorWithin n c → List Given
 inputs a b c = given a.x ∷ given a.y ∷ given a.z ∷ given b.x ∷ given b.y ∷ given b.z ∷ given c.x ∷ given c.y ∷ given c.z ∷ []
 
 -- in space they are within the limit
-pub gram_sizes : (square : ℤ) → (square ≡ pos 0) ⊎ (square ≡ pos 1) → (a b c : SpacePoint) → IsVectorWithin 16000 a → IsVectorWithin 16000 b → IsVectorWithin 16000 c
-    → (let u = vector a b in let v = vector a c in let r = right_side square a b in let s = right_side square a c in ThreeSizes (weight_limit square 3) (pos 2 *ℤ squared_length (cross u v)) (r *ℤ dot v v -ℤ s *ℤ dot u v) (s *ℤ dot u u -ℤ r *ℤ dot u v))
-gram_sizes square (inl e) a b c ha hb hc =
-    subst (λ square. let u = vector a b in let v = vector a c in let r = right_side square a b in let s = right_side square a c in ThreeSizes (weight_limit square 3) (pos 2 *ℤ squared_length (cross u v)) (r *ℤ dot v v -ℤ s *ℤ dot u v) (s *ℤ dot u u -ℤ r *ℤ dot u v)) (sym e) (record {
+pub gram_sizes : (quadratic : ℤ) → (quadratic ≡ pos 0) ⊎ (quadratic ≡ pos 1) → (a b c : SpacePoint) → IsVectorWithin 16000 a → IsVectorWithin 16000 b → IsVectorWithin 16000 c
+    → (let u = vector a b in let v = vector a c in let r = right_side quadratic a b in let s = right_side quadratic a c in ThreeSizes (weight_limit quadratic 3) (pos 2 *ℤ squared_length (cross u v)) (r *ℤ dot v v -ℤ s *ℤ dot u v) (s *ℤ dot u u -ℤ r *ℤ dot u v))
+gram_sizes quadratic (inl e) a b c ha hb hc =
+    subst (λ quadratic. let u = vector a b in let v = vector a c in let r = right_side quadratic a b in let s = right_side quadratic a c in ThreeSizes (weight_limit quadratic 3) (pos 2 *ℤ squared_length (cross u v)) (r *ℤ dot v v -ℤ s *ℤ dot u v) (s *ℤ dot u u -ℤ r *ℤ dot u v)) (sym e) (record {
       sum = with_inputs (inputs ha hb hc) (λ xs h d e f g i j k l m. simp (d, e, f, g, i, j, k, l, m, number xs 2, codes) (size_within xs h _ tt));
       first = with_inputs (inputs ha hb hc) (λ xs h d e f g i j k l m. simp (d, e, f, g, i, j, k, l, m, number xs 0, number xs 2, codes) (size_within xs h _ tt));
       second = with_inputs (inputs ha hb hc) (λ xs h d e f g i j k l m. simp (d, e, f, g, i, j, k, l, m, number xs 0, number xs 2, codes) (size_within xs h _ tt));
       third = with_inputs (inputs ha hb hc) (λ xs h d e f g i j k l m. simp (d, e, f, g, i, j, k, l, m, number xs 0, number xs 2, codes) (size_within xs h _ tt));
     })
-gram_sizes square (inr e) a b c ha hb hc =
-    subst (λ square. let u = vector a b in let v = vector a c in let r = right_side square a b in let s = right_side square a c in ThreeSizes (weight_limit square 3) (pos 2 *ℤ squared_length (cross u v)) (r *ℤ dot v v -ℤ s *ℤ dot u v) (s *ℤ dot u u -ℤ r *ℤ dot u v)) (sym e) (record {
+gram_sizes quadratic (inr e) a b c ha hb hc =
+    subst (λ quadratic. let u = vector a b in let v = vector a c in let r = right_side quadratic a b in let s = right_side quadratic a c in ThreeSizes (weight_limit quadratic 3) (pos 2 *ℤ squared_length (cross u v)) (r *ℤ dot v v -ℤ s *ℤ dot u v) (s *ℤ dot u u -ℤ r *ℤ dot u v)) (sym e) (record {
       sum = with_inputs (inputs ha hb hc) (λ xs h d e f g i j k l m. simp (d, e, f, g, i, j, k, l, m, number xs 2, codes) (size_within xs h _ tt));
       first = with_inputs (inputs ha hb hc) (λ xs h d e f g i j k l m. simp (d, e, f, g, i, j, k, l, m, number xs 1, number xs 2, codes) (size_within xs h _ tt));
       second = with_inputs (inputs ha hb hc) (λ xs h d e f g i j k l m. simp (d, e, f, g, i, j, k, l, m, number xs 1, number xs 2, codes) (size_within xs h _ tt));
@@ -61,15 +61,15 @@ gram_sizes square (inr e) a b c ha hb hc =
 -- ---- in the plane
 
 -- the weights, by a centre (x, y) / k
-pub plane_weighting : (square : ℤ) (limit : ℕ) (a b c : SpacePoint) (x y k r s : ℤ) (ws : List ℤ) → r ≡ right_side square a b → s ≡ right_side square a c
+pub plane_weighting : (quadratic : ℤ) (limit : ℕ) (a b c : SpacePoint) (x y k r s : ℤ) (ws : List ℤ) → r ≡ right_side quadratic a b → s ≡ right_side quadratic a c
     → (let u = vector a b in let v = vector a c in u.z ≡ pos 0 → v.z ≡ pos 0 → pos 2 *ℤ (u.x *ℤ x +ℤ u.y *ℤ y) ≡ k *ℤ r → pos 2 *ℤ (v.x *ℤ x +ℤ v.y *ℤ y) ≡ k *ℤ s
-    → Reduces (plane_weights u v x y k) ws → pos 0 <ℤ (k *ℤ (cross u v).z) → ThreeSizes limit (k *ℤ (cross u v).z) (x *ℤ v.y -ℤ y *ℤ v.x) (y *ℤ u.x -ℤ x *ℤ u.y) → IsWeighting square limit (a ∷ b ∷ c ∷ []) ws)
-plane_weighting square limit a b c x y k r s ws er es uz vz hb hc reduces apart sizes =
+    → Reduces (plane_weights u v x y k) ws → pos 0 <ℤ (k *ℤ (cross u v).z) → ThreeSizes limit (k *ℤ (cross u v).z) (x *ℤ v.y -ℤ y *ℤ v.x) (y *ℤ u.x -ℤ x *ℤ u.y) → IsWeighting quadratic limit (a ∷ b ∷ c ∷ []) ws)
+plane_weighting quadratic limit a b c x y k r s ws er es uz vz hb hc reduces apart sizes =
     let u : SpacePoint = vector a b in
     let v : SpacePoint = vector a c in
     let m : SpacePoint = record { x = x; y = y; z = pos 0 } in
     let total : ℤ = k *ℤ (cross u v).z in
-    weighting_of_three square limit a b c (x *ℤ v.y -ℤ y *ℤ v.x) (y *ℤ u.x -ℤ x *ℤ u.y) total ws reduces (solves_plane u u v m k r uz hb ∙ ap (λ r. total *ℤ r) er) (solves_plane v u v m k s vz hc ∙ ap (λ s. total *ℤ s) es) apart sizes.sum sizes.first sizes.second sizes.third
+    weighting_of_three quadratic limit a b c (x *ℤ v.y -ℤ y *ℤ v.x) (y *ℤ u.x -ℤ x *ℤ u.y) total ws reduces (solves_plane u u v m k r uz hb ∙ ap (λ r. total *ℤ r) er) (solves_plane v u v m k s vz hc ∙ ap (λ s. total *ℤ s) es) apart sizes.sum sizes.first sizes.second sizes.third
 
 -- for balls a right side is the square of the difference
 pub right_of_ball : (a x : SpacePoint) → (vector a x).z ≡ pos 0 → right_side (pos 1) a x ≡ (vector a x).x *ℤ (vector a x).x +ℤ (vector a x).y *ℤ (vector a x).y
@@ -128,24 +128,24 @@ along_of_three a b c p q ep eq some e =
 -- ---- what is known of three items
 
 -- their sizes, and those of the differences
-pub record ThreeItems (square : ℤ) (dim : ℕ) (a b c : SpacePoint) : Type 0 where
+pub record ThreeItems (quadratic : ℤ) (dim : ℕ) (a b c : SpacePoint) : Type 0 where
   pub first : IsDifference dim a
   pub second : IsDifference dim b
   pub third : IsDifference dim c
-  pub near : square ≡ pos 1 → IsVectorWithin (reach dim) (vector a b) × IsVectorWithin (reach dim) (vector a c)
+  pub near : quadratic ≡ pos 1 → IsVectorWithin (difference_limit dim) (vector a b) × IsVectorWithin (difference_limit dim) (vector a c)
 
 -- from the conditions of the solver
-pub three_items : (square : ℤ) (dim : ℕ) (a b c : SpacePoint) → AreItems square dim (a ∷ b ∷ c ∷ []) → ThreeItems square dim a b c
-three_items square dim a b c h =
+pub three_items : (quadratic : ℤ) (dim : ℕ) (a b c : SpacePoint) → AreItems quadratic dim (a ∷ b ∷ c ∷ []) → ThreeItems quadratic dim a b c
+three_items quadratic dim a b c h =
     let rest : All (IsDifference dim) (b ∷ c ∷ []) = All-tail (IsDifference dim) a (b ∷ c ∷ []) h.each in
     record {
       first = All-head (IsDifference dim) a (b ∷ c ∷ []) h.each;
       second = All-head (IsDifference dim) b (c ∷ []) rest;
       third = All-head (IsDifference dim) c [] (All-tail (IsDifference dim) b (c ∷ []) rest);
       near = λ e.
-          let all : All (λ x. IsVectorWithin (reach dim) (vector a x)) (a ∷ b ∷ c ∷ []) = All-head (λ a'. All (λ x. IsVectorWithin (reach dim) (vector a' x)) (a ∷ b ∷ c ∷ [])) a (b ∷ c ∷ []) (h.near e) in
-          let tail : All (λ x. IsVectorWithin (reach dim) (vector a x)) (b ∷ c ∷ []) = All-tail (λ x. IsVectorWithin (reach dim) (vector a x)) a (b ∷ c ∷ []) all in
-          (All-head (λ x. IsVectorWithin (reach dim) (vector a x)) b (c ∷ []) tail, All-head (λ x. IsVectorWithin (reach dim) (vector a x)) c [] (All-tail (λ x. IsVectorWithin (reach dim) (vector a x)) b (c ∷ []) tail));
+          let all : All (λ x. IsVectorWithin (difference_limit dim) (vector a x)) (a ∷ b ∷ c ∷ []) = All-head (λ a'. All (λ x. IsVectorWithin (difference_limit dim) (vector a' x)) (a ∷ b ∷ c ∷ [])) a (b ∷ c ∷ []) (h.near e) in
+          let tail : All (λ x. IsVectorWithin (difference_limit dim) (vector a x)) (b ∷ c ∷ []) = All-tail (λ x. IsVectorWithin (difference_limit dim) (vector a x)) a (b ∷ c ∷ []) all in
+          (All-head (λ x. IsVectorWithin (difference_limit dim) (vector a x)) b (c ∷ []) tail, All-head (λ x. IsVectorWithin (difference_limit dim) (vector a x)) c [] (All-tail (λ x. IsVectorWithin (difference_limit dim) (vector a x)) b (c ∷ []) tail));
     }
 
 -- a difference of vectors of the plane has no height
@@ -153,46 +153,46 @@ pub flat_difference : (dim : ℕ) (a x : SpacePoint) → IsDifference dim a → 
 flat_difference dim a x ha hx e = let l = ha.flat e in let r = hx.flat e in omega (arith, ints)
 
 -- the answer in space
-pub gram_answer : (square : ℤ) (dim : ℕ) → (square ≡ pos 0) ⊎ (square ≡ pos 1) → dim ≡ 3 → (a b c : SpacePoint) → ThreeItems square dim a b c → (ws : List ℤ)
-    → (let u = vector a b in let v = vector a c in Reduces (gram_weights u v (right_side square a b) (right_side square a c)) ws → pos 0 <ℤ squared_length (cross u v) → IsWeighting square (weight_limit square dim) (a ∷ b ∷ c ∷ []) ws)
-gram_answer square dim which e a b c items ws reduces apart =
-    let within : (v : SpacePoint) → IsDifference dim v → IsVectorWithin 16000 v = λ v h. subst (λ d. IsVectorWithin (reach d) v) e h.within in
-    subst (λ d. IsWeighting square (weight_limit square d) (a ∷ b ∷ c ∷ []) ws) (sym e)
-    (gram_weighting square (weight_limit square 3) a b c (right_side square a b) (right_side square a c) ws refl refl reduces apart (gram_sizes square which a b c (within a items.first) (within b items.second) (within c items.third)))
+pub gram_answer : (quadratic : ℤ) (dim : ℕ) → (quadratic ≡ pos 0) ⊎ (quadratic ≡ pos 1) → dim ≡ 3 → (a b c : SpacePoint) → ThreeItems quadratic dim a b c → (ws : List ℤ)
+    → (let u = vector a b in let v = vector a c in Reduces (gram_weights u v (right_side quadratic a b) (right_side quadratic a c)) ws → pos 0 <ℤ squared_length (cross u v) → IsWeighting quadratic (weight_limit quadratic dim) (a ∷ b ∷ c ∷ []) ws)
+gram_answer quadratic dim which e a b c items ws reduces apart =
+    let within : (v : SpacePoint) → IsDifference dim v → IsVectorWithin 16000 v = λ v h. subst (λ d. IsVectorWithin (difference_limit d) v) e h.within in
+    subst (λ d. IsWeighting quadratic (weight_limit quadratic d) (a ∷ b ∷ c ∷ []) ws) (sym e)
+    (gram_weighting quadratic (weight_limit quadratic 3) a b c (right_side quadratic a b) (right_side quadratic a c) ws refl refl reduces apart (gram_sizes quadratic which a b c (within a items.first) (within b items.second) (within c items.third)))
 
 -- the answer in the plane, for balls
-pub ball_answer : (square : ℤ) (dim : ℕ) → square ≡ pos 1 → dim ≡ 2 → (a b c : SpacePoint) → ThreeItems square dim a b c → (ws : List ℤ)
-    → (let u = vector a b in let v = vector a c in let r = right_side square a b in let s = right_side square a c in Reduces (plane_weights u v (r *ℤ v.y -ℤ s *ℤ u.y) (s *ℤ u.x -ℤ r *ℤ v.x) (pos 2 *ℤ (cross u v).z)) ws → pos 0 <ℤ (pos 2 *ℤ (cross u v).z *ℤ (cross u v).z) → IsWeighting square (weight_limit square dim) (a ∷ b ∷ c ∷ []) ws)
-ball_answer square dim one two a b c items ws reduces apart =
+pub ball_answer : (quadratic : ℤ) (dim : ℕ) → quadratic ≡ pos 1 → dim ≡ 2 → (a b c : SpacePoint) → ThreeItems quadratic dim a b c → (ws : List ℤ)
+    → (let u = vector a b in let v = vector a c in let r = right_side quadratic a b in let s = right_side quadratic a c in Reduces (plane_weights u v (r *ℤ v.y -ℤ s *ℤ u.y) (s *ℤ u.x -ℤ r *ℤ v.x) (pos 2 *ℤ (cross u v).z)) ws → pos 0 <ℤ (pos 2 *ℤ (cross u v).z *ℤ (cross u v).z) → IsWeighting quadratic (weight_limit quadratic dim) (a ∷ b ∷ c ∷ []) ws)
+ball_answer quadratic dim one two a b c items ws reduces apart =
     let u : SpacePoint = vector a b in
     let v : SpacePoint = vector a c in
-    let r : ℤ = right_side square a b in
-    let s : ℤ = right_side square a c in
+    let r : ℤ = right_side quadratic a b in
+    let s : ℤ = right_side quadratic a c in
     let uz : u.z ≡ pos 0 = flat_difference dim a b items.first items.second two in
     let vz : v.z ≡ pos 0 = flat_difference dim a c items.first items.third two in
-    let r_is : right_side square a b ≡ u.x *ℤ u.x +ℤ u.y *ℤ u.y = ap (λ q. right_side q a b) one ∙ right_of_ball a b uz in
-    let s_is : right_side square a c ≡ v.x *ℤ v.x +ℤ v.y *ℤ v.y = ap (λ q. right_side q a c) one ∙ right_of_ball a c vz in
-    let hu : IsVectorWithin 400000 u = subst (λ d. IsVectorWithin (reach d) u) two (items.near one).0 in
-    let hv : IsVectorWithin 400000 v = subst (λ d. IsVectorWithin (reach d) v) two (items.near one).1 in
+    let r_is : right_side quadratic a b ≡ u.x *ℤ u.x +ℤ u.y *ℤ u.y = ap (λ q. right_side q a b) one ∙ right_of_ball a b uz in
+    let s_is : right_side quadratic a c ≡ v.x *ℤ v.x +ℤ v.y *ℤ v.y = ap (λ q. right_side q a c) one ∙ right_of_ball a c vz in
+    let hu : IsVectorWithin 400000 u = subst (λ d. IsVectorWithin (difference_limit d) u) two (items.near one).0 in
+    let hv : IsVectorWithin 400000 v = subst (λ d. IsVectorWithin (difference_limit d) v) two (items.near one).1 in
     let sizes : BallInPlane u v r s = subst (λ r. BallInPlane u v r s) (sym r_is) (subst (λ s. BallInPlane u v (u.x *ℤ u.x +ℤ u.y *ℤ u.y) s) (sym s_is) (ball_sizes u v hu hv)) in
-    let limit : 2 ^ 80 ≡ weight_limit square dim = sym (ap (λ q. weight_limit q dim) one ∙ ap ball_limit two) in
-    subst (λ l. IsWeighting square l (a ∷ b ∷ c ∷ []) ws) limit
-    (plane_weighting square (2 ^ 80) a b c (r *ℤ v.y -ℤ s *ℤ u.y) (s *ℤ u.x -ℤ r *ℤ v.x) (pos 2 *ℤ (cross u v).z) r s ws refl refl uz vz (centre_plane_first u v r s) (centre_plane_second u v r s) reduces apart sizes)
+    let limit : 2 ^ 80 ≡ weight_limit quadratic dim = sym (ap (λ q. weight_limit q dim) one ∙ ap ball_limit two) in
+    subst (λ l. IsWeighting quadratic l (a ∷ b ∷ c ∷ []) ws) limit
+    (plane_weighting quadratic (2 ^ 80) a b c (r *ℤ v.y -ℤ s *ℤ u.y) (s *ℤ u.x -ℤ r *ℤ v.x) (pos 2 *ℤ (cross u v).z) r s ws refl refl uz vz (centre_plane_first u v r s) (centre_plane_second u v r s) reduces apart sizes)
 
 -- and for distances
-pub norm_answer : (square : ℤ) (dim : ℕ) → square ≡ pos 0 → dim ≡ 2 → (a b c : SpacePoint) → ThreeItems square dim a b c → (k : ℤ) → Size 1 k → IsVectorWithin 400000 a → IsVectorWithin 800000 (vector a b) → IsVectorWithin 800000 (vector a c) → (ws : List ℤ)
-    → (let u = vector a b in let v = vector a c in Reduces (plane_weights u v (neg_ℤ k *ℤ a.x) (neg_ℤ k *ℤ a.y) k) ws → pos 0 <ℤ (k *ℤ (cross u v).z) → IsWeighting square (weight_limit square dim) (a ∷ b ∷ c ∷ []) ws)
-norm_answer square dim none two a b c items k hk ha hu hv ws reduces apart =
+pub norm_answer : (quadratic : ℤ) (dim : ℕ) → quadratic ≡ pos 0 → dim ≡ 2 → (a b c : SpacePoint) → ThreeItems quadratic dim a b c → (k : ℤ) → Size 1 k → IsVectorWithin 400000 a → IsVectorWithin 800000 (vector a b) → IsVectorWithin 800000 (vector a c) → (ws : List ℤ)
+    → (let u = vector a b in let v = vector a c in Reduces (plane_weights u v (neg_ℤ k *ℤ a.x) (neg_ℤ k *ℤ a.y) k) ws → pos 0 <ℤ (k *ℤ (cross u v).z) → IsWeighting quadratic (weight_limit quadratic dim) (a ∷ b ∷ c ∷ []) ws)
+norm_answer quadratic dim none two a b c items k hk ha hu hv ws reduces apart =
     let u : SpacePoint = vector a b in
     let v : SpacePoint = vector a c in
     let uz : u.z ≡ pos 0 = flat_difference dim a b items.first items.second two in
     let vz : v.z ≡ pos 0 = flat_difference dim a c items.first items.third two in
     let hx : Size 400000 (neg_ℤ k *ℤ a.x) = size_more (size_mul (size_neg hk) ha.x) tt in
     let hy : Size 400000 (neg_ℤ k *ℤ a.y) = size_more (size_mul (size_neg hk) ha.y) tt in
-    let limit : 2 ^ 66 ≡ weight_limit square dim = sym (ap (λ q. weight_limit q dim) none) in
-    let right : (x : SpacePoint) → k *ℤ right_side (pos 0) a x ≡ k *ℤ right_side square a x = λ x. ap (λ q. k *ℤ right_side q a x) (sym none) in
-    subst (λ l. IsWeighting square l (a ∷ b ∷ c ∷ []) ws) limit
-    (plane_weighting square (2 ^ 66) a b c (neg_ℤ k *ℤ a.x) (neg_ℤ k *ℤ a.y) k (right_side square a b) (right_side square a c) ws refl refl uz vz (origin_in_plane a b k uz ∙ right b) (origin_in_plane a c k vz ∙ right c) reduces apart (norm_sizes (neg_ℤ k *ℤ a.x) (neg_ℤ k *ℤ a.y) k u v hx hy hk hu hv))
+    let limit : 2 ^ 66 ≡ weight_limit quadratic dim = sym (ap (λ q. weight_limit q dim) none) in
+    let right : (x : SpacePoint) → k *ℤ right_side (pos 0) a x ≡ k *ℤ right_side quadratic a x = λ x. ap (λ q. k *ℤ right_side q a x) (sym none) in
+    subst (λ l. IsWeighting quadratic l (a ∷ b ∷ c ∷ []) ws) limit
+    (plane_weighting quadratic (2 ^ 66) a b c (neg_ℤ k *ℤ a.x) (neg_ℤ k *ℤ a.y) k (right_side quadratic a b) (right_side quadratic a c) ws refl refl uz vz (origin_in_plane a b k uz ∙ right b) (origin_in_plane a c k vz ∙ right c) reduces apart (norm_sizes (neg_ℤ k *ℤ a.x) (neg_ℤ k *ℤ a.y) k u v hx hy hk hu hv))
 
 -- equal parts give equal weights
 pub same_plane_weights : {u v u' v' : SpacePoint} {x y k x' y' k' : ℤ} → u ≡ u' → v ≡ v' → x ≡ x' → y ≡ y' → k ≡ k' → plane_weights u v x y k ≡ plane_weights u' v' x' y' k'
@@ -213,7 +213,7 @@ same_gram_weights {u} {v} {u'} {v'} {r} {s} {r'} {s'} eu ev er es =
     ap (λ u. gram_weights u v r s) eu ∙ ap (λ v. gram_weights u' v r s) ev ∙ ap (λ r. gram_weights u' v' r s) er ∙ ap (λ s. gram_weights u' v' r' s) es
 
 -- in the plane the cross product of two that are not along each other has a height that is not 0
-pub height_positive : {square : ℤ} (dim : ℕ) (a b c : SpacePoint) → dim ≡ 2 → ThreeItems square dim a b c → pos 0 <ℤ squared_length (cross (vector a b) (vector a c)) → (cross (vector a b) (vector a c)).z ≡ pos 0 → ⊥
+pub height_positive : {quadratic : ℤ} (dim : ℕ) (a b c : SpacePoint) → dim ≡ 2 → ThreeItems quadratic dim a b c → pos 0 <ℤ squared_length (cross (vector a b) (vector a c)) → (cross (vector a b) (vector a c)).z ≡ pos 0 → ⊥
 height_positive dim a b c two items apart e =
     let u : SpacePoint = vector a b in
     let v : SpacePoint = vector a c in

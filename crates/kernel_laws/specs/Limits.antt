@@ -10,8 +10,8 @@ pub record IsVectorWithin (n : ℕ) (v : SpacePoint) : Type 0 where
   pub z : Size n v.z
 
 -- the greatest difference of two coordinates: twice the bound of the plane's points, or of those of space
-abbrev pub reach : ℕ → ℕ
-reach dim = if dim == 2 then 400000 else 16000
+abbrev pub difference_limit : ℕ → ℕ
+difference_limit dim = if dim == 2 then 400000 else 16000
 
 -- the greatest sum of the weights of a ball
 abbrev pub ball_limit : ℕ → ℕ
@@ -19,5 +19,5 @@ ball_limit dim = if dim == 2 then 2 ^ 80 else 2 ^ 92
 
 -- a difference of two points
 pub record IsDifference (dim : ℕ) (v : SpacePoint) : Type 0 where
-  pub within : IsVectorWithin (reach dim) v
+  pub within : IsVectorWithin (difference_limit dim) v
   pub flat : dim ≡ 2 → v.z ≡ pos 0

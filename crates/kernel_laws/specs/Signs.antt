@@ -25,6 +25,6 @@ determinant u v w = det3 u.x u.y u.z v.x v.y v.z w.x w.y w.z
 abbrev pub volume : SpacePoint → SpacePoint → SpacePoint → SpacePoint → ℤ
 volume a b c d = determinant (vector a b) (vector a c) (vector a d)
 
--- the potential of x under items with this weighted sum and this sum of weights, one of them the origin: above 0 inside their ball, 0 on it
-abbrev pub height : SpacePoint → ℕ → SpacePoint → ℤ
-height sum weight x = pos 2 *ℤ dot x sum -ℤ pos weight *ℤ squared_length x
+-- the slack of x under items with this weighted sum and this sum of weights, one of them the origin: above 0 inside their ball, 0 on it
+abbrev pub slack_from_origin : SpacePoint → ℕ → SpacePoint → ℤ
+slack_from_origin sum weight x = pos 2 *ℤ dot x sum -ℤ pos weight *ℤ squared_length x

@@ -4,8 +4,8 @@ use Rattle.integers.specs.Size.{Size}
 use Rattle.integers.specs.Total.{total}
 use Rattle.bounds_model.specs.Fractions.{HaveNoCommonFactor}
 use Rattle.bounds_model.specs.Space.{SpacePoint, vector}
-use Rattle.bounds_model.specs.Potentials.{WeightedVector, AreEqualPotentials}
-use Rattle.kernel_laws.specs.Limits.{IsVectorWithin, IsDifference, reach, ball_limit}
+use Rattle.bounds_model.specs.Slacks.{WeightedVector, AreEqualSlacks}
+use Rattle.kernel_laws.specs.Limits.{IsVectorWithin, IsDifference, difference_limit, ball_limit}
 
 -- each vector with its weight
 abbrev pub weighted : List ℤ → List SpacePoint → List WeightedVector
@@ -20,18 +20,18 @@ weight_limit (pos (suc n)) dim = ball_limit dim
 weight_limit (negsuc n) dim = 2 ^ 66
 
 -- the vectors that the solver takes
-pub record AreItems (square : ℤ) (dim : ℕ) (vectors : List SpacePoint) : Type 0 where
+pub record AreItems (quadratic : ℤ) (dim : ℕ) (vectors : List SpacePoint) : Type 0 where
   pub some : 1 ≤ length vectors
   pub few : length vectors ≤ dim + 2
   pub each : All (IsDifference dim) vectors
-  pub near : square ≡ pos 1 → All (λ a. All (λ b. IsVectorWithin (reach dim) (vector a b)) vectors) vectors
+  pub near : quadratic ≡ pos 1 → All (λ a. All (λ b. IsVectorWithin (difference_limit dim) (vector a b)) vectors) vectors
 
--- weights in lowest terms, of positive sum, under which all vectors have one potential
-pub record IsWeighting (square : ℤ) (limit : ℕ) (vectors : List SpacePoint) (weights : List ℤ) : Type 0 where
+-- weights in lowest terms, of positive sum, under which all vectors have one slack
+pub record IsWeighting (quadratic : ℤ) (limit : ℕ) (vectors : List SpacePoint) (weights : List ℤ) : Type 0 where
   pub as_many : length weights ≡ length vectors
   pub lowest : HaveNoCommonFactor weights
   pub positive : pos 0 <ℤ total (λ w. w) weights
-  pub equal : AreEqualPotentials square (weighted weights vectors)
+  pub equal : AreEqualSlacks quadratic (weighted weights vectors)
   pub limited : All (Size limit) weights
   pub sum_limited : Size limit (total (λ w. w) weights)
 

@@ -4,7 +4,7 @@ use Rattle.bounds_model.specs.Space.{SpacePoint, dot, squared_length, vector}
 
 -- with d the difference from a to x: for balls |d|², for distances -2 d·a
 abbrev pub right_side : ℤ → SpacePoint → SpacePoint → ℤ
-right_side square a x = square *ℤ (squared_length x -ℤ squared_length a) -ℤ pos 2 *ℤ dot (vector a x) a
+right_side quadratic a x = quadratic *ℤ (squared_length x -ℤ squared_length a) -ℤ pos 2 *ℤ dot (vector a x) a
 
 -- the cross product
 abbrev pub cross : SpacePoint → SpacePoint → SpacePoint

@@ -1,7 +1,7 @@
 //! The plane and the space.
 ghost use Rattle.std.specs.Prelude.{◌≡◌, ◌↔◌, ◌⊎◌, ◌^◌, ℕ, pos};
 ghost use Rattle.bounds_model.specs.Space.{SpacePoint, vector, dot as product};
-ghost use Rattle.bounds_model.specs.Potentials.{AreAffinelyDependent};
+ghost use Rattle.bounds_model.specs.Slacks.{AreAffinelyDependent};
 ghost use Rattle.kernel_laws.specs.Vectors.{vector_of, vectors_of};
 ghost use Rattle.kernel_laws.specs.Solutions.{AreItems, weight_limit};
 ghost use Rattle.kernel_laws.specs.Answers.{Answers, IsNull};
@@ -35,7 +35,7 @@ pub trait Kernel: Copy {
         requires b { IsVectorWithin (2 ^ 62) (vector_of b) }
         ensures { result ≡ product (vector_of a) (vector_of b) };
 
-    /// The weights of equal potentials for 1 to DIM + 2 items, or, exactly where they are affinely dependent, numbers that show it.
+    /// The weights of equal slacks for 1 to DIM + 2 items, or, exactly where they are affinely dependent, numbers that show it.
     fn solve<T: Potential>(&self, items: &[Vector]) -> Solved
         requires { AreItems T.SQUARE DIM (vectors_of items.now) }
         ensures answer { Answers T.SQUARE (weight_limit T.SQUARE DIM) (vectors_of items.now) result }

@@ -2,9 +2,9 @@
 //!
 //! - `vectors`: differences of points, and sums of them
 //! - `kernels`: the plane and the space
-//! - `potentials`: the two kinds of potentials
+//! - `potentials`: the slack for balls and the slack for distances
 //! - `signs`: on which side of a line, a plane or a circle a point lies
-//! - `solver`: weights of equal potentials, or numbers that show a dependence; below it `weights`, `lists` and `arithmetic`
+//! - `solver`: weights of equal slacks, or numbers that show a dependence; below it `weights`, `lists` and `arithmetic`
 //! - `laws`: the laws of signs
 #![tactic(auto)]
 

@@ -1,7 +1,8 @@
-//! The two kinds of potentials.
+//! The slack for balls and the slack for distances.
 ghost use Rattle.std.specs.Prelude.{◌≡◌, ◌⊎◌, ℤ, pos};
 
-/// Which potential a set of weighted vectors has. With W the sum of the weights and S the weighted sum of the vectors, that of x is 2 x·S - SQUARE W |x|².
+/// Which slack vectors have under weighted vectors. With W the sum of the weights and S the weighted sum of the vectors, that of x is
+/// 2 x·S - SQUARE W |x|².
 pub trait Potential {
     const SQUARE: i128;
 
@@ -10,7 +11,7 @@ pub trait Potential {
     ghost zero_or_one: { (SQUARE ≡ pos 0) ⊎ (SQUARE ≡ pos 1) };
 }
 
-/// Potentials for the smallest circle or sphere: items of equal potential lie on a ball round the weighted mean, and a lower one outside.
+/// The slack for the smallest circle or sphere: items of equal slack lie on a ball round the weighted mean, and one of less slack outside.
 #[derive(Clone, Copy, Debug)]
 pub struct BallPotential;
 
@@ -25,7 +26,7 @@ impl Potential for BallPotential {
     ghost zero_or_one = { inr refl };
 }
 
-/// Potentials for the least distance from the origin: items of equal potential lie on a plane that the weighted mean is normal to.
+/// The slack for the least distance from the origin: items of equal slack lie on a plane that the weighted mean is normal to.
 #[derive(Clone, Copy, Debug)]
 pub struct NormPotential;
 

@@ -2,8 +2,8 @@
 ghost use Rattle.std.specs.Prelude.{◌≡◌, ◌*◌, ◌≤◌};
 ghost use Rattle.bounds_model.specs.Plane.{turn};
 ghost use Rattle.kernel_laws.specs.Vectors.{vector_of, sum_of};
-ghost use Rattle.kernel_laws.specs.Limits.{IsVectorWithin, reach, ball_limit};
-ghost use Rattle.kernel_laws.specs.Signs.{sign_of, volume, height};
+ghost use Rattle.kernel_laws.specs.Limits.{IsVectorWithin, difference_limit, ball_limit};
+ghost use Rattle.kernel_laws.specs.Signs.{sign_of, volume, slack_from_origin};
 
 use crate::kernels::{Kernel, Plane, Space};
 use crate::vectors::{Sum, Vector};
@@ -59,9 +59,9 @@ pub fn orient3(a: &Point3, b: &Point3, c: &Point3, d: &Point3) -> Sign
 pub fn side<K: Kernel>(kernel: &K, sum: Sum, total: u128, x: Vector) -> Sign
     requires some { 1 ≤ total }
     requires limit { total ≤ ball_limit K.DIM }
-    requires vector { IsVectorWithin (reach K.DIM) (vector_of x) }
-    requires sum { IsVectorWithin (total * reach K.DIM) (sum_of sum) }
-    ensures { result ≡ sign_of (height (sum_of sum) total (vector_of x)) }
+    requires vector { IsVectorWithin (difference_limit K.DIM) (vector_of x) }
+    requires sum { IsVectorWithin (total * difference_limit K.DIM) (sum_of sum) }
+    ensures { result ≡ sign_of (slack_from_origin (sum_of sum) total (vector_of x)) }
 {
     let along = x.x as i128 * sum.x + x.y as i128 * sum.y + x.z as i128 * sum.z;
     sign_of_number(2 * along - total as i128 * kernel.dot(x, x))

@@ -1,7 +1,7 @@
-//! The equation solver: weights under which vectors have equal potentials, or numbers that show that they are dependent.
+//! The equation solver: weights under which vectors have equal slacks, or numbers that show that they are dependent.
 ghost use Rattle.std.specs.Prelude.{◌≡◌, ◌↔◌, ◌∷◌, [], ◌<ℤ◌, pos, ◌⊎◌};
 ghost use Rattle.bounds_model.specs.Space.{vector, squared_length};
-ghost use Rattle.bounds_model.specs.Potentials.{AreAffinelyDependent};
+ghost use Rattle.bounds_model.specs.Slacks.{AreAffinelyDependent};
 ghost use Rattle.kernel_laws.specs.Vectors.{vector_of, vectors_of};
 ghost use Rattle.kernel_laws.specs.Limits.{IsVectorWithin};
 ghost use Rattle.kernel_laws.specs.Systems.{cross as cross_of};
@@ -19,7 +19,7 @@ use arrayvec::ArrayVec;
 /// What the equations of some items have for a solution.
 #[derive(Drop)]
 pub enum Solved {
-    /// Whole weights without common factor, of positive sum, under which all items have one potential.
+    /// Whole weights without common factor, of positive sum, under which all items have one slack.
     Weights(ArrayVec<i128, 5>),
     /// Numbers that are not all 0, with the sum 0, under which the weighted sum of the items is the zero vector.
     Null(ArrayVec<i128, 5>),

@@ -64,11 +64,11 @@ plain_third ax ay ah bx by bh cx cy ch = read (ax ∷ ay ∷ ah ∷ bx ∷ by �
 
 -- that of the second is that of the first
 pub second_rise : (a b c : DifferenceVector) → rise (form_through a b c) b ≡ rise (form_through a b c) a
-second_rise a b c = plain_second a.x a.y a.height b.x b.y b.height c.x c.y c.height
+second_rise a b c = plain_second a.x a.y a.lift b.x b.y b.lift c.x c.y c.lift
 
 -- and so is that of the third
 pub third_rise : (a b c : DifferenceVector) → rise (form_through a b c) c ≡ rise (form_through a b c) a
-third_rise a b c = plain_third a.x a.y a.height b.x b.y b.height c.x c.y c.height
+third_rise a b c = plain_third a.x a.y a.lift b.x b.y b.lift c.x c.y c.lift
 
 -- ---- the origin's weights
 
@@ -102,8 +102,8 @@ plain_value u v t w x y L ax ay ah bx by bh cx cy ch ea eb ec bx_0 by_0 =
 of_pair : (points : List PlanePoint) (pair : Pair) (w : ℤ) → IsPair points pair
     → (w *ℤ ((point_at points pair.first).x -ℤ (point_at points pair.second).x) ≡ w *ℤ pair.difference.x)
     × (w *ℤ ((point_at points pair.first).y -ℤ (point_at points pair.second).y) ≡ w *ℤ pair.difference.y)
-    × (w *ℤ (squared_length (point_at points pair.first) -ℤ squared_length (point_at points pair.second)) ≡ w *ℤ pair.difference.height)
-of_pair points pair w is = (ap (λ d. w *ℤ d.x) (sym is.difference), ap (λ d. w *ℤ d.y) (sym is.difference), ap (λ d. w *ℤ d.height) (sym is.difference))
+    × (w *ℤ (squared_length (point_at points pair.first) -ℤ squared_length (point_at points pair.second)) ≡ w *ℤ pair.difference.lift)
+of_pair points pair w is = (ap (λ d. w *ℤ d.x) (sym is.difference), ap (λ d. w *ℤ d.y) (sym is.difference), ap (λ d. w *ℤ d.lift) (sym is.difference))
 
 none : (z : ℤ) → pos 0 *ℤ z ≡ pos 0
 none z = omega (arith, ints)
@@ -133,7 +133,7 @@ triangle_shows points t e is extremes top = record {
   balanced_x = sum_of points (λ p. p.x) t.a t.b t.c u v w pu pv pw ∙ sum3 (of_pair points t.a u is.a).0 (of_pair points t.b v is.b).0 (of_pair points t.c w is.c).0 ∙ zero_x;
   balanced_y = sum_of points (λ p. p.y) t.a t.b t.c u v w pu pv pw ∙ sum3 (of_pair points t.a u is.a).1 (of_pair points t.b v is.b).1 (of_pair points t.c w is.c).1 ∙ zero_y;
   value = ap (λ s. s *ℤ (e.high -ℤ e.low)) pair_total
-      ∙ plain_value u v w f.w f.x f.y (e.high -ℤ e.low) a.x a.y a.height b.x b.y b.height c.x c.y c.height rise_a (second_rise a b c ∙ rise_a) (third_rise a b c ∙ rise_a) zero_x zero_y
+      ∙ plain_value u v w f.w f.x f.y (e.high -ℤ e.low) a.x a.y a.lift b.x b.y b.lift c.x c.y c.lift rise_a (second_rise a b c ∙ rise_a) (third_rise a b c ∙ rise_a) zero_x zero_y
       ∙ ap (λ s. f.w *ℤ s) (sym (sum_of points squared_length t.a t.b t.c u v w pu pv pw ∙ sum3 (of_pair points t.a u is.a).2 (of_pair points t.b v is.b).2 (of_pair points t.c w is.c).2));
 }
   where

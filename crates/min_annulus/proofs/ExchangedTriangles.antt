@@ -6,7 +6,7 @@ use Rattle.bounds_model.specs.Plane.{PlanePoint}
 use Rattle.min_annulus.specs.declared.difference_vectors.DifferenceVector.{DifferenceVector}
 use Rattle.min_annulus.specs.declared.pairs.Pair.{Pair}
 use Rattle.min_annulus.specs.declared.target_triangle.Triangle.{Triangle}
-use Rattle.min_annulus.specs.DifferenceVectors.{IsDifference, IsAround, side, height_limit, measure}
+use Rattle.min_annulus.specs.DifferenceVectors.{IsDifference, IsAround, side, lift_limit, measure}
 use Rattle.min_annulus.specs.LinearForms.{rise, form_through}
 use Rattle.min_annulus.specs.Pairs.{IsPair}
 use Rattle.min_annulus.specs.Triangles.{IsAroundTarget, IsTriangle, IsExchange}
@@ -23,8 +23,8 @@ turn_sum x y z = omega (arith, ints)
 -- its measure stays
 pub measure_turned : (a b c : DifferenceVector) → measure b c a ≡ measure a b c
 measure_turned a b c =
-    ap₂ (λ n d. nat_abs (pos height_limit *ℤ d -ℤ n) * (2 ^ 85 * 2 ^ 85) / nat_abs d)
-    (turn_sum (side b c *ℤ a.height) (side c a *ℤ b.height) (side a b *ℤ c.height))
+    ap₂ (λ n d. nat_abs (pos lift_limit *ℤ d -ℤ n) * (2 ^ 85 * 2 ^ 85) / nat_abs d)
+    (turn_sum (side b c *ℤ a.lift) (side c a *ℤ b.lift) (side a b *ℤ c.lift))
     (turn_sum (side b c) (side c a) (side a b))
 
 plain_cross : (ax ay bx by cx cy : ℤ) → (cx -ℤ bx) *ℤ (ay -ℤ by) -ℤ (ax -ℤ bx) *ℤ (cy -ℤ by) ≡ (bx -ℤ ax) *ℤ (cy -ℤ ay) -ℤ (cx -ℤ ax) *ℤ (by -ℤ ay)
@@ -35,7 +35,7 @@ plain_area ax ay bx by cx cy = read (ax ∷ ay ∷ bx ∷ by ∷ cx ∷ cy ∷ [
 
 -- and so does its form
 pub form_turned : (a b c : DifferenceVector) → form_through b c a ≡ form_through a b c
-form_turned a b c = same_form (plain_cross a.height a.y b.height b.y c.height c.y) (plain_cross a.x a.height b.x b.height c.x c.height) (plain_area a.x a.y b.x b.y c.x c.y)
+form_turned a b c = same_form (plain_cross a.lift a.y b.lift b.y c.lift c.y) (plain_cross a.x a.lift b.x b.lift c.x c.lift) (plain_area a.x a.y b.x b.y c.x c.y)
 
 -- ---- the exchange
 

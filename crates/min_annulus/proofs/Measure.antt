@@ -1,4 +1,4 @@
--- The target's height rises at each exchange, and the measure falls.
+-- The target's lift rises at each exchange, and the measure falls.
 use Rattle.std.proofs.Common.{◌≡◌, refl, sym, ◌∙◌, subst, ℕ, ◌^◌, ◌*◌, ◌/◌, ◌<◌, ℤ, pos, negsuc, ◌+ℤ◌, ◌-ℤ◌, ◌*ℤ◌, neg_ℤ, ◌≤ℤ◌, ◌<ℤ◌, nat_abs, arith, [], ◌∷◌}
 use Rattle.std.proofs.lemmas.Int.{ints}
 use Rattle.integers.specs.Size.{Size}
@@ -8,7 +8,7 @@ use Rattle.integers.proofs.Order.{nonneg_mul, nonneg_add, nonneg_difference, pos
 use Rattle.integers.proofs.Gaps.{floor_rises}
 use Rattle.min_annulus.specs.declared.difference_vectors.DifferenceVector.{DifferenceVector}
 use Rattle.min_annulus.specs.LinearForms.{rise, form_through}
-use Rattle.min_annulus.specs.DifferenceVectors.{IsDifference, IsAround, side, scale, area, height_over, height_under, height_limit}
+use Rattle.min_annulus.specs.DifferenceVectors.{IsDifference, IsAround, side, scale, area, lift_over, lift_under, lift_limit}
 use Rattle.min_annulus.specs.Laws.{MeasureFalls}
 use Rattle.min_annulus.proofs.Exchange.{side_turned, sides_balance}
 
@@ -35,11 +35,11 @@ plain_under : (m ax ay bx by cx cy : ℤ)
 plain_under m ax ay bx by cx cy = read (m ∷ ax ∷ ay ∷ bx ∷ by ∷ cx ∷ cy ∷ []) (λ xs a b c d e f g. simp (a, b, c, d, e, f, g, polys) (den-ring xs _ _ tt))
 
 -- their sum is M² times twice its area
-pub under_is_area : (a b c : DifferenceVector) → height_under a b c ≡ area a b c *ℤ (scale *ℤ scale)
+pub under_is_area : (a b c : DifferenceVector) → lift_under a b c ≡ area a b c *ℤ (scale *ℤ scale)
 under_is_area a b c = plain_under scale a.x a.y b.x b.y c.x c.y
 
 -- around the target they are above 0
-pub under_positive : (a b c : DifferenceVector) → IsAround a b c → pos 0 <ℤ height_under a b c
+pub under_positive : (a b c : DifferenceVector) → IsAround a b c → pos 0 <ℤ lift_under a b c
 under_positive a b c around = sum around.bc around.ca around.ab
   where
     sum : {x y z : ℤ} → pos 0 <ℤ x → pos 0 <ℤ y → pos 0 <ℤ z → pos 0 <ℤ (x +ℤ y +ℤ z)
@@ -57,16 +57,16 @@ pub area_size : (a b c : DifferenceVector) → IsDifference a → IsDifference b
 area_size a b c ha hb hc = size_more (size_sub (size_mul (size_sub hb.x ha.x) (size_sub hc.y ha.y)) (size_mul (size_sub hb.y ha.y) (size_sub hc.x ha.x))) tt
 
 -- and the sum
-under_limit : (a b c : DifferenceVector) → IsDifference a → IsDifference b → IsDifference c → height_under a b c ≤ℤ pos (2 ^ 85)
+under_limit : (a b c : DifferenceVector) → IsDifference a → IsDifference b → IsDifference c → lift_under a b c ≤ℤ pos (2 ^ 85)
 under_limit a b c ha hb hc = limit (area a b c) (under_is_area a b c) (below_size (area_size a b c ha hb hc))
   where
     limit : {s : ℤ} (n : ℤ) → s ≡ n *ℤ (scale *ℤ scale) → n ≤ℤ pos (2 ^ 41) → s ≤ℤ pos (2 ^ 85)
     limit n e h = omega (arith, ints)
 
--- the target's height is at most that of the highest corner
-gap_nonneg : (a b c : DifferenceVector) → IsDifference a → IsDifference b → IsDifference c → IsAround a b c → pos 0 ≤ℤ (pos height_limit *ℤ height_under a b c -ℤ height_over a b c)
+-- the target's lift is at most that of the highest corner
+gap_nonneg : (a b c : DifferenceVector) → IsDifference a → IsDifference b → IsDifference c → IsAround a b c → pos 0 ≤ℤ (pos lift_limit *ℤ lift_under a b c -ℤ lift_over a b c)
 gap_nonneg a b c ha hb hc around =
-    plain (pos height_limit) (side b c) (side c a) (side a b) a.height b.height c.height around.bc around.ca around.ab (below_size ha.height) (below_size hb.height) (below_size hc.height)
+    plain (pos lift_limit) (side b c) (side c a) (side a b) a.lift b.lift c.lift around.bc around.ca around.ab (below_size ha.lift) (below_size hb.lift) (below_size hc.lift)
   where
     plain : (L u v w f g h : ℤ) → pos 0 <ℤ u → pos 0 <ℤ v → pos 0 <ℤ w → f ≤ℤ L → g ≤ℤ L → h ≤ℤ L → pos 0 ≤ℤ (L *ℤ (u +ℤ v +ℤ w) -ℤ (u *ℤ f +ℤ v *ℤ g +ℤ w *ℤ h))
     plain L u v w f g h pu pv pw lf lg lh =
@@ -74,45 +74,45 @@ gap_nonneg a b c ha hb hc around =
         (nonneg_add (nonneg_add (nonneg_mul (nonneg_from_positive pu) (nonneg_difference lf)) (nonneg_mul (nonneg_from_positive pv) (nonneg_difference lg))) (nonneg_mul (nonneg_from_positive pw) (nonneg_difference lh)))
         (read (L ∷ u ∷ v ∷ w ∷ f ∷ g ∷ h ∷ []) (λ xs a b c d e i j. simp (a, b, c, d, e, i, j, polys, lits xs) (den-ring xs _ _ tt)))
 
--- ---- how far the target's height rises
+-- ---- how far the target's lift rises
 
--- by the weights u of the old corners at the target, the sides w to the new corner, and the heights; the last old corner leaves
+-- by the weights u of the old corners at the target, the sides w to the new corner, and the lifts; the last old corner leaves
 plain_rise : (u1 u2 u3 w1 w2 w3 h1 h2 h3 h4 : ℤ) → u1 *ℤ w1 +ℤ u2 *ℤ w2 +ℤ u3 *ℤ w3 ≡ pos 0
     → (w2 *ℤ h1 +ℤ neg_ℤ w1 *ℤ h2 +ℤ u3 *ℤ h4) *ℤ (u1 +ℤ u2 +ℤ u3) -ℤ (u1 *ℤ h1 +ℤ u2 *ℤ h2 +ℤ u3 *ℤ h3) *ℤ (w2 +ℤ neg_ℤ w1 +ℤ u3)
     ≡ u3 *ℤ ((u1 +ℤ u2 +ℤ u3) *ℤ h4 -ℤ ((u1 +ℤ w3 -ℤ w2) *ℤ h1 +ℤ (u2 +ℤ w1 -ℤ w3) *ℤ h2 +ℤ (u3 +ℤ w2 -ℤ w1) *ℤ h3))
 plain_rise u1 u2 u3 w1 w2 w3 h1 h2 h3 h4 e =
     combine1 (h1 -ℤ h2) e (read (u1 ∷ u2 ∷ u3 ∷ w1 ∷ w2 ∷ w3 ∷ h1 ∷ h2 ∷ h3 ∷ h4 ∷ []) (λ xs a b c d f g i j k l. simp (a, b, c, d, f, g, i, j, k, l, polys, lits xs) (den-ring xs _ _ tt)))
 
-plain_lift : (m ax ay ah bx by bh cx cy ch dx dy dh : ℤ)
+plain_rise_by_sides : (m ax ay ah bx by bh cx cy ch dx dy dh : ℤ)
     → (((bx *ℤ cy -ℤ by *ℤ cx) *ℤ (m *ℤ m) +ℤ ((by -ℤ cy) *ℤ m +ℤ (cx -ℤ bx))) +ℤ ((cx *ℤ ay -ℤ cy *ℤ ax) *ℤ (m *ℤ m) +ℤ ((cy -ℤ ay) *ℤ m +ℤ (ax -ℤ cx))) +ℤ ((ax *ℤ by -ℤ ay *ℤ bx) *ℤ (m *ℤ m) +ℤ ((ay -ℤ by) *ℤ m +ℤ (bx -ℤ ax)))) *ℤ dh -ℤ ((((bx *ℤ cy -ℤ by *ℤ cx) *ℤ (m *ℤ m) +ℤ ((by -ℤ cy) *ℤ m +ℤ (cx -ℤ bx))) +ℤ ((cx *ℤ dy -ℤ cy *ℤ dx) *ℤ (m *ℤ m) +ℤ ((cy -ℤ dy) *ℤ m +ℤ (dx -ℤ cx))) -ℤ ((bx *ℤ dy -ℤ by *ℤ dx) *ℤ (m *ℤ m) +ℤ ((by -ℤ dy) *ℤ m +ℤ (dx -ℤ bx)))) *ℤ ah +ℤ (((cx *ℤ ay -ℤ cy *ℤ ax) *ℤ (m *ℤ m) +ℤ ((cy -ℤ ay) *ℤ m +ℤ (ax -ℤ cx))) +ℤ ((ax *ℤ dy -ℤ ay *ℤ dx) *ℤ (m *ℤ m) +ℤ ((ay -ℤ dy) *ℤ m +ℤ (dx -ℤ ax))) -ℤ ((cx *ℤ dy -ℤ cy *ℤ dx) *ℤ (m *ℤ m) +ℤ ((cy -ℤ dy) *ℤ m +ℤ (dx -ℤ cx)))) *ℤ bh +ℤ (((ax *ℤ by -ℤ ay *ℤ bx) *ℤ (m *ℤ m) +ℤ ((ay -ℤ by) *ℤ m +ℤ (bx -ℤ ax))) +ℤ ((bx *ℤ dy -ℤ by *ℤ dx) *ℤ (m *ℤ m) +ℤ ((by -ℤ dy) *ℤ m +ℤ (dx -ℤ bx))) -ℤ ((ax *ℤ dy -ℤ ay *ℤ dx) *ℤ (m *ℤ m) +ℤ ((ay -ℤ dy) *ℤ m +ℤ (dx -ℤ ax)))) *ℤ ch)
     ≡ (m *ℤ m) *ℤ ((((bx -ℤ ax) *ℤ (cy -ℤ ay) -ℤ (by -ℤ ay) *ℤ (cx -ℤ ax)) *ℤ dh -ℤ (((bh -ℤ ah) *ℤ (cy -ℤ ay) -ℤ (ch -ℤ ah) *ℤ (by -ℤ ay)) *ℤ dx +ℤ ((bx -ℤ ax) *ℤ (ch -ℤ ah) -ℤ (cx -ℤ ax) *ℤ (bh -ℤ ah)) *ℤ dy)) -ℤ (((bx -ℤ ax) *ℤ (cy -ℤ ay) -ℤ (by -ℤ ay) *ℤ (cx -ℤ ax)) *ℤ ah -ℤ (((bh -ℤ ah) *ℤ (cy -ℤ ay) -ℤ (ch -ℤ ah) *ℤ (by -ℤ ay)) *ℤ ax +ℤ ((bx -ℤ ax) *ℤ (ch -ℤ ah) -ℤ (cx -ℤ ax) *ℤ (bh -ℤ ah)) *ℤ ay)))
-plain_lift m ax ay ah bx by bh cx cy ch dx dy dh =
+plain_rise_by_sides m ax ay ah bx by bh cx cy ch dx dy dh =
     read (m ∷ ax ∷ ay ∷ ah ∷ bx ∷ by ∷ bh ∷ cx ∷ cy ∷ ch ∷ dx ∷ dy ∷ dh ∷ []) (λ xs a b c d e f g h i j k l n. simp (a, b, c, d, e, f, g, h, i, j, k, l, n, polys) (den-ring xs _ _ tt))
 
 -- M² times how far d is above the plane through a, b and c
-lift : (a b c d : DifferenceVector)
-    → height_under a b c *ℤ d.height -ℤ ((side b c +ℤ side c d -ℤ side b d) *ℤ a.height +ℤ (side c a +ℤ side a d -ℤ side c d) *ℤ b.height +ℤ (side a b +ℤ side b d -ℤ side a d) *ℤ c.height)
+rise_by_sides : (a b c d : DifferenceVector)
+    → lift_under a b c *ℤ d.lift -ℤ ((side b c +ℤ side c d -ℤ side b d) *ℤ a.lift +ℤ (side c a +ℤ side a d -ℤ side c d) *ℤ b.lift +ℤ (side a b +ℤ side b d -ℤ side a d) *ℤ c.lift)
     ≡ (scale *ℤ scale) *ℤ (rise (form_through a b c) d -ℤ rise (form_through a b c) a)
-lift a b c d = plain_lift scale a.x a.y a.height b.x b.y b.height c.x c.y c.height d.x d.y d.height
+rise_by_sides a b c d = plain_rise_by_sides scale a.x a.y a.lift b.x b.y b.lift c.x c.y c.lift d.x d.y d.lift
 
--- where d is above it, and c leaves, the target's height is greater
-pub height_rises : (a b c d : DifferenceVector) → IsAround a b c → rise (form_through a b c) a <ℤ rise (form_through a b c) d → (height_over a b c *ℤ height_under a b d) <ℤ (height_over a b d *ℤ height_under a b c)
-height_rises a b c d around above =
+-- where d is above it, and c leaves, the target's lift is greater
+pub lift_rises : (a b c d : DifferenceVector) → IsAround a b c → rise (form_through a b c) a <ℤ rise (form_through a b c) d → (lift_over a b c *ℤ lift_under a b d) <ℤ (lift_over a b d *ℤ lift_under a b c)
+lift_rises a b c d around above =
     lt_by
-    (positive_mul around.ab (subst (λ g. pos 0 <ℤ g) (sym (lift a b c d)) (positive_mul square_positive (positive_difference above))))
+    (positive_mul around.ab (subst (λ g. pos 0 <ℤ g) (sym (rise_by_sides a b c d)) (positive_mul square_positive (positive_difference above))))
     (subst (λ s. difference (side b d) s (side a b) ≡ difference (side b d) (neg_ℤ (side a d)) (side a b)) (sym (side_turned d a)) refl
-    ∙ plain_rise (side b c) (side c a) (side a b) (side a d) (side b d) (side c d) a.height b.height c.height d.height (sides_balance a b c d))
+    ∙ plain_rise (side b c) (side c a) (side a b) (side a d) (side b d) (side c d) a.lift b.lift c.lift d.lift (sides_balance a b c d))
   where
     square_positive : pos 0 <ℤ (scale *ℤ scale)
     square_positive = omega (arith, ints)
 
     difference : (u v w : ℤ) → ℤ
-    difference u v w = (u *ℤ a.height +ℤ v *ℤ b.height +ℤ w *ℤ d.height) *ℤ height_under a b c -ℤ height_over a b c *ℤ (u +ℤ v +ℤ w)
+    difference u v w = (u *ℤ a.lift +ℤ v *ℤ b.lift +ℤ w *ℤ d.lift) *ℤ lift_under a b c -ℤ lift_over a b c *ℤ (u +ℤ v +ℤ w)
 
 -- the measure falls
 pub measure_falls : MeasureFalls
 measure_falls a b c d ha hb hc hd old new above =
-    falls (pos height_limit *ℤ height_under a b d -ℤ height_over a b d) (height_under a b d) (pos height_limit *ℤ height_under a b c -ℤ height_over a b c) (height_under a b c) (2 ^ 85)
+    falls (pos lift_limit *ℤ lift_under a b d -ℤ lift_over a b d) (lift_under a b d) (pos lift_limit *ℤ lift_under a b c -ℤ lift_over a b c) (lift_under a b c) (2 ^ 85)
     (gap_nonneg a b d ha hb hd new) (under_positive a b d new) (gap_nonneg a b c ha hb hc old) (under_positive a b c old)
     (under_limit a b d ha hb hd) (under_limit a b c ha hb hc)
-    (closer (pos height_limit) (height_over a b c) (height_under a b c) (height_over a b d) (height_under a b d) (height_rises a b c d old above))
+    (closer (pos lift_limit) (lift_over a b c) (lift_under a b c) (lift_over a b d) (lift_under a b d) (lift_rises a b c d old above))

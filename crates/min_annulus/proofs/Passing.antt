@@ -12,7 +12,7 @@ use Rattle.bounds_model.specs.Plane.{PlanePoint, PlaneRatio, point_at, origin, s
 use Rattle.bounds_model.specs.Space.{SamePlace, flat_ratio}
 use Rattle.bounds_model.specs.Fractions.{Fraction, SameValue}
 use Rattle.bounds_model.specs.Places.{IsFraction, IsPlaneRatio, number_limit, point_limit}
-use Rattle.bounds_model.specs.AnnulusAnswer.{WeightedPair, AnnulusAnswer, PassesAnnulus, IsPairPlace, height, squared_radius_at, pair_sum, weighted_differences}
+use Rattle.bounds_model.specs.AnnulusAnswer.{WeightedPair, AnnulusAnswer, PassesAnnulus, IsPairPlace, power, squared_radius_at, pair_sum, weighted_differences}
 use Rattle.min_annulus.specs.declared.linear_forms.LinearForm.{LinearForm}
 use Rattle.min_annulus.specs.declared.extremes.Extremes.{Extremes}
 use Rattle.min_annulus.specs.LinearForms.{IsLinearForm, level, centre_of, squared_radius_of}
@@ -20,27 +20,27 @@ use Rattle.min_annulus.specs.Extremes.{AreExtremes}
 use Rattle.min_annulus.specs.Witnesses.{ShowSize}
 use Rattle.min_annulus.proofs.LowestCentres.{denominator_le, numerators_le}
 
--- ---- the answer's heights and the form's levels
+-- ---- the answer's powers and the form's levels
 
--- W times a height is w times the level, by plain numbers: x/w and X/2W are one number, as are y/w and Y/2W
-plain_height : (W X Y w x y px py : ℤ) → x *ℤ (pos 2 *ℤ W) ≡ X *ℤ w → y *ℤ (pos 2 *ℤ W) ≡ Y *ℤ w
+-- W times a power is w times the level, by plain numbers: x/w and X/2W are one number, as are y/w and Y/2W
+plain_power : (W X Y w x y px py : ℤ) → x *ℤ (pos 2 *ℤ W) ≡ X *ℤ w → y *ℤ (pos 2 *ℤ W) ≡ Y *ℤ w
     → W *ℤ (w *ℤ (px *ℤ px +ℤ py *ℤ py) -ℤ pos 2 *ℤ (x *ℤ px +ℤ y *ℤ py)) ≡ w *ℤ (W *ℤ (px *ℤ px +ℤ py *ℤ py) -ℤ (X *ℤ px +ℤ Y *ℤ py))
-plain_height W X Y w x y px py ex ey =
+plain_power W X Y w x y px py ex ey =
     combine2 (neg_ℤ px) (neg_ℤ py) ex ey (read (W ∷ X ∷ Y ∷ w ∷ x ∷ y ∷ px ∷ py ∷ []) (λ xs a b c d e f g h. simp (a, b, c, d, e, f, g, h, polys, lits xs) (den-ring xs _ _ tt)))
 
 -- the two name one centre
 abbrev Same : LinearForm → PlaneRatio → Type 0
 Same f c = SamePlace (flat_ratio c) (flat_ratio (centre_of f))
 
-height_is : (f : LinearForm) (c : PlaneRatio) (p : PlanePoint) → Same f c → f.w *ℤ height c p ≡ c.w *ℤ level f p
-height_is f c p same = plain_height f.w f.x f.y c.w c.x c.y p.x p.y same.in_x same.in_y
+power_is : (f : LinearForm) (c : PlaneRatio) (p : PlanePoint) → Same f c → f.w *ℤ power c p ≡ c.w *ℤ level f p
+power_is f c p same = plain_power f.w f.x f.y c.w c.x c.y p.x p.y same.in_x same.in_y
 
 -- so both have one order
-heights_order : (f : LinearForm) (c : PlaneRatio) (p q : PlanePoint) → Same f c → pos 1 ≤ℤ f.w → pos 1 ≤ℤ c.w → level f p ≤ℤ level f q → height c p ≤ℤ height c q
-heights_order f c p q same some other h =
+powers_order : (f : LinearForm) (c : PlaneRatio) (p q : PlanePoint) → Same f c → pos 1 ≤ℤ f.w → pos 1 ≤ℤ c.w → level f p ≤ℤ level f q → power c p ≤ℤ power c q
+powers_order f c p q same some other h =
     le_of_mul_le f.w (positive_from_one some)
-    (subst (λ z. z ≤ℤ (f.w *ℤ height c q)) (sym (height_is f c p same))
-    (subst (λ z. (c.w *ℤ level f p) ≤ℤ z) (sym (height_is f c q same)) (mul_le_left c.w (nonneg_from_positive (positive_from_one other)) h)))
+    (subst (λ z. z ≤ℤ (f.w *ℤ power c q)) (sym (power_is f c p same))
+    (subst (λ z. (c.w *ℤ level f p) ≤ℤ z) (sym (power_is f c q same)) (mul_le_left c.w (nonneg_from_positive (positive_from_one other)) h)))
 
 -- ---- the extremes
 
@@ -52,21 +52,21 @@ at_number points i below = (i, below, get_or_default points i (point_at points i
 all_by_number : (P : PlanePoint → Type 0) (points : List PlanePoint) → ((i : ℕ) → i < length points → P (point_at points i)) → All P points
 all_by_number P points h = λ k d below. subst P (get_or_default points k origin d below) (h k below)
 
--- the greatest height is that of the far point
-pub greatest_height : (points : List PlanePoint) (f : LinearForm) (c : PlaneRatio) (e : Extremes) → Same f c → pos 1 ≤ℤ f.w → pos 1 ≤ℤ c.w → AreExtremes (λ i. level f (point_at points i)) (length points) e
-    → greatest (height c) points ≡ height c (point_at points e.far)
-greatest_height points f c e same some other extremes =
-    greatest_is (height c) points (point_at points e.far) (at_number points e.far extremes.far)
-    (all_by_number (λ p. height c p ≤ℤ height c (point_at points e.far)) points
-    (λ i below. heights_order f c (point_at points i) (point_at points e.far) same some other (subst (λ z. level f (point_at points i) ≤ℤ z) extremes.high (extremes.highest i below))))
+-- the greatest power is that of the far point
+pub greatest_power : (points : List PlanePoint) (f : LinearForm) (c : PlaneRatio) (e : Extremes) → Same f c → pos 1 ≤ℤ f.w → pos 1 ≤ℤ c.w → AreExtremes (λ i. level f (point_at points i)) (length points) e
+    → greatest (power c) points ≡ power c (point_at points e.far)
+greatest_power points f c e same some other extremes =
+    greatest_is (power c) points (point_at points e.far) (at_number points e.far extremes.far)
+    (all_by_number (λ p. power c p ≤ℤ power c (point_at points e.far)) points
+    (λ i below. powers_order f c (point_at points i) (point_at points e.far) same some other (subst (λ z. level f (point_at points i) ≤ℤ z) extremes.high (extremes.highest i below))))
 
 -- the least is that of the near one
-pub least_height : (points : List PlanePoint) (f : LinearForm) (c : PlaneRatio) (e : Extremes) → Same f c → pos 1 ≤ℤ f.w → pos 1 ≤ℤ c.w → AreExtremes (λ i. level f (point_at points i)) (length points) e
-    → least (height c) points ≡ height c (point_at points e.near)
-least_height points f c e same some other extremes =
-    least_is (height c) points (point_at points e.near) (at_number points e.near extremes.near)
-    (all_by_number (λ p. height c (point_at points e.near) ≤ℤ height c p) points
-    (λ i below. heights_order f c (point_at points e.near) (point_at points i) same some other (subst (λ z. z ≤ℤ level f (point_at points i)) extremes.low (extremes.lowest i below))))
+pub least_power : (points : List PlanePoint) (f : LinearForm) (c : PlaneRatio) (e : Extremes) → Same f c → pos 1 ≤ℤ f.w → pos 1 ≤ℤ c.w → AreExtremes (λ i. level f (point_at points i)) (length points) e
+    → least (power c) points ≡ power c (point_at points e.near)
+least_power points f c e same some other extremes =
+    least_is (power c) points (point_at points e.near) (at_number points e.near extremes.near)
+    (all_by_number (λ p. power c (point_at points e.near) ≤ℤ power c p) points
+    (λ i below. powers_order f c (point_at points e.near) (point_at points i) same some other (subst (λ z. z ≤ℤ level f (point_at points i)) extremes.low (extremes.lowest i below))))
 
 -- the least is not above the greatest
 pub range_nonneg : (points : List PlanePoint) (f : LinearForm) (e : Extremes) → AreExtremes (λ i. level f (point_at points i)) (length points) e → pos 0 ≤ℤ (e.high -ℤ e.low)
@@ -77,7 +77,7 @@ range_nonneg points f e extremes = above (extremes.lowest e.far extremes.far) ex
 
 -- ---- the size, by plain numbers
 
--- the form's range over W is the heights' range over w
+-- the form's range over W is the powers' range over w
 plain_size : (W w n d hi lo G L : ℤ) → pos 0 <ℤ W → n *ℤ W ≡ (hi -ℤ lo) *ℤ d → W *ℤ G ≡ w *ℤ hi → W *ℤ L ≡ w *ℤ lo → n *ℤ w ≡ (G -ℤ L) *ℤ d
 plain_size W w n d hi lo G L p h eg el =
     same_of_mul W p (combine3 w (neg_ℤ d) d h eg el (read (W ∷ w ∷ n ∷ d ∷ hi ∷ lo ∷ G ∷ L ∷ []) (λ xs a b c e f g i j. simp (a, b, c, e, f, g, i, j, polys) (den-ring xs _ _ tt))))
@@ -100,8 +100,8 @@ plain_same_radius : (k n d R w S : ℤ) → pos 0 <ℤ k → n *ℤ k ≡ R *ℤ
 plain_same_radius k n d R w S p h e =
     same_of_mul k p (combine2 w d h e (read (k ∷ n ∷ d ∷ R ∷ w ∷ S ∷ []) (λ xs a b c f g i. simp (a, b, c, f, g, i, polys) (den-ring xs _ _ tt))))
 
--- a radius by the form is the radius at the height
-radius_is : (f : LinearForm) (c : PlaneRatio) (p : PlanePoint) (r : Fraction) → Same f c → pos 1 ≤ℤ f.w → SameValue r (squared_radius_of f p) → SameValue r (squared_radius_at c (height c p))
+-- a radius by the form is the radius at the power
+radius_is : (f : LinearForm) (c : PlaneRatio) (p : PlanePoint) (r : Fraction) → Same f c → pos 1 ≤ℤ f.w → SameValue r (squared_radius_of f p) → SameValue r (squared_radius_at c (power c p))
 radius_is f c p r same some value =
     plain_same_radius ((pos 2 *ℤ f.w) *ℤ (pos 2 *ℤ f.w)) r.n r.d _ (c.w *ℤ c.w) _ (positive_mul (twice some) (twice some)) value
     (plain_radius f.w f.x f.y c.w c.x c.y p.x p.y same.in_x same.in_y)
@@ -156,21 +156,21 @@ annulus_passes points f e a few form some extremes show size size_lowest same lo
   weight_limit = show.weight_limit;
   balanced_x = show.balanced_x;
   balanced_y = show.balanced_y;
-  size = subst (λ g. SameValue a.size (record { n = g -ℤ least (height a.centre) points; d = a.centre.w })) (sym high)
-      (subst (λ l. SameValue a.size (record { n = height a.centre (point_at points e.far) -ℤ l; d = a.centre.w })) (sym low)
+  size = subst (λ g. SameValue a.size (record { n = g -ℤ least (power a.centre) points; d = a.centre.w })) (sym high)
+      (subst (λ l. SameValue a.size (record { n = power a.centre (point_at points e.far) -ℤ l; d = a.centre.w })) (sym low)
       (plain_size f.w a.centre.w a.size.n a.size.d e.high e.low _ _ (positive_from_one some) size
-      (height_is f a.centre (point_at points e.far) same ∙ sym_level e.high _ extremes.high)
-      (height_is f a.centre (point_at points e.near) same ∙ sym_level e.low _ extremes.low)));
+      (power_is f a.centre (point_at points e.far) same ∙ sym_level e.high _ extremes.high)
+      (power_is f a.centre (point_at points e.near) same ∙ sym_level e.low _ extremes.low)));
   least_size = plain_mean f.w a.size.n a.size.d (e.high -ℤ e.low) (pair_sum a.pairs) (weighted_differences points squared_length a.pairs) (positive_from_one some) size show.value;
   inner = subst (λ l. SameValue a.inner (squared_radius_at a.centre l)) (sym low) (radius_is f a.centre (point_at points e.near) a.inner same some inner);
   outer = subst (λ g. SameValue a.outer (squared_radius_at a.centre g)) (sym high) (radius_is f a.centre (point_at points e.far) a.outer same some outer);
 }
   where
-    high : greatest (height a.centre) points ≡ height a.centre (point_at points e.far)
-    high = greatest_height points f a.centre e same some lowest.denominator extremes
+    high : greatest (power a.centre) points ≡ power a.centre (point_at points e.far)
+    high = greatest_power points f a.centre e same some lowest.denominator extremes
 
-    low : least (height a.centre) points ≡ height a.centre (point_at points e.near)
-    low = least_height points f a.centre e same some lowest.denominator extremes
+    low : least (power a.centre) points ≡ power a.centre (point_at points e.near)
+    low = least_power points f a.centre e same some lowest.denominator extremes
 
     twice : {w : ℤ} → pos 1 ≤ℤ w → pos 1 ≤ℤ (pos 2 *ℤ w)
     twice h = omega (arith, ints)

@@ -13,10 +13,10 @@ same_form {a} {b} {c} {d} {e} {f} h k l =
     first ∙ ap₂ (λ v w. record { x = d; y = v; w = w }) k l
 
 -- differences with the same numbers are the same
-pub same_difference : {a b c d e f : ℤ} → a ≡ d → b ≡ e → c ≡ f → (let p : DifferenceVector = record { x = a; y = b; height = c } in p) ≡ (let q : DifferenceVector = record { x = d; y = e; height = f } in q)
+pub same_difference : {a b c d e f : ℤ} → a ≡ d → b ≡ e → c ≡ f → (let p : DifferenceVector = record { x = a; y = b; lift = c } in p) ≡ (let q : DifferenceVector = record { x = d; y = e; lift = f } in q)
 same_difference {a} {b} {c} {d} {e} {f} h k l =
-    let first : (let p : DifferenceVector = record { x = a; y = b; height = c } in p) ≡ (let q : DifferenceVector = record { x = d; y = b; height = c } in q) = ap (λ v. record { x = v; y = b; height = c }) h in
-    first ∙ ap₂ (λ v w. record { x = d; y = v; height = w }) k l
+    let first : (let p : DifferenceVector = record { x = a; y = b; lift = c } in p) ≡ (let q : DifferenceVector = record { x = d; y = b; lift = c } in q) = ap (λ v. record { x = v; y = b; lift = c }) h in
+    first ∙ ap₂ (λ v w. record { x = d; y = v; lift = w }) k l
 
 -- a place by other forms of its numbers
 pub same_place : {c : PlaneRatio} {x y w a b d : ℤ} → SamePlace (flat_ratio c) (flat_ratio (record { x = x; y = y; w = w })) → x ≡ a → y ≡ b → w ≡ d → SamePlace (flat_ratio c) (flat_ratio (record { x = a; y = b; w = d }))

@@ -4,15 +4,15 @@ use Rattle.integers.specs.Size.{Size}
 use Rattle.bounds_model.specs.Plane.{PlanePoint, squared_length}
 use Rattle.min_annulus.specs.declared.difference_vectors.DifferenceVector.{DifferenceVector}
 
--- the difference of the points p and q, with the difference of their squared lengths as its height
+-- the difference of the points p and q, with the difference of their squared lengths as its lift
 abbrev pub difference_of : PlanePoint → PlanePoint → DifferenceVector
-difference_of p q = record { x = p.x -ℤ q.x; y = p.y -ℤ q.y; height = squared_length p -ℤ squared_length q }
+difference_of p q = record { x = p.x -ℤ q.x; y = p.y -ℤ q.y; lift = squared_length p -ℤ squared_length q }
 
 -- how far out a difference is
 pub record IsDifference (d : DifferenceVector) : Type 0 where
   pub x : Size 400000 d.x
   pub y : Size 400000 d.y
-  pub height : Size 80000000000 d.height
+  pub lift : Size 80000000000 d.lift
 
 -- M: the target is the point (1/M, 1/M²). No line through two different differences of points in bounds meets it.
 abbrev pub scale : ℤ
@@ -52,18 +52,18 @@ IsAhead d = pos 0 ≤ℤ (pos (2 ^ 19) *ℤ d.x +ℤ d.y)
 abbrev pub area : DifferenceVector → DifferenceVector → DifferenceVector → ℤ
 area a b c = (b.x -ℤ a.x) *ℤ (c.y -ℤ a.y) -ℤ (b.y -ℤ a.y) *ℤ (c.x -ℤ a.x)
 
--- the target's height on the plane through a, b and c is this ..
-abbrev pub height_over : DifferenceVector → DifferenceVector → DifferenceVector → ℤ
-height_over a b c = side b c *ℤ a.height +ℤ side c a *ℤ b.height +ℤ side a b *ℤ c.height
+-- the target's lift on the plane through a, b and c is this ..
+abbrev pub lift_over : DifferenceVector → DifferenceVector → DifferenceVector → ℤ
+lift_over a b c = side b c *ℤ a.lift +ℤ side c a *ℤ b.lift +ℤ side a b *ℤ c.lift
 
 -- .. over this, M² times twice the area
-abbrev pub height_under : DifferenceVector → DifferenceVector → DifferenceVector → ℤ
-height_under a b c = side b c +ℤ side c a +ℤ side a b
+abbrev pub lift_under : DifferenceVector → DifferenceVector → DifferenceVector → ℤ
+lift_under a b c = side b c +ℤ side c a +ℤ side a b
 
--- the most that a height can be
-abbrev pub height_limit : ℕ
-height_limit = 80000000000
+-- the most that a lift can be
+abbrev pub lift_limit : ℕ
+lift_limit = 80000000000
 
--- how far the target's height can still rise, in parts of which each rise has at least one
+-- how far the target's lift can still rise, in parts of which each rise has at least one
 abbrev pub measure : DifferenceVector → DifferenceVector → DifferenceVector → ℕ
-measure a b c = nat_abs (pos height_limit *ℤ height_under a b c -ℤ height_over a b c) * (2 ^ 85 * 2 ^ 85) / nat_abs (height_under a b c)
+measure a b c = nat_abs (pos lift_limit *ℤ lift_under a b c -ℤ lift_over a b c) * (2 ^ 85 * 2 ^ 85) / nat_abs (lift_under a b c)

@@ -19,13 +19,13 @@ level f p = f.w *ℤ squared_length p -ℤ dot (record { x = f.x; y = f.y }) p
 
 -- the value at a pair's first point less that at its second
 abbrev pub rise : LinearForm → DifferenceVector → ℤ
-rise f d = f.w *ℤ d.height -ℤ (f.x *ℤ d.x +ℤ f.y *ℤ d.y)
+rise f d = f.w *ℤ d.lift -ℤ (f.x *ℤ d.x +ℤ f.y *ℤ d.y)
 
 -- a form that has one value at three pairs
 abbrev pub form_through : DifferenceVector → DifferenceVector → DifferenceVector → LinearForm
 form_through a b c = record {
-  x = (b.height -ℤ a.height) *ℤ (c.y -ℤ a.y) -ℤ (c.height -ℤ a.height) *ℤ (b.y -ℤ a.y);
-  y = (b.x -ℤ a.x) *ℤ (c.height -ℤ a.height) -ℤ (c.x -ℤ a.x) *ℤ (b.height -ℤ a.height);
+  x = (b.lift -ℤ a.lift) *ℤ (c.y -ℤ a.y) -ℤ (c.lift -ℤ a.lift) *ℤ (b.y -ℤ a.y);
+  y = (b.x -ℤ a.x) *ℤ (c.lift -ℤ a.lift) -ℤ (c.x -ℤ a.x) *ℤ (b.lift -ℤ a.lift);
   w = area a b c;
 }
 

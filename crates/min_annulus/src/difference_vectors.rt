@@ -5,12 +5,12 @@ ghost use Rattle.min_annulus.specs.DifferenceVectors.{difference_of, IsDifferenc
 
 use bounded_coords::Point2;
 
-/// The difference p - q of two points, with the difference |p|² - |q|² of their squared lengths as its height.
+/// The difference p - q of two points, with the difference |p|² - |q|² of their squared lengths as its lift.
 #[derive(Clone, Copy)]
 pub(crate) struct DifferenceVector {
     pub(crate) x: i64,
     pub(crate) y: i64,
-    pub(crate) height: i64,
+    pub(crate) lift: i64,
 }
 
 impl DifferenceVector {
@@ -22,7 +22,7 @@ impl DifferenceVector {
         DifferenceVector {
             x: p.x() as i64 - q.x() as i64,
             y: p.y() as i64 - q.y() as i64,
-            height: squared_length(p) - squared_length(q),
+            lift: squared_length(p) - squared_length(q),
         }
     }
 
@@ -46,7 +46,7 @@ impl DifferenceVector {
         self.x * to.y - self.y * to.x
     }
 
-    /// The dot product, without the heights.
+    /// The dot product, without the lifts.
     pub(crate) fn dot(self, to: DifferenceVector) -> i64
         requires from { IsDifference self }
         requires to { IsDifference to }

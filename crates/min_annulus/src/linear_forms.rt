@@ -76,8 +76,8 @@ impl LinearForm {
         requires difference { IsDifference d }
         ensures { result ≡ rise self d }
     {
-        let height = self.w as i128 * d.height as i128;
-        height - (self.x as i128 * d.x as i128 + self.y as i128 * d.y as i128)
+        let lift = self.w as i128 * d.lift as i128;
+        lift - (self.x as i128 * d.x as i128 + self.y as i128 * d.y as i128)
     }
 
     /// The form with one value at three differences: the plane through them, over twice the area of the triangle.
@@ -92,11 +92,11 @@ impl LinearForm {
         ensures value { result ≡ form_through a b c }
         ensures form { IsLinearForm result }
     {
-        let (bx, by, bh) = (b.x - a.x, b.y - a.y, b.height - a.height);
-        let (cx, cy, ch) = (c.x - a.x, c.y - a.y, c.height - a.height);
+        let (bx, by, bl) = (b.x - a.x, b.y - a.y, b.lift - a.lift);
+        let (cx, cy, cl) = (c.x - a.x, c.y - a.y, c.lift - a.lift);
         LinearForm {
-            x: bh * cy - ch * by,
-            y: bx * ch - cx * bh,
+            x: bl * cy - cl * by,
+            y: bx * cl - cx * bl,
             w: bx * cy - by * cx,
         }
     }

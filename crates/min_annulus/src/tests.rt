@@ -248,12 +248,12 @@ fn judge(
     let mut greatest = i64::MIN;
     let mut least = i64::MAX;
     for p in places {
-        let height = centre
+        let power = centre
             .2
             .wrapping_mul(product(*p, *p))
             .wrapping_sub(product((centre.0, centre.1), *p).wrapping_mul(2));
-        greatest = greatest.max(height);
-        least = least.min(height);
+        greatest = greatest.max(power);
+        least = least.min(power);
     }
     let width = greatest.wrapping_sub(least).wrapping_mul(size.1);
     let printed = size.0.wrapping_mul(centre.2);

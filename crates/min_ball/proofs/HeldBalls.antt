@@ -1,4 +1,4 @@
--- Supports of equal potential, under which no point is low, hold a ball in place.
+-- Supports of equal slack, under which no point is low, hold a ball in place.
 use Rattle.std.proofs.Common.{◌≡◌, refl, sym, subst, ◌∙◌, ap, ap₂, ℕ, ◌<◌, ◌≤◌, ℤ, pos, ◌*ℤ◌, ◌≤ℤ◌, ◌<ℤ◌, List, [], ◌∷◌, length, get_or, map, arith}
 use Rattle.std.specs.Prelude.{All}
 use Rattle.std.proofs.lemmas.Int.{ints}
@@ -10,7 +10,7 @@ use Rattle.bounds_model.specs.Space.{SpacePoint, point_at, vector, plus, times, 
 use Rattle.bounds_model.specs.Fractions.{Fraction, SameValue}
 use Rattle.bounds_model.specs.Places.{IsFraction}
 use Rattle.bounds_model.specs.BallAnswer.{Weighted, weight_sum, first_support, seen_support, pull, supported_size, IsOnBall, IsNotOutside}
-use Rattle.bounds_model.specs.Potentials.{WeightedVector, mass, moment, potential, IsLow}
+use Rattle.bounds_model.specs.Slacks.{WeightedVector, mass, moment, slack, IsLow}
 use Rattle.bounded_coords.specs.declared.cloud.Cloud.{Cloud}
 use Rattle.bounded_coords.specs.Clouds.{points_of}
 use Rattle.kernel_laws.specs.Limits.{ball_limit}
@@ -76,7 +76,7 @@ supports_on_ball K place cloud (first ∷ rest) h =
     let supports = map weighted_point held in
     let weighted = weighted_items place items held in
     let f = first_support points supports in
-    let equal = all_unmap (λ (a : WeightedVector). All (λ b. potential (pos 1) weighted a.vector ≡ potential (pos 1) weighted b.vector) weighted) (weighted_item place items) held h.equal in
+    let equal = all_unmap (λ (a : WeightedVector). All (λ b. slack (pos 1) weighted a.vector ≡ slack (pos 1) weighted b.vector) weighted) (weighted_item place items) held h.equal in
     All-map (IsOnBall points supports) weighted_point held (λ k d l.
     let p = point_at points (get_or held k d).id.first in
     subst (λ m. pos 2 *ℤ dot (vector f p) (pull points supports) ≡ m *ℤ squared_length (vector f p)) (mass_is place items held)
@@ -97,7 +97,7 @@ none_outside K place cloud (first ∷ rest) h none_low k d l =
     let p = point_at points k in
     let as_many = length-map (points_of cloud) place in
     let listed : k < length (points_of cloud) = omega arith in
-    let above = at_least_common (pos 1) weighted (potential (pos 1) weighted (vector (point_at points 0) f)) (λ j e m. h.equal j e m 0 (weighted_item place items first) (omega arith)) (vector (point_at points 0) p)
+    let above = at_least_common (pos 1) weighted (slack (pos 1) weighted (vector (point_at points 0) f)) (λ j e m. h.equal j e m 0 (weighted_item place items first) (omega arith)) (vector (point_at points 0) p)
     (none_low (record { first = k; second = k }) (listed, refl)) in
     subst (IsNotOutside points supports) (any_default points k d origin l)
     (subst (λ m. (m *ℤ squared_length (vector f p)) ≤ℤ (pos 2 *ℤ dot (vector f p) (pull points supports))) (mass_is place items held)

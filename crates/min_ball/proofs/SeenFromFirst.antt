@@ -1,4 +1,4 @@
--- Potentials of points as seen from one point say where the points are as seen from another.
+-- Slacks of points as seen from one point say where the points are as seen from another.
 use Rattle.std.proofs.Common.{◌≡◌, sym, subst, ap, ℤ, pos, ◌+ℤ◌, ◌-ℤ◌, ◌*ℤ◌, ◌≤ℤ◌, List, [], ◌∷◌, arith}
 use Rattle.std.proofs.lemmas.Int.{ints}
 use Rattle.integers.specs.Total.{total}
@@ -29,9 +29,9 @@ sum_seen weight at o f (x ∷ xs) =
     (sum_step (weight x) (at x).y o.y f.y r.y t _ (ap (λ p. p.y) rest))
     (sum_step (weight x) (at x).z o.z f.z r.z t _ (ap (λ p. p.z) rest))
 
--- ---- potentials
+-- ---- slacks
 
--- how far a point is inside the ball through f, by the potentials of both as seen from o
+-- how far a point is inside the ball through f, by the slacks of both as seen from o
 inside_numbers : (m ox oy oz fx fy fz px py pz cx cy cz : ℤ)
     → pos 2 *ℤ ((px -ℤ ox) *ℤ (cx +ℤ m *ℤ (fx -ℤ ox)) +ℤ (py -ℤ oy) *ℤ (cy +ℤ m *ℤ (fy -ℤ oy)) +ℤ (pz -ℤ oz) *ℤ (cz +ℤ m *ℤ (fz -ℤ oz)))
     -ℤ pos 1 *ℤ (m *ℤ ((px -ℤ ox) *ℤ (px -ℤ ox) +ℤ (py -ℤ oy) *ℤ (py -ℤ oy) +ℤ (pz -ℤ oz) *ℤ (pz -ℤ oz)))
@@ -42,28 +42,28 @@ inside_numbers m ox oy oz fx fy fz px py pz cx cy cz =
     read (m ∷ ox ∷ oy ∷ oz ∷ fx ∷ fy ∷ fz ∷ px ∷ py ∷ pz ∷ cx ∷ cy ∷ cz ∷ [])
     (λ xs a b c d e f g h i j k l n. simp (a, b, c, d, e, f, g, h, i, j, k, l, n, polys, lits xs) (den-ring xs _ _ tt))
 
--- the potential for balls of a vector, by the sum of the weights and the weighted sum
-abbrev pub ball_potential : ℤ → SpacePoint → SpacePoint → ℤ
-ball_potential m s v = pos 2 *ℤ dot v s -ℤ pos 1 *ℤ (m *ℤ squared_length v)
+-- the slack for balls of a vector, by the sum of the weights and the weighted sum
+abbrev pub ball_slack : ℤ → SpacePoint → SpacePoint → ℤ
+ball_slack m s v = pos 2 *ℤ dot v s -ℤ pos 1 *ℤ (m *ℤ squared_length v)
 
 -- the same law for points
 pub inside : (m : ℤ) (o f p c s : SpacePoint) → s ≡ plus c (times m (vector o f))
-    → ball_potential m s (vector o p) ≡ pos 2 *ℤ dot (vector f p) c -ℤ m *ℤ squared_length (vector f p) +ℤ ball_potential m s (vector o f)
+    → ball_slack m s (vector o p) ≡ pos 2 *ℤ dot (vector f p) c -ℤ m *ℤ squared_length (vector f p) +ℤ ball_slack m s (vector o f)
 inside m o f p c s e =
-    subst (λ s. ball_potential m s (vector o p) ≡ pos 2 *ℤ dot (vector f p) c -ℤ m *ℤ squared_length (vector f p) +ℤ ball_potential m s (vector o f)) (sym e)
+    subst (λ s. ball_slack m s (vector o p) ≡ pos 2 *ℤ dot (vector f p) c -ℤ m *ℤ squared_length (vector f p) +ℤ ball_slack m s (vector o f)) (sym e)
     (inside_numbers m o.x o.y o.z f.x f.y f.z p.x p.y p.z c.x c.y c.z)
 
--- a point of f's potential is on the ball
+-- a point of f's slack is on the ball
 pub on_ball_of_same : (m : ℤ) (o f p c s : SpacePoint) → s ≡ plus c (times m (vector o f))
-    → ball_potential m s (vector o p) ≡ ball_potential m s (vector o f) → pos 2 *ℤ dot (vector f p) c ≡ m *ℤ squared_length (vector f p)
+    → ball_slack m s (vector o p) ≡ ball_slack m s (vector o f) → pos 2 *ℤ dot (vector f p) c ≡ m *ℤ squared_length (vector f p)
 on_ball_of_same m o f p c s e h = conclude _ _ _ _ (inside m o f p c s e) h
   where
     conclude : (a b x y : ℤ) → a ≡ x -ℤ y +ℤ b → a ≡ b → x ≡ y
     conclude a b x y h k = omega (arith, ints)
 
--- one of no lower potential is not outside
+-- one of no lower slack is not outside
 pub inside_of_above : (m : ℤ) (o f p c s : SpacePoint) → s ≡ plus c (times m (vector o f))
-    → ball_potential m s (vector o f) ≤ℤ ball_potential m s (vector o p) → (m *ℤ squared_length (vector f p)) ≤ℤ (pos 2 *ℤ dot (vector f p) c)
+    → ball_slack m s (vector o f) ≤ℤ ball_slack m s (vector o p) → (m *ℤ squared_length (vector f p)) ≤ℤ (pos 2 *ℤ dot (vector f p) c)
 inside_of_above m o f p c s e h = conclude _ _ _ _ (inside m o f p c s e) h
   where
     conclude : (a b x y : ℤ) → a ≡ x -ℤ y +ℤ b → b ≤ℤ a → y ≤ℤ x

@@ -9,7 +9,7 @@ use Rattle.std.proofs.lemmas.List.Elements.{All-contains, All-get_or, All-map}
 use Rattle.integers.proofs.Identities.{den-ring, read, polys, lits}
 use Rattle.integers.proofs.Order.{combine2}
 use Rattle.bounds_model.specs.Plane.{PlanePoint, origin, point_at, vector, cross, IsBefore, IsLeastPoint}
-use Rattle.bounds_model.specs.Hull.{around, AreRing}
+use Rattle.bounds_model.specs.Hull.{around, AreCornerCycle}
 use Rattle.bounds_model.specs.CornerTest.{GoAround, FirstIsOnce}
 use Rattle.bounds_model.specs.KgonAnswer.{corner_points}
 use Rattle.model_laws.specs.Laws.{PassingCornersAreCorners, PassingKgonsListCorners}
@@ -24,7 +24,7 @@ abbrev seen : List PlanePoint → ℕ → PlanePoint
 seen corners k = vector (point_at corners 0) (point_at corners k)
 
 -- what is known of three or more corners that pass
-record Ring (points corners : List PlanePoint) : Type 0 where
+record Cycle (points corners : List PlanePoint) : Type 0 where
   listed : All (Contains points) corners
   from_least : IsLeastPoint points (around corners 0)
   once : FirstIsOnce corners
@@ -41,19 +41,19 @@ first_is : (points corners : List PlanePoint) → 0 < length corners → IsLeast
 first_is points corners some h = subst (IsLeastPoint points) (around-below corners 0 some) h
 
 -- the later corners are ahead of the first
-ahead : (points corners : List PlanePoint) → Ring points corners → (k : ℕ) → 0 < k → k < length corners → IsAhead (seen corners k)
+ahead : (points corners : List PlanePoint) → Cycle points corners → (k : ℕ) → 0 < k → k < length corners → IsAhead (seen corners k)
 ahead points corners r k p l =
     let first = first_is points corners (omega arith) r.from_least in
     ahead_of_before (point_at corners 0) (point_at corners k) (All-contains (IsBefore (point_at corners 0)) points (point_at corners k) first.least (All-get_or (Contains points) corners k origin l r.listed)) (not_first corners k r.once p l)
 
 -- all points are to the left of the edge from corner k to the next
-left_of_edge : (points corners : List PlanePoint) → Ring points corners → (k : ℕ) → k + 1 < length corners → (q : PlanePoint) → Contains points q → pos 0 ≤ℤ cross (vector (point_at corners k) (point_at corners (k + 1))) (vector (point_at corners k) q)
+left_of_edge : (points corners : List PlanePoint) → Cycle points corners → (k : ℕ) → k + 1 < length corners → (q : PlanePoint) → Contains points q → pos 0 ≤ℤ cross (vector (point_at corners k) (point_at corners (k + 1))) (vector (point_at corners k) q)
 left_of_edge points corners r k l q c =
     let h = All-contains (λ x. pos 0 ≤ℤ cross (vector (around corners k) (around corners (k + 1))) (vector (around corners k) x)) points q (r.round.all_left k (omega arith)) c in
     subst (λ v. pos 0 ≤ℤ v) (ap₂ (λ x y. cross (vector x y) (vector x q)) (around-below corners k (omega arith)) (around-below corners (k + 1) l)) h
 
 -- so from the first corner each later one is to the left of the one before
-one_left : (points corners : List PlanePoint) → Ring points corners → (k : ℕ) → k + 1 < length corners → pos 0 ≤ℤ cross (seen corners k) (seen corners (k + 1))
+one_left : (points corners : List PlanePoint) → Cycle points corners → (k : ℕ) → k + 1 < length corners → pos 0 ≤ℤ cross (seen corners k) (seen corners (k + 1))
 one_left points corners r k l =
     let first = first_is points corners (omega arith) r.from_least in
     subst (λ v. pos 0 ≤ℤ v) (turn_from (point_at corners 0) (point_at corners k) (point_at corners (k + 1))) (left_of_edge points corners r k l (point_at corners 0) first.listed)
@@ -66,7 +66,7 @@ cross_self u = nothing u.x u.y
     nothing x y = read (x ∷ y ∷ []) (λ xs a b. simp (a, b, polys, lits xs) (den-ring xs _ _ tt))
 
 -- and to the left of all before
-far_left : (points corners : List PlanePoint) → Ring points corners → (k m j : ℕ) → 0 < k → j ≡ k + m → j < length corners → pos 0 ≤ℤ cross (seen corners k) (seen corners j)
+far_left : (points corners : List PlanePoint) → Cycle points corners → (k m j : ℕ) → 0 < k → j ≡ k + m → j < length corners → pos 0 ≤ℤ cross (seen corners k) (seen corners j)
 far_left points corners r k zero j p e l =
     let same : j ≡ k = omega arith in
     subst (λ i. pos 0 ≤ℤ cross (seen corners k) (seen corners i)) (sym same) (subst (λ z. pos 0 ≤ℤ z) (sym (cross_self (seen corners k))) (zero_least))
@@ -81,7 +81,7 @@ far_left points corners r k (suc m) j p e l =
     (far_left points corners r k m (k + m) p refl (omega arith)) (one_left points corners r (k + m) below))
 
 -- between two corners at one place, all others are on the line through it and the first
-on_line : (points corners : List PlanePoint) → Ring points corners → (i k j : ℕ) → 0 < i → i ≤ k → k ≤ j → j < length corners → point_at corners i ≡ point_at corners j → cross (seen corners i) (seen corners k) ≡ pos 0
+on_line : (points corners : List PlanePoint) → Cycle points corners → (i k j : ℕ) → 0 < i → i ≤ k → k ≤ j → j < length corners → point_at corners i ≡ point_at corners j → cross (seen corners i) (seen corners k) ≡ pos 0
 on_line points corners r i k j p h m l e =
     between_turns (seen corners i) (seen corners k) (far_left points corners r i (k - i) k p (omega arith) (omega arith))
     (subst (λ q. pos 0 ≤ℤ cross (seen corners k) (vector (point_at corners 0) q)) (sym e) (far_left points corners r k (j - k) j (omega arith) (omega arith) l))
@@ -91,7 +91,7 @@ positive-not_zero : {z : ℤ} → pos 0 <ℤ z → z ≡ pos 0 → ⊥
 positive-not_zero h e = omega (arith, ints)
 
 -- a corner is not equal to the next
-next_differs : (points corners : List PlanePoint) → Ring points corners → (i : ℕ) → i + 1 < length corners → point_at corners i ≢ point_at corners (i + 1)
+next_differs : (points corners : List PlanePoint) → Cycle points corners → (i : ℕ) → i + 1 < length corners → point_at corners i ≢ point_at corners (i + 1)
 next_differs points corners r i l e =
     positive-not_zero (r.round.left_turns i (omega arith)) (no_edge (around corners i) (around corners (i + 1)) (around corners (i + 2)) (around-below corners i (omega arith) ∙ e ∙ sym (around-below corners (i + 1) l)))
   where
@@ -102,7 +102,7 @@ next_differs points corners r i l e =
     no_edge a b c e = flat a.x a.y b.x b.y (ap (λ (p : PlanePoint). p.x) e) (ap (λ (p : PlanePoint). p.y) e) (c.y -ℤ b.y) (c.x -ℤ b.x)
 
 -- nor to a later one
-later_differs : (points corners : List PlanePoint) → Ring points corners → (i j : ℕ) → 0 < i → i + 2 ≤ j → j < length corners → point_at corners i ≢ point_at corners j
+later_differs : (points corners : List PlanePoint) → Cycle points corners → (i j : ℕ) → 0 < i → i + 2 ≤ j → j < length corners → point_at corners i ≢ point_at corners j
 later_differs points corners r i j p h l e =
     let to_next = on_line points corners r i (i + 1) j p (omega arith) (omega arith) l e in
     let to_second = on_line points corners r i (i + 2) j p (omega arith) h l e in
@@ -116,7 +116,7 @@ later_differs points corners r i j p h l e =
         (subst (λ v. pos 0 <ℤ v) (ap₂ (λ x y. cross (vector x y) (vector y (around corners (i + 2)))) (around-below corners i (omega arith)) (around-below corners (i + 1) (omega arith))) (r.round.left_turns i (omega arith)))
 
 -- no two corners are equal
-places_differ : (points corners : List PlanePoint) → Ring points corners → (i j : ℕ) → i < j → j < length corners → point_at corners i ≢ point_at corners j
+places_differ : (points corners : List PlanePoint) → Cycle points corners → (i j : ℕ) → i < j → j < length corners → point_at corners i ≢ point_at corners j
 places_differ points corners r zero j h l e = not_first corners j r.once h l (sym e)
 places_differ points corners r (suc i) j h l e = by_gap (gap (suc i) j h)
   where
@@ -131,13 +131,13 @@ places_differ points corners r (suc i) j h l e = by_gap (gap (suc i) j h)
         ]
 
 -- so there are no repeats
-distinct : (points corners : List PlanePoint) → Ring points corners → AllPairs (λ a b. a ≢ b) corners
+distinct : (points corners : List PlanePoint) → Cycle points corners → AllPairs (λ a b. a ≢ b) corners
 distinct points corners r i j d h l e =
     places_differ points corners r i j h l (get_or_default corners i origin d (omega arith) ∙ e ∙ get_or_default corners j d origin l)
 
--- three or more corners that pass are a ring
-ring : (points corners : List PlanePoint) → Ring points corners → AreRing points corners
-ring points corners r = record {
+-- three or more corners that pass are a cycle
+cycle : (points corners : List PlanePoint) → Cycle points corners → AreCornerCycle points corners
+cycle points corners r = record {
   listed = r.listed;
   from_least = r.from_least;
   distinct = distinct points corners r;
@@ -155,7 +155,7 @@ passing_corners points (a ∷ b ∷ []) listed h = record {
   distinct = λ e. All-get_or (λ c. c ≢ a) (b ∷ []) 0 origin (omega arith) h.once (sym e);
   on_line = h.hold.on_line;
 }
-passing_corners points (a ∷ b ∷ c ∷ rest) listed h = ring points (a ∷ b ∷ c ∷ rest) (record { listed = listed; from_least = h.from_least; once = h.once; round = h.hold })
+passing_corners points (a ∷ b ∷ c ∷ rest) listed h = cycle points (a ∷ b ∷ c ∷ rest) (record { listed = listed; from_least = h.from_least; once = h.once; round = h.hold })
 
 -- the points of numbers below the length are points of the list
 pub named_points : (points : List PlanePoint) (numbers : List ℕ) → All (λ number. number < length points) numbers → All (Contains points) (map (point_at points) numbers)

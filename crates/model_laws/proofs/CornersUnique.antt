@@ -8,7 +8,7 @@ use Rattle.std.proofs.lemmas.List.{ext_get_or}
 use Rattle.std.proofs.lemmas.List.Elements.{All-contains, All-get_or}
 use Rattle.integers.proofs.Order.{le_antisymm_ℤ}
 use Rattle.bounds_model.specs.Plane.{PlanePoint, origin, point_at, vector, turn, IsBefore, IsLeastPoint, IsGreatestPoint}
-use Rattle.bounds_model.specs.Hull.{around, AreRing, AreEnds, IsOnlyPoint}
+use Rattle.bounds_model.specs.Hull.{around, AreCornerCycle, AreEnds, IsOnlyPoint}
 use Rattle.model_laws.specs.Laws.{CornersAreUnique}
 use Rattle.model_laws.proofs.Turning.{ahead_of_before, no_turn, on_one_line}
 use Rattle.model_laws.proofs.NextCorner.{Follows, one_after, one_after_least, positive-not_zero}
@@ -38,7 +38,7 @@ same_least points a b h k = both_before a b (All-contains (IsBefore a) points b 
 same_greatest : (points : List PlanePoint) (a b : PlanePoint) → IsGreatestPoint points a → IsGreatestPoint points b → a ≡ b
 same_greatest points a b h k = both_before a b (All-contains (λ p. IsBefore p b) points a k.greatest h.listed) (All-contains (λ p. IsBefore p a) points b h.greatest k.listed)
 
--- ---- two rings around the same points
+-- ---- two cycles around the same points
 
 -- each corner is one of the points
 around-listed : (points xs : List PlanePoint) (k : ℕ) → 0 < length xs → All (Contains points) xs → Contains points (around xs k)
@@ -52,7 +52,7 @@ around-end xs = ap (point_at xs) (ap (λ n. n % length xs) (no_more (length xs))
     no_more n = omega arith
 
 -- each corner comes after the one before
-follows_at : (points xs : List PlanePoint) → AreRing points xs → (k : ℕ) → k < length xs → Follows points (around xs k) (around xs (k + 1)) (around xs (k + 2))
+follows_at : (points xs : List PlanePoint) → AreCornerCycle points xs → (k : ℕ) → k < length xs → Follows points (around xs k) (around xs (k + 1)) (around xs (k + 2))
 follows_at points xs r k l = record {
   listed = around-listed points xs (k + 1) (omega arith) r.listed;
   left = r.inside k l;
@@ -71,19 +71,19 @@ follows_at points xs r k l = record {
         two_more k = omega arith
 
 -- a corner after the first is not equal to it
-not_first : (points xs : List PlanePoint) → AreRing points xs → (k : ℕ) → 0 < k → k < length xs → point_at xs k ≢ point_at xs 0
+not_first : (points xs : List PlanePoint) → AreCornerCycle points xs → (k : ℕ) → 0 < k → k < length xs → point_at xs k ≢ point_at xs 0
 not_first points xs r k p l e = r.distinct 0 k origin p l (sym e)
 
 -- the second corner is not the first
-second-not_first : (points xs : List PlanePoint) → AreRing points xs → 1 < length xs → around xs 1 ≢ around xs 0
+second-not_first : (points xs : List PlanePoint) → AreCornerCycle points xs → 1 < length xs → around xs 1 ≢ around xs 0
 second-not_first points xs r some e = not_first points xs r 1 (omega arith) some (sym (around-below xs 1 some) ∙ e ∙ around-below xs 0 (omega arith))
 
--- two rings agree on the corner k and the next
+-- two cycles agree on the corner k and the next
 abbrev Agree : List PlanePoint → List PlanePoint → ℕ → Type 0
 Agree xs ys k = (around xs k ≡ around ys k) × (around xs (k + 1) ≡ around ys (k + 1))
 
--- two rings agree on each corner that both have
-agree : (points xs ys : List PlanePoint) → AreRing points xs → AreRing points ys → 1 < length xs → 1 < length ys → (k : ℕ) → k < length xs → k < length ys → Agree xs ys k
+-- two cycles agree on each corner that both have
+agree : (points xs ys : List PlanePoint) → AreCornerCycle points xs → AreCornerCycle points ys → 1 < length xs → 1 < length ys → (k : ℕ) → k < length xs → k < length ys → Agree xs ys k
 agree points xs ys r t px py zero lx ly =
     let first : around xs 0 ≡ around ys 0 = same_least points (around xs 0) (around ys 0) r.from_least t.from_least in (
       first,
@@ -106,11 +106,11 @@ agree points xs ys r t px py (suc k) lx ly =
     two_up : (k : ℕ) → k + 2 ≡ k + 1 + 1
     two_up k = omega arith
 
-    turn_at : (zs : List PlanePoint) → AreRing points zs → (k : ℕ) → k < length zs → pos 0 <ℤ turn (around zs k) (around zs (k + 1)) (around zs (k + 1 + 1))
+    turn_at : (zs : List PlanePoint) → AreCornerCycle points zs → (k : ℕ) → k < length zs → pos 0 <ℤ turn (around zs k) (around zs (k + 1)) (around zs (k + 1 + 1))
     turn_at zs q k l = subst (λ i. pos 0 <ℤ turn (around zs k) (around zs (k + 1)) (around zs i)) (two_up k) (q.left_turns k l)
 
--- a ring is not longer than another
-not_longer : (points xs ys : List PlanePoint) → AreRing points xs → AreRing points ys → 1 < length xs → 1 < length ys → length xs < length ys → ⊥
+-- a cycle is not longer than another
+not_longer : (points xs ys : List PlanePoint) → AreCornerCycle points xs → AreCornerCycle points ys → 1 < length xs → 1 < length ys → length xs < length ys → ⊥
 not_longer points xs ys r t px py h = by_end (length xs) refl
   where
     by_end : (n : ℕ) → n ≡ length xs → ⊥
@@ -126,8 +126,8 @@ not_longer points xs ys r t px py h = by_end (length xs) refl
         one_up k e = omega arith
 
 -- so they are the same list
-same_rings : (points xs ys : List PlanePoint) → AreRing points xs → AreRing points ys → 1 < length xs → 1 < length ys → xs ≡ ys
-same_rings points xs ys r t px py =
+same_cycles : (points xs ys : List PlanePoint) → AreCornerCycle points xs → AreCornerCycle points ys → 1 < length xs → 1 < length ys → xs ≡ ys
+same_cycles points xs ys r t px py =
     let long : length xs ≡ length ys = by_lt (length xs) (length ys) (not_longer points xs ys r t px py) (not_longer points ys xs t r py px) in
     ext_get_or origin xs ys long
     (λ i l. let m : i < length ys = omega arith in sym (around-below xs i l) ∙ (agree points xs ys r t px py i l m).0 ∙ around-below ys i m)
@@ -135,11 +135,11 @@ same_rings points xs ys r t px py =
     by_lt : (m n : ℕ) → (m < n → ⊥) → (n < m → ⊥) → m ≡ n
     by_lt m n h k = grind arith
 
--- ---- all points on a line leave no ring
+-- ---- all points on a line leave no cycle
 
--- where no three points turn there is no ring
-no_ring : (points xs : List PlanePoint) → 0 < length xs → AreRing points xs → ((p q r : PlanePoint) → Contains points p → Contains points q → Contains points r → turn p q r ≡ pos 0) → ⊥
-no_ring points xs some r flat =
+-- where no three points turn there is no cycle
+no_cycle : (points xs : List PlanePoint) → 0 < length xs → AreCornerCycle points xs → ((p q r : PlanePoint) → Contains points p → Contains points q → Contains points r → turn p q r ≡ pos 0) → ⊥
+no_cycle points xs some r flat =
     positive-not_zero (r.left_turns 0 some) (flat (around xs 0) (around xs 1) (around xs 2) (around-listed points xs 0 some r.listed) (around-listed points xs 1 some r.listed) (around-listed points xs 2 some r.listed))
 
 -- equal points do not turn
@@ -166,12 +166,12 @@ one_list_of_corners points [] ys h k = absurd h
 one_list_of_corners points (a ∷ []) [] h k = absurd k
 one_list_of_corners points (a ∷ []) (b ∷ []) h k = ap (λ p. p ∷ []) (sym (All-contains (λ p. p ≡ a) points b h.only k.listed))
 one_list_of_corners points (a ∷ []) (b ∷ c ∷ []) h k = absurd (no_ends points a b c h k)
-one_list_of_corners points (a ∷ []) (b ∷ c ∷ d ∷ ys) h k = absurd (no_ring points (b ∷ c ∷ d ∷ ys) (omega arith) k (flat_point points a h))
+one_list_of_corners points (a ∷ []) (b ∷ c ∷ d ∷ ys) h k = absurd (no_cycle points (b ∷ c ∷ d ∷ ys) (omega arith) k (flat_point points a h))
 one_list_of_corners points (a ∷ b ∷ []) [] h k = absurd k
 one_list_of_corners points (a ∷ b ∷ []) (c ∷ []) h k = absurd (no_ends points c a b k h)
 one_list_of_corners points (a ∷ b ∷ []) (c ∷ d ∷ []) h k = ap₂ (λ p q. p ∷ q ∷ []) (same_least points a c h.from_least k.from_least) (same_greatest points b d h.to_greatest k.to_greatest)
-one_list_of_corners points (a ∷ b ∷ []) (c ∷ d ∷ e ∷ ys) h k = absurd (no_ring points (c ∷ d ∷ e ∷ ys) (omega arith) k (flat_line points a b h))
+one_list_of_corners points (a ∷ b ∷ []) (c ∷ d ∷ e ∷ ys) h k = absurd (no_cycle points (c ∷ d ∷ e ∷ ys) (omega arith) k (flat_line points a b h))
 one_list_of_corners points (a ∷ b ∷ c ∷ xs) [] h k = absurd k
-one_list_of_corners points (a ∷ b ∷ c ∷ xs) (d ∷ []) h k = absurd (no_ring points (a ∷ b ∷ c ∷ xs) (omega arith) h (flat_point points d k))
-one_list_of_corners points (a ∷ b ∷ c ∷ xs) (d ∷ e ∷ []) h k = absurd (no_ring points (a ∷ b ∷ c ∷ xs) (omega arith) h (flat_line points d e k))
-one_list_of_corners points (a ∷ b ∷ c ∷ xs) (d ∷ e ∷ f ∷ ys) h k = same_rings points (a ∷ b ∷ c ∷ xs) (d ∷ e ∷ f ∷ ys) h k (omega arith) (omega arith)
+one_list_of_corners points (a ∷ b ∷ c ∷ xs) (d ∷ []) h k = absurd (no_cycle points (a ∷ b ∷ c ∷ xs) (omega arith) h (flat_point points d k))
+one_list_of_corners points (a ∷ b ∷ c ∷ xs) (d ∷ e ∷ []) h k = absurd (no_cycle points (a ∷ b ∷ c ∷ xs) (omega arith) h (flat_line points d e k))
+one_list_of_corners points (a ∷ b ∷ c ∷ xs) (d ∷ e ∷ f ∷ ys) h k = same_cycles points (a ∷ b ∷ c ∷ xs) (d ∷ e ∷ f ∷ ys) h k (omega arith) (omega arith)

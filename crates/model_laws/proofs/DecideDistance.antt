@@ -1,11 +1,11 @@
--- Tests of the conditions on rings and distances. Each decides the definition of the like name.
+-- Tests of the conditions on annuli and distances. Each decides the definition of the like name.
 use Rattle.std.proofs.Common.{◌^◌, pos, ◌-ℤ◌, ◌≤ℤ◌, List, length}
 use Rattle.std.specs.Prelude.{All}
 use Rattle.bounds_model.specs.Plane.{PlanePoint, squared_length}
 use Rattle.bounds_model.specs.Space.{SpacePoint, origin, point_at, dot, vector}
 use Rattle.integers.specs.Extremes.{greatest, least}
 use Rattle.bounds_model.specs.Places.{point_limit, number_limit}
-use Rattle.bounds_model.specs.AnnulusAnswer.{WeightedPair, IsPairPlace, AnnulusAnswer, AnnulusPlaces, height, squared_radius_at, pair_sum, weighted_differences, PassesAnnulus}
+use Rattle.bounds_model.specs.AnnulusAnswer.{WeightedPair, IsPairPlace, AnnulusAnswer, AnnulusPlaces, power, squared_radius_at, pair_sum, weighted_differences, PassesAnnulus}
 use Rattle.bounds_model.specs.DistanceAnswer.{DistanceAnswer, DistancePlaces, IsDirectionOf, difference, pull, first_product, mean, PassesDistance}
 use Rattle.model_laws.proofs.Decisions.{Decision, like, both, either, three, all, most_ℕ, less_ℕ, equal_ℤ, most_ℤ}
 use Rattle.model_laws.proofs.DecideParts.{same_space_point, within, counted, natural, same_value, same_place, fraction_placed, plane_ratio_placed, space_ratio_placed}
@@ -31,10 +31,10 @@ annulus_passes points a =
     (both (most_ℤ (pair_sum a.pairs) (pos (2 ^ 42)))
     (both (equal_ℤ (weighted_differences points (λ p. p.x) a.pairs) (pos 0))
     (both (equal_ℤ (weighted_differences points (λ p. p.y) a.pairs) (pos 0))
-    (both (same_value a.size (record { n = greatest (height a.centre) points -ℤ least (height a.centre) points; d = a.centre.w }))
+    (both (same_value a.size (record { n = greatest (power a.centre) points -ℤ least (power a.centre) points; d = a.centre.w }))
     (both (same_value a.size (record { n = weighted_differences points squared_length a.pairs; d = pair_sum a.pairs }))
-    (both (same_value a.inner (squared_radius_at a.centre (least (height a.centre) points)))
-    (same_value a.outer (squared_radius_at a.centre (greatest (height a.centre) points)))))))))))))))
+    (both (same_value a.inner (squared_radius_at a.centre (least (power a.centre) points)))
+    (same_value a.outer (squared_radius_at a.centre (greatest (power a.centre) points)))))))))))))))
     (λ h. record { places = h.0; numbers = h.1.0; w_limit = h.1.1.0; x_limit = h.1.1.1.0; y_limit = h.1.1.1.1.0; weights = h.1.1.1.1.1.0; weight_limit = h.1.1.1.1.1.1.0; balanced_x = h.1.1.1.1.1.1.1.0; balanced_y = h.1.1.1.1.1.1.1.1.0; size = h.1.1.1.1.1.1.1.1.1.0; least_size = h.1.1.1.1.1.1.1.1.1.1.0; inner = h.1.1.1.1.1.1.1.1.1.1.1.0; outer = h.1.1.1.1.1.1.1.1.1.1.1.1 })
     (λ h. (h.places, (h.numbers, (h.w_limit, (h.x_limit, (h.y_limit, (h.weights, (h.weight_limit, (h.balanced_x, (h.balanced_y, (h.size, (h.least_size, (h.inner, h.outer)))))))))))))
 

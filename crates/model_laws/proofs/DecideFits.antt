@@ -10,10 +10,10 @@ use Rattle.bounds_model.specs.Ball.{Ball, IsInBall, FitsBall, FitsCircle}
 use Rattle.bounds_model.specs.Strip.{Strip, FitsStrip}
 use Rattle.bounds_model.specs.Rectangle.{Rectangle, FitsRectangle}
 use Rattle.bounds_model.specs.Parallelogram.{Parallelogram, FitsParallelogram}
-use Rattle.bounds_model.specs.Annulus.{Annulus, IsInRing, FitsAnnulus}
+use Rattle.bounds_model.specs.Annulus.{Annulus, IsInAnnulus, FitsAnnulus}
 use Rattle.bounds_model.specs.EmptyRectangle.{Box, IsFrame, IsStrictlyInside, EmptyRectangle, FitsEmpty}
 use Rattle.bounds_model.specs.Distance.{Weights, FitsDistance}
-use Rattle.bounds_model.specs.Potentials.{IsDependence}
+use Rattle.bounds_model.specs.Slacks.{IsDependence}
 use Rattle.model_laws.proofs.Decisions.{Decision, like, both, negated, all, equal_ℕ, equal_ℤ, most_ℤ, less_ℤ}
 use Rattle.model_laws.proofs.DecideParts.{same_point, same_space_point, within, in_span, not_negative, lowest, same_value}
 use Rattle.model_laws.proofs.DecideEmpty.{strictly_inside}
@@ -88,15 +88,15 @@ fits_parallelogram points object =
     })
     (λ h. (h.normals, (h.first_bounds, (h.second_bounds, (h.denominator, (h.inside_first, h.inside_second))))))
 
-abbrev pub in_ring : (ring : Annulus) (p : PlanePoint) → Decision (IsInRing ring p)
-in_ring ring p =
+abbrev pub in_annulus : (annulus : Annulus) (p : PlanePoint) → Decision (IsInAnnulus annulus p)
+in_annulus annulus p =
     like (both (most_ℤ _ _) (most_ℤ _ _))
     (λ h. record { outside_inner = h.0; inside_outer = h.1 }) (λ h. (h.outside_inner, h.inside_outer))
 
-abbrev pub fits_annulus : (points : List PlanePoint) (ring : Annulus) → Decision (FitsAnnulus points ring)
-fits_annulus points ring =
-    like (both (most_ℤ (pos 1) ring.centre.w) (both (not_negative ring.inner) (both (not_negative ring.outer) (all {P = IsInRing ring}
-    (in_ring ring) points))))
+abbrev pub fits_annulus : (points : List PlanePoint) (annulus : Annulus) → Decision (FitsAnnulus points annulus)
+fits_annulus points annulus =
+    like (both (most_ℤ (pos 1) annulus.centre.w) (both (not_negative annulus.inner) (both (not_negative annulus.outer) (all {P = IsInAnnulus annulus}
+    (in_annulus annulus) points))))
     (λ h. record { denominator = h.0; inner = h.1.0; outer = h.1.1.0; inside = h.1.1.1 }) (λ h. (h.denominator, (h.inner, (h.outer, h.inside))))
 
 abbrev pub is_frame : (box : Box) → Decision (IsFrame box)

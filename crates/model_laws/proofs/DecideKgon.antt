@@ -4,7 +4,7 @@ use Rattle.std.specs.Prelude.{Contains, slice_index}
 use Rattle.std.specs.List.Sorted.{IsStrictlyIncreasing}
 use Rattle.bounds_model.specs.Numbers.{EachBelow}
 use Rattle.bounds_model.specs.Plane.{PlanePoint, vector, cross, turn, IsBefore, IsLeastPoint, IsGreatestPoint}
-use Rattle.bounds_model.specs.Hull.{around, AreRing, AreEnds, IsOnlyPoint, AreCorners}
+use Rattle.bounds_model.specs.Hull.{around, AreCornerCycle, AreEnds, IsOnlyPoint, AreCorners}
 use Rattle.bounds_model.specs.CornerTest.{GoAround, LeadToGreatest, HoldAll, FirstIsOnce, CornersPass}
 use Rattle.bounds_model.specs.Kgon.{FitsKgon, kgon_size}
 use Rattle.bounds_model.specs.KgonAnswer.{KgonAnswer, KgonPlaces, corner_points, pairs_before, Grows, PassesKgon}
@@ -21,8 +21,8 @@ least_point points a = like (both (contains same_point points a) (all {P = IsBef
 abbrev pub greatest_point : (points : List PlanePoint) (a : PlanePoint) → Decision (IsGreatestPoint points a)
 greatest_point points a = like (both (contains same_point points a) (all {P = λ p. IsBefore p a} (λ p. before p a) points)) (λ h. record { listed = h.0; greatest = h.1 }) (λ h. (h.listed, h.greatest))
 
-abbrev pub ring : (points corners : List PlanePoint) → Decision (AreRing points corners)
-ring points corners =
+abbrev pub cycle : (points corners : List PlanePoint) → Decision (AreCornerCycle points corners)
+cycle points corners =
     like
     (both (all {P = Contains points} (contains same_point points) corners)
     (both (least_point points (around corners 0))
@@ -44,7 +44,7 @@ abbrev pub are_corners : (points corners : List PlanePoint) → Decision (AreCor
 are_corners points [] = impossible (λ h. h)
 are_corners points (a ∷ []) = only_point points a
 are_corners points (a ∷ b ∷ []) = ends points a b
-are_corners points (a ∷ b ∷ c ∷ rest) = ring points (a ∷ b ∷ c ∷ rest)
+are_corners points (a ∷ b ∷ c ∷ rest) = cycle points (a ∷ b ∷ c ∷ rest)
 
 abbrev pub go_around : (points corners : List PlanePoint) → Decision (GoAround points corners)
 go_around points corners =

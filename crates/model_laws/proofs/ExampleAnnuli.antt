@@ -1,4 +1,4 @@
--- Rings that pass, and spoilt ones that do not.
+-- Annuli that pass, and spoilt ones that do not.
 use Rattle.std.proofs.Common.{refl, List, [], ◌∷◌}
 use Rattle.bounds_model.specs.Plane.{PlanePoint}
 use Rattle.bounds_model.specs.AnnulusAnswer.{WeightedPair, AnnulusAnswer}
@@ -13,15 +13,15 @@ use Rattle.model_laws.proofs.Literals.{at, over, fraction, pair}
 abbrev pub four_points : List PlanePoint
 four_points = at 0 0 ∷ at 2 0 ∷ at 0 2 ∷ at 2 3 ∷ []
 
--- their ring, with these pairs
+-- their annulus, with these pairs
 abbrev with_pairs : List WeightedPair → AnnulusAnswer
 with_pairs pairs = record { size = fraction 6 5; centre = over 13 13 10; inner = fraction 109 50; outer = fraction 169 50; pairs = pairs }
 
-abbrev pub ring : AnnulusAnswer
-ring = with_pairs (pair 0 2 3 ∷ pair 3 1 2 ∷ [])
+abbrev pub best_annulus : AnnulusAnswer
+best_annulus = with_pairs (pair 0 2 3 ∷ pair 3 1 2 ∷ [])
 
-ring_passes : Passes ask_annulus (plane four_points) (annulus ring)
-ring_passes = by_test (passes ask_annulus (plane four_points) (annulus ring)) refl
+best_annulus_passes : Passes ask_annulus (plane four_points) (annulus best_annulus)
+best_annulus_passes = by_test (passes ask_annulus (plane four_points) (annulus best_annulus)) refl
 
 -- both weights doubled
 doubled_passes : Passes ask_annulus (plane four_points) (annulus (with_pairs (pair 0 2 6 ∷ pair 3 1 4 ∷ [])))
@@ -37,7 +37,7 @@ idle_fails = by_one_failure (passes ask_annulus (plane four_points) (annulus (wi
 
 -- a greater outer radius, with the size or without it
 abbrev wider : AnnulusAnswer
-wider = record ring { outer = fraction 17 5 }
+wider = record best_annulus { outer = fraction 17 5 }
 
 wider_fails : ¬ Passes ask_annulus (plane four_points) (annulus wider)
 wider_fails = by_one_failure (passes ask_annulus (plane four_points) (annulus wider)) refl refl

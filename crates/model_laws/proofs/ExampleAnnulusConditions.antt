@@ -1,4 +1,4 @@
--- Rings that fail in one of the conditions of a checker alone.
+-- Annuli that fail in one of the conditions of a checker alone.
 use Rattle.std.proofs.Common.{refl, ℕ, ◌+◌, ◌*◌, ◌^◌, ℤ, pos, List, [], ◌∷◌}
 use Rattle.bounds_model.specs.Plane.{PlanePoint, PlaneRatio}
 use Rattle.bounds_model.specs.Fractions.{Fraction}
@@ -7,8 +7,8 @@ use Rattle.model_laws.proofs.Decisions.{by_test, by_one_failure}
 use Rattle.model_laws.proofs.DecideDistance.{annulus_passes}
 use Rattle.model_laws.proofs.Literals.{minus, at, over, signed_over, fraction, pair}
 
-abbrev ring : Fraction → PlaneRatio → Fraction → Fraction → List WeightedPair → AnnulusAnswer
-ring size centre inner outer pairs = record { size = size; centre = centre; inner = inner; outer = outer; pairs = pairs }
+abbrev annulus_with : Fraction → PlaneRatio → Fraction → Fraction → List WeightedPair → AnnulusAnswer
+annulus_with size centre inner outer pairs = record { size = size; centre = centre; inner = inner; outer = outer; pairs = pairs }
 
 -- ---- four points
 
@@ -16,7 +16,7 @@ abbrev four_points : List PlanePoint
 four_points = at 0 0 ∷ at 2 0 ∷ at 0 2 ∷ at 2 3 ∷ []
 
 abbrev with_pairs : List WeightedPair → AnnulusAnswer
-with_pairs = ring (fraction 6 5) (over 13 13 10) (fraction 109 50) (fraction 169 50)
+with_pairs = annulus_with (fraction 6 5) (over 13 13 10) (fraction 109 50) (fraction 169 50)
 
 abbrev thinnest : AnnulusAnswer
 thinnest = with_pairs (pair 0 2 3 ∷ pair 3 1 2 ∷ [])
@@ -71,27 +71,27 @@ balanced = pair 0 1 4 ∷ pair 2 1 1 ∷ []
 abbrev unbalanced : List WeightedPair
 unbalanced = pair 0 1 1 ∷ pair 2 1 1 ∷ pair 1 0 5 ∷ []
 
-of_three : PassesAnnulus level (ring (fraction 4 1) (over 5 0 2) (fraction 9 4) (fraction 25 4) balanced)
-of_three = by_test (annulus_passes level (ring (fraction 4 1) (over 5 0 2) (fraction 9 4) (fraction 25 4) balanced)) refl
+of_three : PassesAnnulus level (annulus_with (fraction 4 1) (over 5 0 2) (fraction 9 4) (fraction 25 4) balanced)
+of_three = by_test (annulus_passes level (annulus_with (fraction 4 1) (over 5 0 2) (fraction 9 4) (fraction 25 4) balanced)) refl
 
-unbalanced_x : ¬ PassesAnnulus level (ring (fraction 4 1) (over 5 0 2) (fraction 9 4) (fraction 25 4) unbalanced)
-unbalanced_x = by_one_failure (annulus_passes level (ring (fraction 4 1) (over 5 0 2) (fraction 9 4) (fraction 25 4) unbalanced)) refl refl
+unbalanced_x : ¬ PassesAnnulus level (annulus_with (fraction 4 1) (over 5 0 2) (fraction 9 4) (fraction 25 4) unbalanced)
+unbalanced_x = by_one_failure (annulus_passes level (annulus_with (fraction 4 1) (over 5 0 2) (fraction 9 4) (fraction 25 4) unbalanced)) refl refl
 
--- another centre, with the size that the pairs show, or with the size of its ring
-larger_than_size : ¬ PassesAnnulus level (ring (fraction 4 1) (over 0 0 1) (fraction 0 1) (fraction 25 1) balanced)
-larger_than_size = by_one_failure (annulus_passes level (ring (fraction 4 1) (over 0 0 1) (fraction 0 1) (fraction 25 1) balanced)) refl refl
+-- another centre, with the size that the pairs show, or with the size of its annulus
+larger_than_size : ¬ PassesAnnulus level (annulus_with (fraction 4 1) (over 0 0 1) (fraction 0 1) (fraction 25 1) balanced)
+larger_than_size = by_one_failure (annulus_passes level (annulus_with (fraction 4 1) (over 0 0 1) (fraction 0 1) (fraction 25 1) balanced)) refl refl
 
-larger_than_pairs : ¬ PassesAnnulus level (ring (fraction 25 1) (over 0 0 1) (fraction 0 1) (fraction 25 1) balanced)
-larger_than_pairs = by_one_failure (annulus_passes level (ring (fraction 25 1) (over 0 0 1) (fraction 0 1) (fraction 25 1) balanced)) refl refl
+larger_than_pairs : ¬ PassesAnnulus level (annulus_with (fraction 25 1) (over 0 0 1) (fraction 0 1) (fraction 25 1) balanced)
+larger_than_pairs = by_one_failure (annulus_passes level (annulus_with (fraction 25 1) (over 0 0 1) (fraction 0 1) (fraction 25 1) balanced)) refl refl
 
-unbalanced_y : ¬ PassesAnnulus upright (ring (fraction 4 1) (over 0 5 2) (fraction 9 4) (fraction 25 4) unbalanced)
-unbalanced_y = by_one_failure (annulus_passes upright (ring (fraction 4 1) (over 0 5 2) (fraction 9 4) (fraction 25 4) unbalanced)) refl refl
+unbalanced_y : ¬ PassesAnnulus upright (annulus_with (fraction 4 1) (over 0 5 2) (fraction 9 4) (fraction 25 4) unbalanced)
+unbalanced_y = by_one_failure (annulus_passes upright (annulus_with (fraction 4 1) (over 0 5 2) (fraction 9 4) (fraction 25 4) unbalanced)) refl refl
 
--- ---- one point, and rings of which each has it on both circles
+-- ---- one point, and annuli of which each has it on both circles
 
 -- the centre (x/w, y/w) with this pair, where x or y is 0
 abbrev around_origin : ℤ → ℤ → ℕ → Fraction → WeightedPair → AnnulusAnswer
-around_origin x y w size p = ring (fraction 0 1) (signed_over x y (pos w)) size size (p ∷ [])
+around_origin x y w size p = annulus_with (fraction 0 1) (signed_over x y (pos w)) size size (p ∷ [])
 
 abbrev wide : ℕ → AnnulusAnswer
 wide w = around_origin (pos 1) (pos 0) w (fraction 1 (w * w)) (pair 0 0 1)

@@ -1,4 +1,4 @@
--- Places of the numbers of a ring: at their limits, and each one past.
+-- Places of the numbers of an annulus: at their limits, and each one past.
 use Rattle.std.proofs.Common.{refl, ℕ, ◌+◌, ◌^◌, List, [], ◌∷◌}
 use Rattle.bounds_model.specs.AnnulusAnswer.{WeightedPair, AnnulusAnswer, AnnulusPlaces}
 use Rattle.model_laws.proofs.Decisions.{by_test, by_one_failure}

@@ -92,8 +92,8 @@ rectangle_of_plane = tt
 parallelogram_of_plane : Suits ask_parallelogram (plane [])
 parallelogram_of_plane = tt
 
-ring_of_plane : Suits ask_annulus (plane [])
-ring_of_plane = tt
+annulus_of_plane : Suits ask_annulus (plane [])
+annulus_of_plane = tt
 
 polygon_of_plane : Suits (ask_kgon 3) (plane [])
 polygon_of_plane = tt

@@ -106,20 +106,20 @@ parallelogram_too_narrow : ¬ ParallelogramFits (record ExampleParallelograms.up
 parallelogram_too_narrow =
     by_one_failure (parallelogram_test (record ExampleParallelograms.upright { size = fraction 9 1; first_bounds = span (pos 0) (pos 3) })) refl refl
 
-abbrev RingFits : AnnulusAnswer → Type 0
-RingFits a = Fits ask_annulus (plane ExampleAnnuli.four_points) (annulus a)
+abbrev AnnulusFits : AnnulusAnswer → Type 0
+AnnulusFits a = Fits ask_annulus (plane ExampleAnnuli.four_points) (annulus a)
 
-abbrev ring_test : (a : AnnulusAnswer) → Decision (RingFits a)
-ring_test a = fits ask_annulus (plane ExampleAnnuli.four_points) (annulus a)
+abbrev annulus_test : (a : AnnulusAnswer) → Decision (AnnulusFits a)
+annulus_test a = fits ask_annulus (plane ExampleAnnuli.four_points) (annulus a)
 
-ring_fits : RingFits ExampleAnnuli.ring
-ring_fits = by_test (ring_test ExampleAnnuli.ring) refl
+annulus_fits : AnnulusFits ExampleAnnuli.best_annulus
+annulus_fits = by_test (annulus_test ExampleAnnuli.best_annulus) refl
 
-ring_other_size : ¬ RingFits (record ExampleAnnuli.ring { size = fraction 1 1 })
-ring_other_size = by_one_failure (ring_test (record ExampleAnnuli.ring { size = fraction 1 1 })) refl refl
+annulus_other_size : ¬ AnnulusFits (record ExampleAnnuli.best_annulus { size = fraction 1 1 })
+annulus_other_size = by_one_failure (annulus_test (record ExampleAnnuli.best_annulus { size = fraction 1 1 })) refl refl
 
-ring_unreduced : ¬ RingFits (record ExampleAnnuli.ring { size = fraction 12 10 })
-ring_unreduced = by_one_failure (ring_test (record ExampleAnnuli.ring { size = fraction 12 10 })) refl refl
+annulus_unreduced : ¬ AnnulusFits (record ExampleAnnuli.best_annulus { size = fraction 12 10 })
+annulus_unreduced = by_one_failure (annulus_test (record ExampleAnnuli.best_annulus { size = fraction 12 10 })) refl refl
 
-ring_too_narrow : ¬ RingFits (record ExampleAnnuli.ring { size = fraction 1 1; outer = fraction 159 50 })
-ring_too_narrow = by_one_failure (ring_test (record ExampleAnnuli.ring { size = fraction 1 1; outer = fraction 159 50 })) refl refl
+annulus_too_narrow : ¬ AnnulusFits (record ExampleAnnuli.best_annulus { size = fraction 1 1; outer = fraction 159 50 })
+annulus_too_narrow = by_one_failure (annulus_test (record ExampleAnnuli.best_annulus { size = fraction 1 1; outer = fraction 159 50 })) refl refl

@@ -1,10 +1,10 @@
 -- Corners of hulls, and lists that fail to be corners in one condition alone.
 use Rattle.std.proofs.Common.{refl, List, [], ◌∷◌}
 use Rattle.bounds_model.specs.Plane.{PlanePoint}
-use Rattle.bounds_model.specs.Hull.{AreRing, AreEnds, IsOnlyPoint, AreCorners}
+use Rattle.bounds_model.specs.Hull.{AreCornerCycle, AreEnds, IsOnlyPoint, AreCorners}
 use Rattle.bounds_model.specs.CornerTest.{GoAround, LeadToGreatest, CornersPass}
 use Rattle.model_laws.proofs.Decisions.{by_test, by_failed_test, by_one_failure}
-use Rattle.model_laws.proofs.DecideKgon.{ring, ends, only_point, are_corners, go_around, lead_to_greatest, corners_pass}
+use Rattle.model_laws.proofs.DecideKgon.{cycle, ends, only_point, are_corners, go_around, lead_to_greatest, corners_pass}
 use Rattle.model_laws.proofs.Literals.{at}
 
 abbrev square : List PlanePoint
@@ -29,24 +29,24 @@ from_leftmost = by_test (are_corners raised (at 0 5 ∷ at 3 0 ∷ at 4 4 ∷ []
 none_at_all : ¬ AreCorners six []
 none_at_all = by_failed_test (are_corners six []) refl
 
-from_lowest : ¬ AreRing raised (at 3 0 ∷ at 4 4 ∷ at 0 5 ∷ [])
-from_lowest = by_one_failure (ring raised (at 3 0 ∷ at 4 4 ∷ at 0 5 ∷ [])) refl refl
+from_lowest : ¬ AreCornerCycle raised (at 3 0 ∷ at 4 4 ∷ at 0 5 ∷ [])
+from_lowest = by_one_failure (cycle raised (at 3 0 ∷ at 4 4 ∷ at 0 5 ∷ [])) refl refl
 
 -- a corner that is no point
-not_listed : ¬ AreRing (at 0 0 ∷ at 1 0 ∷ at 0 1 ∷ []) (at 0 0 ∷ at 5 0 ∷ at 0 1 ∷ [])
-not_listed = by_one_failure (ring (at 0 0 ∷ at 1 0 ∷ at 0 1 ∷ []) (at 0 0 ∷ at 5 0 ∷ at 0 1 ∷ [])) refl refl
+not_listed : ¬ AreCornerCycle (at 0 0 ∷ at 1 0 ∷ at 0 1 ∷ []) (at 0 0 ∷ at 5 0 ∷ at 0 1 ∷ [])
+not_listed = by_one_failure (cycle (at 0 0 ∷ at 1 0 ∷ at 0 1 ∷ []) (at 0 0 ∷ at 5 0 ∷ at 0 1 ∷ [])) refl refl
 
-twice_around : ¬ AreRing square (at 0 0 ∷ at 2 0 ∷ at 2 2 ∷ at 0 2 ∷ at 0 0 ∷ at 2 0 ∷ at 2 2 ∷ at 0 2 ∷ [])
-twice_around = by_one_failure (ring square (at 0 0 ∷ at 2 0 ∷ at 2 2 ∷ at 0 2 ∷ at 0 0 ∷ at 2 0 ∷ at 2 2 ∷ at 0 2 ∷ [])) refl refl
+twice_around : ¬ AreCornerCycle square (at 0 0 ∷ at 2 0 ∷ at 2 2 ∷ at 0 2 ∷ at 0 0 ∷ at 2 0 ∷ at 2 2 ∷ at 0 2 ∷ [])
+twice_around = by_one_failure (cycle square (at 0 0 ∷ at 2 0 ∷ at 2 2 ∷ at 0 2 ∷ at 0 0 ∷ at 2 0 ∷ at 2 2 ∷ at 0 2 ∷ [])) refl refl
 
-point_on_edge : ¬ AreRing six (at 0 0 ∷ at 1 0 ∷ at 2 0 ∷ at 2 2 ∷ at 0 2 ∷ [])
-point_on_edge = by_one_failure (ring six (at 0 0 ∷ at 1 0 ∷ at 2 0 ∷ at 2 2 ∷ at 0 2 ∷ [])) refl refl
+point_on_edge : ¬ AreCornerCycle six (at 0 0 ∷ at 1 0 ∷ at 2 0 ∷ at 2 2 ∷ at 0 2 ∷ [])
+point_on_edge = by_one_failure (cycle six (at 0 0 ∷ at 1 0 ∷ at 2 0 ∷ at 2 2 ∷ at 0 2 ∷ [])) refl refl
 
-one_left_out : ¬ AreRing six (at 0 0 ∷ at 2 0 ∷ at 2 2 ∷ [])
-one_left_out = by_one_failure (ring six (at 0 0 ∷ at 2 0 ∷ at 2 2 ∷ [])) refl refl
+one_left_out : ¬ AreCornerCycle six (at 0 0 ∷ at 2 0 ∷ at 2 2 ∷ [])
+one_left_out = by_one_failure (cycle six (at 0 0 ∷ at 2 0 ∷ at 2 2 ∷ [])) refl refl
 
-clockwise : ¬ AreRing square (at 0 0 ∷ at 0 2 ∷ at 2 2 ∷ at 2 0 ∷ [])
-clockwise = by_failed_test (ring square (at 0 0 ∷ at 0 2 ∷ at 2 2 ∷ at 2 0 ∷ [])) refl
+clockwise : ¬ AreCornerCycle square (at 0 0 ∷ at 0 2 ∷ at 2 2 ∷ at 2 0 ∷ [])
+clockwise = by_failed_test (cycle square (at 0 0 ∷ at 0 2 ∷ at 2 2 ∷ at 2 0 ∷ [])) refl
 
 -- ---- two corners, and one
 

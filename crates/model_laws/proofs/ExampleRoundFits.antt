@@ -1,4 +1,4 @@
--- Balls, circles and rings that fit points, and some that fail in one condition alone.
+-- Balls, circles and annuli that fit points, and some that fail in one condition alone.
 use Rattle.std.proofs.Common.{◌≡◌, refl, pos, List, [], ◌∷◌}
 use Rattle.bounds_model.specs.Plane.{PlanePoint, PlaneRatio}
 use Rattle.bounds_model.specs.Space.{SpacePoint, SpaceRatio}
@@ -55,7 +55,7 @@ raised = by_one_failure (fits_circle in_plane (ball (space_over 1 1 1 2) (fracti
 too_small_circle : ¬ FitsCircle in_plane (ball (space_over 1 1 0 2) (fraction 1 3))
 too_small_circle = by_one_failure (fits_circle in_plane (ball (space_over 1 1 0 2) (fraction 1 3))) refl refl
 
--- ---- rings
+-- ---- annuli
 
 abbrev unit_square : List PlanePoint
 unit_square = at 0 0 ∷ at 1 0 ∷ at 1 1 ∷ at 0 1 ∷ []
@@ -64,40 +64,40 @@ abbrev three_apart : List PlanePoint
 three_apart = at 0 0 ∷ at 1 0 ∷ at 5 0 ∷ []
 
 -- around this centre, with these squared radii
-abbrev ring : PlaneRatio → Fraction → Fraction → Annulus
-ring centre inner outer = record { centre = centre; inner = inner; outer = outer }
+abbrev annulus_of_radii : PlaneRatio → Fraction → Fraction → Annulus
+annulus_of_radii centre inner outer = record { centre = centre; inner = inner; outer = outer }
 
-ring_of_three : FitsAnnulus three_apart (ring (over 5 0 2) (fraction 9 4) (fraction 25 4))
-ring_of_three = by_test (fits_annulus three_apart (ring (over 5 0 2) (fraction 9 4) (fraction 25 4))) refl
+annulus_of_three : FitsAnnulus three_apart (annulus_of_radii (over 5 0 2) (fraction 9 4) (fraction 25 4))
+annulus_of_three = by_test (fits_annulus three_apart (annulus_of_radii (over 5 0 2) (fraction 9 4) (fraction 25 4))) refl
 
-ring_size : annulus_size (ring (over 5 0 2) (fraction 9 4) (fraction 25 4)) ≡ fraction 64 16
-ring_size = refl
+size_of_annulus : annulus_size (annulus_of_radii (over 5 0 2) (fraction 9 4) (fraction 25 4)) ≡ fraction 64 16
+size_of_annulus = refl
 
-ring_size_apart : annulus_size (ring (over 0 0 1) (fraction 1 2) (fraction 2 3)) ≡ fraction 1 6
-ring_size_apart = refl
+size_of_annulus_apart : annulus_size (annulus_of_radii (over 0 0 1) (fraction 1 2) (fraction 2 3)) ≡ fraction 1 6
+size_of_annulus_apart = refl
 
-inner_too_large : ¬ FitsAnnulus three_apart (ring (over 5 0 2) (fraction 10 4) (fraction 25 4))
-inner_too_large = by_one_failure (fits_annulus three_apart (ring (over 5 0 2) (fraction 10 4) (fraction 25 4))) refl refl
+inner_too_large : ¬ FitsAnnulus three_apart (annulus_of_radii (over 5 0 2) (fraction 10 4) (fraction 25 4))
+inner_too_large = by_one_failure (fits_annulus three_apart (annulus_of_radii (over 5 0 2) (fraction 10 4) (fraction 25 4))) refl refl
 
-outer_too_small : ¬ FitsAnnulus three_apart (ring (over 5 0 2) (fraction 9 4) (fraction 24 4))
-outer_too_small = by_one_failure (fits_annulus three_apart (ring (over 5 0 2) (fraction 9 4) (fraction 24 4))) refl refl
+outer_too_small : ¬ FitsAnnulus three_apart (annulus_of_radii (over 5 0 2) (fraction 9 4) (fraction 24 4))
+outer_too_small = by_one_failure (fits_annulus three_apart (annulus_of_radii (over 5 0 2) (fraction 9 4) (fraction 24 4))) refl refl
 
--- a ring without area; denominators of 0, and radii below 0
-ring_of_none : FitsAnnulus unit_square (ring (over 1 1 2) (fraction 1 2) (fraction 1 2))
-ring_of_none = by_test (fits_annulus unit_square (ring (over 1 1 2) (fraction 1 2) (fraction 1 2))) refl
+-- an annulus without area; denominators of 0, and radii below 0
+annulus_of_none : FitsAnnulus unit_square (annulus_of_radii (over 1 1 2) (fraction 1 2) (fraction 1 2))
+annulus_of_none = by_test (fits_annulus unit_square (annulus_of_radii (over 1 1 2) (fraction 1 2) (fraction 1 2))) refl
 
-ring_nowhere : ¬ FitsAnnulus unit_square (ring (over 0 0 0) (fraction 1 2) (fraction 1 2))
-ring_nowhere = by_one_failure (fits_annulus unit_square (ring (over 0 0 0) (fraction 1 2) (fraction 1 2))) refl refl
+annulus_nowhere : ¬ FitsAnnulus unit_square (annulus_of_radii (over 0 0 0) (fraction 1 2) (fraction 1 2))
+annulus_nowhere = by_one_failure (fits_annulus unit_square (annulus_of_radii (over 0 0 0) (fraction 1 2) (fraction 1 2))) refl refl
 
-inner_over_zero : ¬ FitsAnnulus unit_square (ring (over 1 1 2) (fraction 0 0) (fraction 1 2))
-inner_over_zero = by_one_failure (fits_annulus unit_square (ring (over 1 1 2) (fraction 0 0) (fraction 1 2))) refl refl
+inner_over_zero : ¬ FitsAnnulus unit_square (annulus_of_radii (over 1 1 2) (fraction 0 0) (fraction 1 2))
+inner_over_zero = by_one_failure (fits_annulus unit_square (annulus_of_radii (over 1 1 2) (fraction 0 0) (fraction 1 2))) refl refl
 
-inner_below_zero : ¬ FitsAnnulus unit_square (ring (over 1 1 2) (signed_fraction (minus 1) (pos 1)) (fraction 1 2))
-inner_below_zero = by_one_failure (fits_annulus unit_square (ring (over 1 1 2) (signed_fraction (minus 1) (pos 1)) (fraction 1 2))) refl refl
+inner_below_zero : ¬ FitsAnnulus unit_square (annulus_of_radii (over 1 1 2) (signed_fraction (minus 1) (pos 1)) (fraction 1 2))
+inner_below_zero = by_one_failure (fits_annulus unit_square (annulus_of_radii (over 1 1 2) (signed_fraction (minus 1) (pos 1)) (fraction 1 2))) refl refl
 
-outer_over_zero : ¬ FitsAnnulus unit_square (ring (over 1 1 2) (fraction 1 2) (fraction 1 0))
-outer_over_zero = by_one_failure (fits_annulus unit_square (ring (over 1 1 2) (fraction 1 2) (fraction 1 0))) refl refl
+outer_over_zero : ¬ FitsAnnulus unit_square (annulus_of_radii (over 1 1 2) (fraction 1 2) (fraction 1 0))
+outer_over_zero = by_one_failure (fits_annulus unit_square (annulus_of_radii (over 1 1 2) (fraction 1 2) (fraction 1 0))) refl refl
 
 -- where there are points they tell the same
-outer_below_zero : ¬ FitsAnnulus [] (ring (over 1 1 2) (fraction 1 2) (signed_fraction (minus 1) (pos 1)))
-outer_below_zero = by_one_failure (fits_annulus [] (ring (over 1 1 2) (fraction 1 2) (signed_fraction (minus 1) (pos 1)))) refl refl
+outer_below_zero : ¬ FitsAnnulus [] (annulus_of_radii (over 1 1 2) (fraction 1 2) (signed_fraction (minus 1) (pos 1)))
+outer_below_zero = by_one_failure (fits_annulus [] (annulus_of_radii (over 1 1 2) (fraction 1 2) (signed_fraction (minus 1) (pos 1)))) refl refl

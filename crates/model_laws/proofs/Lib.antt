@@ -51,7 +51,7 @@ pub mod ExampleHulls
 pub mod ExampleFans
 pub mod ExampleFanPlaces
 pub mod ExamplePlainFans
-pub mod ExamplePotentials
+pub mod ExampleSlacks
 pub mod ExampleCircleConditions
 pub mod ExampleSphereConditions
 pub mod ExampleStripConditions

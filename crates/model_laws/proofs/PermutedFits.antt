@@ -9,10 +9,10 @@ use Rattle.bounds_model.specs.Ball.{Ball, IsInBall, FitsBall, FitsCircle}
 use Rattle.bounds_model.specs.Strip.{Strip, IsInSpan, FitsStrip}
 use Rattle.bounds_model.specs.Rectangle.{Rectangle, FitsRectangle}
 use Rattle.bounds_model.specs.Parallelogram.{Parallelogram, FitsParallelogram}
-use Rattle.bounds_model.specs.Annulus.{Annulus, IsInRing, FitsAnnulus}
+use Rattle.bounds_model.specs.Annulus.{Annulus, IsInAnnulus, FitsAnnulus}
 use Rattle.bounds_model.specs.EmptyRectangle.{Box, EmptyRectangle, IsStrictlyInside, FitsEmpty}
 use Rattle.bounds_model.specs.Centres.{Cover, IsNear, FitsCentres}
-use Rattle.bounds_model.specs.Hull.{around, AreRing, AreCorners}
+use Rattle.bounds_model.specs.Hull.{around, AreCornerCycle, AreCorners}
 
 -- a ball stays around the points
 pub ball_stays : (ps qs : List SpacePoint) → IsPermutation ps qs → (ball : Ball) → FitsBall ps ball → FitsBall qs ball
@@ -53,9 +53,9 @@ parallelogram_stays ps qs s r h = record {
   inside_second = All-permutation (λ p. IsInSpan r.second_bounds (r.w *ℤ dot r.second p)) ps qs s h.inside_second;
 }
 
--- a ring stays around the points
-pub annulus_stays : (ps qs : List PlanePoint) → IsPermutation ps qs → (ring : Annulus) → FitsAnnulus ps ring → FitsAnnulus qs ring
-annulus_stays ps qs s ring h = record { denominator = h.denominator; inner = h.inner; outer = h.outer; inside = All-permutation (IsInRing ring) ps qs s h.inside }
+-- an annulus stays around the points
+pub annulus_stays : (ps qs : List PlanePoint) → IsPermutation ps qs → (annulus : Annulus) → FitsAnnulus ps annulus → FitsAnnulus qs annulus
+annulus_stays ps qs s annulus h = record { denominator = h.denominator; inner = h.inner; outer = h.outer; inside = All-permutation (IsInAnnulus annulus) ps qs s h.inside }
 
 -- an empty rectangle stays empty
 pub empty_stays : (frame : Box) (ps qs : List PlanePoint) → IsPermutation ps qs → (r : EmptyRectangle) → FitsEmpty frame ps r → FitsEmpty frame qs r
@@ -89,9 +89,9 @@ least_stays ps qs s a h = record { listed = Contains-permutation ps qs a s h.lis
 greatest_stays : (ps qs : List PlanePoint) → IsPermutation ps qs → (a : PlanePoint) → IsGreatestPoint ps a → IsGreatestPoint qs a
 greatest_stays ps qs s a h = record { listed = Contains-permutation ps qs a s h.listed; greatest = All-permutation (λ p. IsBefore p a) ps qs s h.greatest }
 
--- a ring stays a ring
-ring_stays : (ps qs xs : List PlanePoint) → IsPermutation ps qs → AreRing ps xs → AreRing qs xs
-ring_stays ps qs xs s h = record {
+-- a cycle of corners stays one
+cycle_stays : (ps qs xs : List PlanePoint) → IsPermutation ps qs → AreCornerCycle ps xs → AreCornerCycle qs xs
+cycle_stays ps qs xs s h = record {
   listed = All-from_get_or (Contains qs) xs origin (λ i l. Contains-permutation ps qs _ s (All-get_or (Contains ps) xs i origin l h.listed));
   from_least = least_stays ps qs s (around xs 0) h.from_least;
   distinct = h.distinct;
@@ -109,4 +109,4 @@ corners_stay ps qs (a ∷ b ∷ []) s h = record {
   distinct = h.distinct;
   on_line = All-permutation (λ p. turn a b p ≡ pos 0) ps qs s h.on_line;
 }
-corners_stay ps qs (a ∷ b ∷ c ∷ xs) s h = ring_stays ps qs (a ∷ b ∷ c ∷ xs) s h
+corners_stay ps qs (a ∷ b ∷ c ∷ xs) s h = cycle_stays ps qs (a ∷ b ∷ c ∷ xs) s h

@@ -55,9 +55,9 @@ rectangle_denominator points rectangle h = over_square rectangle.w (squared_leng
 pub parallelogram_denominator : (points : List PlanePoint) (p : Parallelogram) → FitsParallelogram points p → pos 0 <ℤ (parallelogram_size p).d
 parallelogram_denominator points p h = over_square p.w (pos (nat_abs (cross p.first p.second))) h.denominator (magnitude_positive (cross p.first p.second) h.normals)
 
--- of a ring
-pub annulus_denominator : (points : List PlanePoint) (ring : Annulus) → FitsAnnulus points ring → pos 0 <ℤ (annulus_size ring).d
-annulus_denominator points ring h = positive_mul (positive_from_one h.outer.denominator) (positive_from_one h.inner.denominator)
+-- of an annulus
+pub annulus_denominator : (points : List PlanePoint) (annulus : Annulus) → FitsAnnulus points annulus → pos 0 <ℤ (annulus_size annulus).d
+annulus_denominator points annulus h = positive_mul (positive_from_one h.outer.denominator) (positive_from_one h.inner.denominator)
 
 -- of an empty rectangle
 pub empty_denominator : (frame : Box) (points : List PlanePoint) (rectangle : EmptyRectangle) → FitsEmpty frame points rectangle → pos 0 <ℤ (empty_size rectangle).d

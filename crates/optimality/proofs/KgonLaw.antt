@@ -8,7 +8,7 @@ use Rattle.std.proofs.lemmas.List.Elements.{All-head, All-tail}
 use Rattle.integers.proofs.Identities.{den-ring, read, polys}
 use Rattle.integers.proofs.Order.{nonneg_mul, nonneg_add, le_by, nonneg_difference}
 use Rattle.bounds_model.specs.Plane.{PlanePoint, point_at, turn}
-use Rattle.bounds_model.specs.Kgon.{FitsKgon, fan_area, twice_area, kgon_size}
+use Rattle.bounds_model.specs.Kgon.{FitsKgon, triangulated_area, twice_area, kgon_size}
 use Rattle.bounds_model.specs.KgonAnswer.{KgonAnswer, corner_points, potential, PassesKgon}
 use Rattle.model_laws.proofs.CornerLaw.{passing_kgon}
 use Rattle.optimality.specs.Laws.{PassingKgonsAreBest}
@@ -55,7 +55,7 @@ one_more_corner u t v f D B pD h k =
 
 -- the potential at a corner and the area of the triangles that follow are at most twice the size
 along_corners : (k : ℕ) (points : List PlanePoint) (answer : KgonAnswer) → PassesKgon k points answer → (a layer b : ℕ) (rest : List ℕ) → a < b → IsStrictlyIncreasing (b ∷ rest) → All (λ i. i < length answer.corners) (b ∷ rest) → layer + length rest ≤ answer.layers
-    → ((potential answer a layer b +ℤ fan_area (point_at (corner_points points answer) a) (map (point_at (corner_points points answer)) (b ∷ rest))) *ℤ answer.size.d) ≤ℤ (pos 2 *ℤ answer.size.n)
+    → ((potential answer a layer b +ℤ triangulated_area (point_at (corner_points points answer) a) (map (point_at (corner_points points answer)) (b ∷ rest))) *ℤ answer.size.d) ≤ℤ (pos 2 *ℤ answer.size.n)
 along_corners k points answer h a layer b [] first rises inside count =
     no_more (potential answer a layer b) answer.size.d (pos 2 *ℤ answer.size.n) (potential_below answer a layer b answer.size.d (pos 2 *ℤ answer.size.n) (twice_nonneg h.places.size.lowest.not_negative.numerator) h.under_size)
   where
@@ -66,7 +66,7 @@ along_corners k points answer h a layer b (c ∷ rest) first rises inside count 
     let Is_corner = λ (i : ℕ). i < length answer.corners in
     let next = rising-uncons b c rest rises in
     let others = All-tail Is_corner b (c ∷ rest) inside in
-    one_more_corner (potential answer a layer b) (turn (point_at corners a) (point_at corners b) (point_at corners c)) (potential answer a (layer + 1) c) (fan_area (point_at corners a) (map (point_at corners) (c ∷ rest))) answer.size.d (pos 2 *ℤ answer.size.n) (nonneg_from_one h.places.size.lowest.not_negative.denominator)
+    one_more_corner (potential answer a layer b) (turn (point_at corners a) (point_at corners b) (point_at corners c)) (potential answer a (layer + 1) c) (triangulated_area (point_at corners a) (map (point_at corners) (c ∷ rest))) answer.size.d (pos 2 *ℤ answer.size.n) (nonneg_from_one h.places.size.lowest.not_negative.denominator)
     (h.grows c (All-head Is_corner c rest others) b next.0 a first layer (in_layers count))
     (along_corners k points answer h a (layer + 1) c rest (before first next.0) next.1 others (one_layer_up count))
   where

@@ -57,7 +57,7 @@ abbrev pub PassingParallelogramsAreBest : Type 0
 PassingParallelogramsAreBest =
     (points : List PlanePoint) (a : ParallelogramAnswer) → PassesParallelogram points a → IsSmallestPrinted (FitsParallelogram points) parallelogram_size (parallelogram_of a) a.size
 
--- a ring that passes has the least difference of squared radii around its points
+-- an annulus that passes has the least difference of squared radii around its points
 abbrev pub PassingAnnuliAreBest : Type 0
 PassingAnnuliAreBest = (points : List PlanePoint) (a : AnnulusAnswer) → PassesAnnulus points a → IsSmallestPrinted (FitsAnnulus points) annulus_size (annulus_of a) a.size
 

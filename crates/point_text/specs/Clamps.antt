@@ -1,4 +1,4 @@
--- Numbers of any length, brought within the reach of machine arithmetic.
+-- Numbers of any length, brought within the range of machine arithmetic.
 use Rattle.std.specs.Prelude.{ℕ, ℤ, pos, negsuc, neg_ℤ, ◌+◌, min}
 
 -- the magnitude, or the first one past every bound where it is greater

@@ -7,10 +7,10 @@ use Rattle.integers.specs.Size.{Size}
 use Rattle.integers.proofs.Identities.{den-ring, read, polys}
 use Rattle.integers.proofs.MachineArithmetic.{given, with_inputs, codes, computes}
 use Rattle.bounds_model.specs.Plane.{PlanePoint, point_at, turn}
-use Rattle.bounds_model.specs.Kgon.{fan_area, twice_area}
+use Rattle.bounds_model.specs.Kgon.{triangulated_area, twice_area}
 
 -- the triangles from a position on: the first, and those from the next one on
-fan-step : (a : PlanePoint) (ps : List PlanePoint) (j : ℕ) → suc j < length ps → fan_area a (drop j ps) ≡ turn a (point_at ps j) (point_at ps (suc j)) +ℤ fan_area a (drop (suc j) ps)
+fan-step : (a : PlanePoint) (ps : List PlanePoint) (j : ℕ) → suc j < length ps → triangulated_area a (drop j ps) ≡ turn a (point_at ps j) (point_at ps (suc j)) +ℤ triangulated_area a (drop (suc j) ps)
 fan-step a [] j h = absurd (omega (arith, h))
 fan-step a (b ∷ []) j h = absurd (omega (arith, h))
 fan-step a (b ∷ c ∷ rest) zero h = refl
@@ -30,24 +30,24 @@ no-triangle a c = identity a.x a.y c.x c.y ∙ none a.x
     identity p q r s = read (p ∷ q ∷ r ∷ s ∷ []) (λ xs a b c d. simp (a, b, c, d, polys) (den-ring xs _ _ tt))
 
 -- all triangles are ahead of the first corner
-pub begins : (ps : List PlanePoint) → 1 ≤ length ps → (k : ℕ) → 1 ≡ suc k → pos 0 +ℤ fan_area (point_at ps 0) (drop k ps) ≡ twice_area ps
+pub begins : (ps : List PlanePoint) → 1 ≤ length ps → (k : ℕ) → 1 ≡ suc k → pos 0 +ℤ triangulated_area (point_at ps 0) (drop k ps) ≡ twice_area ps
 begins [] some k e = absurd (omega (arith, some))
 begins (a ∷ []) some zero e = refl
 begins (a ∷ []) some (suc k) e = absurd (omega (arith, e))
-begins (a ∷ b ∷ rest) some zero e = nothing (fan_area a (b ∷ rest)) (turn a a b) (no-triangle a b)
+begins (a ∷ b ∷ rest) some zero e = nothing (triangulated_area a (b ∷ rest)) (turn a a b) (no-triangle a b)
   where
     nothing : (x y : ℤ) → y ≡ pos 0 → pos 0 +ℤ (y +ℤ x) ≡ x
     nothing x y e = omega (arith, ints)
 begins (a ∷ b ∷ rest) some (suc k) e = absurd (omega (arith, e))
 
 -- one triangle more
-pub one_more : (a : PlanePoint) (ps : List PlanePoint) (i : ℕ) (area total : ℤ) → 1 ≤ i → i < length ps → ((k : ℕ) → i ≡ suc k → area +ℤ fan_area a (drop k ps) ≡ total)
-    → (k : ℕ) → i + 1 ≡ suc k → (area +ℤ turn a (point_at ps (i - 1)) (point_at ps i)) +ℤ fan_area a (drop k ps) ≡ total
+pub one_more : (a : PlanePoint) (ps : List PlanePoint) (i : ℕ) (area total : ℤ) → 1 ≤ i → i < length ps → ((k : ℕ) → i ≡ suc k → area +ℤ triangulated_area a (drop k ps) ≡ total)
+    → (k : ℕ) → i + 1 ≡ suc k → (area +ℤ turn a (point_at ps (i - 1)) (point_at ps i)) +ℤ triangulated_area a (drop k ps) ≡ total
 one_more a ps zero area total some below before k e = absurd (omega (arith, some))
 one_more a ps (suc j) area total some below before k e =
-    subst (λ m. (area +ℤ turn a (point_at ps (suc j - 1)) (point_at ps (suc j))) +ℤ fan_area a (drop m ps) ≡ total) (same e)
-    (subst (λ m. (area +ℤ turn a (point_at ps m) (point_at ps (suc j))) +ℤ fan_area a (drop (suc j) ps) ≡ total) (back j)
-    (together area (turn a (point_at ps j) (point_at ps (suc j))) (fan_area a (drop (suc j) ps)) (fan_area a (drop j ps)) total (fan-step a ps j below) (before j refl)))
+    subst (λ m. (area +ℤ turn a (point_at ps (suc j - 1)) (point_at ps (suc j))) +ℤ triangulated_area a (drop m ps) ≡ total) (same e)
+    (subst (λ m. (area +ℤ turn a (point_at ps m) (point_at ps (suc j))) +ℤ triangulated_area a (drop (suc j) ps) ≡ total) (back j)
+    (together area (turn a (point_at ps j) (point_at ps (suc j))) (triangulated_area a (drop (suc j) ps)) (triangulated_area a (drop j ps)) total (fan-step a ps j below) (before j refl)))
   where
     same : {k : ℕ} → suc j + 1 ≡ suc k → suc j ≡ k
     same e = omega arith
@@ -59,14 +59,14 @@ one_more a ps (suc j) area total some below before k e =
     together x t y z total e f = omega (arith, ints)
 
 -- no triangle is ahead of the last corner
-pub ends : (a : PlanePoint) (ps : List PlanePoint) (i : ℕ) (area total : ℤ) → 1 ≤ i → length ps ≤ i → ((k : ℕ) → i ≡ suc k → area +ℤ fan_area a (drop k ps) ≡ total) → area ≡ total
+pub ends : (a : PlanePoint) (ps : List PlanePoint) (i : ℕ) (area total : ℤ) → 1 ≤ i → length ps ≤ i → ((k : ℕ) → i ≡ suc k → area +ℤ triangulated_area a (drop k ps) ≡ total) → area ≡ total
 ends a ps zero area total some past before = absurd (omega (arith, some))
-ends a ps (suc j) area total some past before = plain area (fan_area a (drop j ps)) total (none ps j (shorter past)) (before j refl)
+ends a ps (suc j) area total some past before = plain area (triangulated_area a (drop j ps)) total (none ps j (shorter past)) (before j refl)
   where
     shorter : {m n : ℕ} → m ≤ suc n → m ≤ n + 1
     shorter h = omega arith
 
-    none : (ps : List PlanePoint) (j : ℕ) → length ps ≤ j + 1 → fan_area a (drop j ps) ≡ pos 0
+    none : (ps : List PlanePoint) (j : ℕ) → length ps ≤ j + 1 → triangulated_area a (drop j ps) ≡ pos 0
     none [] zero h = refl
     none [] (suc j) h = refl
     none (b ∷ []) zero h = refl

@@ -80,11 +80,11 @@ hold_two points (p ∷ q ∷ []) a b two e f listed = (
 )
 hold_two points (p ∷ q ∷ r ∷ rest) a b two e f listed = absurd (omega (arith, two))
 
-pub hold_ring : (points corners : List PlanePoint) (n : ℕ) → n ≡ length corners → 3 ≤ n → ((i : ℕ) → i < n → IsEdgeAt points corners i) ↔ HoldAll points corners
-hold_ring points [] n is three = absurd (omega (arith, is, three))
-hold_ring points (a ∷ []) n is three = absurd (omega (arith, is, three))
-hold_ring points (a ∷ b ∷ []) n is three = absurd (omega (arith, is, three))
-hold_ring points (a ∷ b ∷ c ∷ rest) n is three = (
+pub hold_cycle : (points corners : List PlanePoint) (n : ℕ) → n ≡ length corners → 3 ≤ n → ((i : ℕ) → i < n → IsEdgeAt points corners i) ↔ HoldAll points corners
+hold_cycle points [] n is three = absurd (omega (arith, is, three))
+hold_cycle points (a ∷ []) n is three = absurd (omega (arith, is, three))
+hold_cycle points (a ∷ b ∷ []) n is three = absurd (omega (arith, is, three))
+hold_cycle points (a ∷ b ∷ c ∷ rest) n is three = (
   λ h. record {
     left_turns = λ i low. subst (λ z. pos 0 <ℤ z) (turn_along (around (a ∷ b ∷ c ∷ rest) i) (around (a ∷ b ∷ c ∷ rest) (i + 1)) (around (a ∷ b ∷ c ∷ rest) (i + 2))) (h i (subst (λ m. i < m) (sym is) low)).turns;
     all_left = λ i low. (h i (subst (λ m. i < m) (sym is) low)).left;

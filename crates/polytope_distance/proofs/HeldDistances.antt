@@ -1,4 +1,4 @@
--- Supports of equal potential, under which no difference is low, hold a distance.
+-- Supports of equal slack, under which no difference is low, hold a distance.
 use Rattle.std.proofs.Common.{◌≡◌, refl, sym, subst, ◌∙◌, ap, ℕ, ◌<◌, ℤ, pos, ◌-ℤ◌, ◌*ℤ◌, ◌≤ℤ◌, List, [], ◌∷◌, length, get_or, map, arith}
 use Rattle.std.specs.Prelude.{All}
 use Rattle.std.proofs.lemmas.Int.{ints}
@@ -8,7 +8,7 @@ use Rattle.integers.proofs.Sums.{total-map}
 use Rattle.bounds_model.specs.Space.{SpacePoint, point_at, vector, plus, times, dot, squared_length, weighted_sum, origin}
 use Rattle.bounds_model.specs.AnnulusAnswer.{WeightedPair, pair_sum}
 use Rattle.bounds_model.specs.DistanceAnswer.{difference, pull, first_product}
-use Rattle.bounds_model.specs.Potentials.{WeightedVector, mass, moment, potential, IsLow}
+use Rattle.bounds_model.specs.Slacks.{WeightedVector, mass, moment, slack, IsLow}
 use Rattle.corral.specs.declared.support.WeightedItem.{WeightedItem}
 use Rattle.corral.specs.Supports.{AreSupports}
 use Rattle.corral.proofs.Mapped.{all_unmap}
@@ -43,15 +43,15 @@ moment_is ps qs held =
 
 -- ---- what supports hold
 
--- equal potentials are equal products
-same_product : (items : List WeightedVector) (v u : SpacePoint) → potential (pos 0) items v ≡ potential (pos 0) items u → dot (moment items) v ≡ dot (moment items) u
+-- equal slacks are equal products
+same_product : (items : List WeightedVector) (v u : SpacePoint) → slack (pos 0) items v ≡ slack (pos 0) items u → dot (moment items) v ≡ dot (moment items) u
 same_product items v u h = dot-comm (moment items) v ∙ halves (dot v (moment items)) (dot u (moment items)) (mass items *ℤ squared_length v) (mass items *ℤ squared_length u) h ∙ dot-comm u (moment items)
   where
     halves : (a b x y : ℤ) → pos 2 *ℤ a -ℤ pos 0 *ℤ x ≡ pos 2 *ℤ b -ℤ pos 0 *ℤ y → a ≡ b
     halves a b x y h = omega (arith, ints)
 
 -- and so for an order
-less_product : (items : List WeightedVector) (v u : SpacePoint) → potential (pos 0) items u ≤ℤ potential (pos 0) items v → dot (moment items) u ≤ℤ dot (moment items) v
+less_product : (items : List WeightedVector) (v u : SpacePoint) → slack (pos 0) items u ≤ℤ slack (pos 0) items v → dot (moment items) u ≤ℤ dot (moment items) v
 less_product items v u h =
     subst (λ a. a ≤ℤ dot (moment items) v) (dot-comm u (moment items))
     (subst (λ b. dot u (moment items) ≤ℤ b) (dot-comm v (moment items)) (halves (dot v (moment items)) (dot u (moment items)) (mass items *ℤ squared_length v) (mass items *ℤ squared_length u) h))
@@ -73,7 +73,7 @@ same_products_of ps qs (first ∷ rest) h =
     let held = first ∷ rest in
     let pairs = map weighted_pair held in
     let weighted = map (weighted_difference ps qs) held in
-    let equal = all_unmap (λ (a : WeightedVector). All (λ b. potential (pos 0) weighted a.vector ≡ potential (pos 0) weighted b.vector) weighted) (weighted_difference ps qs) held h.equal in
+    let equal = all_unmap (λ (a : WeightedVector). All (λ b. slack (pos 0) weighted a.vector ≡ slack (pos 0) weighted b.vector) weighted) (weighted_difference ps qs) held h.equal in
     All-map (λ (pair : WeightedPair). dot (pull ps qs pairs) (difference ps qs pair) ≡ first_product ps qs pairs) weighted_pair held (λ k d l.
     let s = get_or held k d in
     subst (λ m. dot m (difference ps qs (weighted_pair s)) ≡ dot m (difference ps qs (weighted_pair first))) (moment_is ps qs held)
@@ -91,7 +91,7 @@ no_smaller_of ps qs (first ∷ rest) h none_low i d l j e m =
     let least = difference ps qs (weighted_pair first) in
     let p = point_at ps i in
     let q = point_at qs j in
-    let above = at_least_common (pos 0) weighted (potential (pos 0) weighted least) (λ k f n. h.equal k f n 0 (weighted_difference ps qs first) (omega arith)) (vector q p) (none_low i j l m) in
+    let above = at_least_common (pos 0) weighted (slack (pos 0) weighted least) (λ k f n. h.equal k f n 0 (weighted_difference ps qs first) (omega arith)) (vector q p) (none_low i j l m) in
     let product = subst (λ m. dot m least ≤ℤ dot m (vector q p)) (moment_is ps qs held) (less_product weighted (vector q p) least above) in
     subst (λ p. dot (pull ps qs pairs) least ≤ℤ dot (pull ps qs pairs) (vector (get_or qs j e) p)) (any_default ps i d origin l)
     (subst (λ q. dot (pull ps qs pairs) least ≤ℤ dot (pull ps qs pairs) (vector q p)) (any_default qs j e origin m) product)

@@ -5,7 +5,7 @@ use Rattle.std.proofs.lemmas.List.{length-map, map-id}
 use Rattle.std.proofs.lemmas.List.Elements.{All-map}
 use Rattle.bounds_model.specs.Space.{SpacePoint, point_at}
 use Rattle.bounds_model.specs.AnnulusAnswer.{WeightedPair, pair_sum}
-use Rattle.bounds_model.specs.Potentials.{WeightedVector, mass, IsLow}
+use Rattle.bounds_model.specs.Slacks.{WeightedVector, mass, IsLow}
 use Rattle.bounded_coords.specs.declared.cloud.Cloud.{Cloud}
 use Rattle.bounded_coords.specs.Clouds.{points_of}
 use Rattle.corral.specs.declared.items.Id.{Id}

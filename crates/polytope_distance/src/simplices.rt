@@ -122,9 +122,9 @@ fn face(a: Way, b: Way, c: Way) -> Option<Ratio> {
     if normal.dot(c.cross(a)) < 0 {
         return None;
     }
-    let height = normal.dot(a);
+    let along = normal.dot(a);
     Some(Ratio {
-        num: height.wrapping_mul(height),
+        num: along.wrapping_mul(along),
         den,
     })
 }

@@ -1,4 +1,4 @@
--- Numbers of any length, brought within the reach of machine arithmetic.
+-- Numbers of any length, brought within the range of machine arithmetic.
 use Rattle.std.specs.Prelude.{ℕ, ℤ, pos, negsuc, neg_ℤ, ◌+◌, min}
 use Rattle.bounds_model.specs.Places.{number_limit}
 

@@ -198,7 +198,7 @@ parallelogram_kind = record {
 
 -- ---- annulus
 
--- a ring: its centre, its radii and its pairs
+-- an annulus: its centre, its radii and its pairs
 abbrev pub annulus_kind : Kind
 annulus_kind = record {
   name = codes "annulus";

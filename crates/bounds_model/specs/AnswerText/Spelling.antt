@@ -109,7 +109,7 @@ parallelogram_spelling a = first_line (codes "parallelogram") ++ size_line a.siz
 
 -- ---- annulus
 
--- a ring: its centre, its radii and its pairs
+-- an annulus: its centre, its radii and its pairs
 abbrev pub annulus_spelling : AnnulusAnswer → List ℕ
 annulus_spelling a = first_line (codes "annulus") ++ size_line a.size ++ plane_ratio_line (codes "center") a.centre
     ++ fraction_line (codes "inner") a.inner ++ fraction_line (codes "outer") a.outer

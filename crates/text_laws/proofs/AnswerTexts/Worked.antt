@@ -115,7 +115,7 @@ the_parallelogram = parallelogram (record {
 abbrev pub parallelogram_text : List ℕ
 parallelogram_text = codes "answer 1 parallelogram\nsize 12/1\nfirst 1 0 0 4\nsecond 0 1 0 3\nfan 4\n1 0 1 0 0 2 2 1 0 3\n3 4 2 0 1 2 2 1 0 1\n0 1 2 1 0 1 1 1 0 -4\n-1 0 0 2 2 1 0 -3\nend\n"
 
--- a ring through four points
+-- an annulus through four points
 abbrev pub the_annulus : Answer
 the_annulus = annulus (record {
   size = over 6 5;

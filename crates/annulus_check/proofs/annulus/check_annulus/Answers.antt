@@ -40,9 +40,9 @@ returns-clause-passes c =
     let points = points_of c.args.cloud in
     let pairs = c.as_slice-pairs.result.now in
     let a = c.args.a.now in
-    annulus_decided points pairs a.pairs.items a.size a.inner a.outer a.center (ratio_of c.of-centre.result) c.of-heights.result c.over-sums.result c.as_slice-pairs.ensures.value c.of-centre.ensures.value c.args.cloud.limited
+    annulus_decided points pairs a.pairs.items a.size a.inner a.outer a.center (ratio_of c.of-centre.result) c.of-powers.result c.over-sums.result c.as_slice-pairs.ensures.value c.of-centre.ensures.value c.args.cloud.limited
     (not_empty pairs c.is_empty.ensures c.if-is_empty.false) c.as_slice-pairs.ensures.fits (c.is_small_centre.ensures.0 c.if-not-is_small_centre.false)
-    (subst (λ n. All (IsSmallPair n) pairs) c.len.ensures.count (c.are_small_pairs.ensures.0 c.if-not-are_small_pairs.false)) c.if-sums-gt-WEIGHT_LIMIT.false c.over-sums.ensures.sums c.of-heights.ensures c.is_held.ensures
+    (subst (λ n. All (IsSmallPair n) pairs) c.len.ensures.count (c.are_small_pairs.ensures.0 c.if-not-are_small_pairs.false)) c.if-sums-gt-WEIGHT_LIMIT.false c.over-sums.ensures.sums c.of-powers.ensures c.is_held.ensures
 
 pub returns-clause-best : goal.returns-clause-best
 returns-clause-best c = λ yes. c.passing_answers_are_best.ensures ask_annulus (plane (points_of c.args.cloud)) (annulus (annulus_of c.args.a.now)) ((returns-clause-passes c).0 yes)

@@ -6,7 +6,7 @@ use Rattle.annulus_check.proofs.annulus.is_held.Goals as goal
 
 pub returns-then-not-has_value : goal.returns-then-not-has_value
 returns-then-not-has_value c =
-    let size = size_test c.args.a.now.size c.args.heights.greatest c.args.heights.least c.args.centre.w c.requires.greatest c.requires.least c.requires.centre.w c.has_value.ensures in
+    let size = size_test c.args.a.now.size c.args.powers.greatest c.args.powers.least c.args.centre.w c.requires.greatest c.requires.least c.requires.centre.w c.has_value.ensures in
     (λ no. absurd (cc no), λ held. absurd (clash (size.1 held.size) c.if-not-has_value.true))
 
 pub returns-then-not-has_value-2 : goal.returns-then-not-has_value-2
@@ -16,15 +16,15 @@ returns-then-not-has_value-2 c =
 
 pub returns-then-not-has_squared_radius : goal.returns-then-not-has_squared_radius
 returns-then-not-has_squared_radius c =
-    let inner = radius_test c.args.a.now.inner (ratio_of c.args.centre) c.args.heights.least c.requires.least c.has_squared_radius.ensures in
+    let inner = radius_test c.args.a.now.inner (ratio_of c.args.centre) c.args.powers.least c.requires.least c.has_squared_radius.ensures in
     (λ no. absurd (cc no), λ held. absurd (clash (inner.1 held.inner) c.if-not-has_squared_radius.true))
 
 pub returns : goal.returns
 returns c =
-    let size = size_test c.args.a.now.size c.args.heights.greatest c.args.heights.least c.args.centre.w c.requires.greatest c.requires.least c.requires.centre.w c.has_value.ensures in
+    let size = size_test c.args.a.now.size c.args.powers.greatest c.args.powers.least c.args.centre.w c.requires.greatest c.requires.least c.requires.centre.w c.has_value.ensures in
     let mean = mean_test c.args.a.now.size c.args.sums.squared_length c.args.sums.weight (wrap_is c.requires.sums.squared_length tt) c.requires.sums.weight c.has_value-2.ensures in
-    let inner = radius_test c.args.a.now.inner (ratio_of c.args.centre) c.args.heights.least c.requires.least c.has_squared_radius.ensures in
-    let outer = radius_test c.args.a.now.outer (ratio_of c.args.centre) c.args.heights.greatest c.requires.greatest c.has_squared_radius-2.ensures in (
+    let inner = radius_test c.args.a.now.inner (ratio_of c.args.centre) c.args.powers.least c.requires.least c.has_squared_radius.ensures in
+    let outer = radius_test c.args.a.now.outer (ratio_of c.args.centre) c.args.powers.greatest c.requires.greatest c.has_squared_radius-2.ensures in (
       λ yes. record {
         size = size.0 c.if-not-has_value.false;
         mean = mean.0 c.if-not-has_value-2.false;

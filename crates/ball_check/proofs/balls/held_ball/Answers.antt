@@ -3,7 +3,7 @@ use Rattle.std.proofs.lemmas.List.{length-map}
 use Rattle.bounds_model.specs.Fractions.{SameValue}
 use Rattle.bounded_coords.specs.Clouds.{points_of}
 use Rattle.answers.specs.Answers.{weighted_of}
-use Rattle.ball_sums.proofs.SumSizes.{weight_most, moment_most}
+use Rattle.ball_sums.proofs.SumSizes.{weight_most, second_moment_most}
 use Rattle.ball_sums.proofs.Means.{mean_size_is}
 use Rattle.ball_check.specs.HeldBalls.{HasBallLimits}
 use Rattle.integers.proofs.Lists.{clash}
@@ -19,7 +19,7 @@ is_size-requires g c =
     record {
       some = held.some;
       weight = weight_most g.met.K.Kernel.two_or_three held.sums.range.weight;
-      moment = le_trans held.sums.range.moment (moment_most g.met.K.Kernel.two_or_three held.sums.range.weight);
+      second_moment = le_trans held.sums.range.second_moment (second_moment_most g.met.K.Kernel.two_or_three held.sums.range.weight);
     }
 
 pub returns-then-not-is_size : goal.returns-then-not-is_size

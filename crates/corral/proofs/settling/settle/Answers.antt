@@ -1,5 +1,5 @@
 use Rattle.std.proofs.Common.{sym, ◌∙◌, subst, pos, ◌≤ℤ◌}
-use Rattle.bounds_model.specs.Potentials.{mass, IsLow}
+use Rattle.bounds_model.specs.Slacks.{mass, IsLow}
 use Rattle.kernel_laws.specs.Solutions.{weight_limit}
 use Rattle.corral.specs.declared.items.Id.{Id}
 use Rattle.corral.specs.Items.{IsItem, item}

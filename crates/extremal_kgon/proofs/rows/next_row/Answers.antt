@@ -4,14 +4,14 @@ use Rattle.extremal_kgon.specs.Ways.{vector_of}
 use Rattle.extremal_kgon.specs.Rows.{at, area_at, pairs_below}
 use Rattle.extremal_kgon.proofs.Reading.{kept64}
 use Rattle.extremal_kgon.proofs.NextRows.{row-none, row-more, whole_row}
-use Rattle.extremal_kgon.proofs.AreaLists.{pairs_next, pairs_within, pairs_limit, reach-as}
+use Rattle.extremal_kgon.proofs.AreaLists.{pairs_next, pairs_within, pairs_limit, best_sum-as}
 use Rattle.extremal_kgon.proofs.rows.next_row.Goals as goal
 
 pub later-init : goal.later-init
 later-init c = record { row = row-none (map vector_of c.args.ways.now) c.args.before.now c.new-row.result.items c.new-row.ensures; start = refl }
 
-pub reach-requires-clause-end : goal.reach-requires-clause-end
-reach-requires-clause-end c = subst (λ n. n + c.later.i ≤ length c.args.areas.now) (sym c.later.invariant.start) (subst (λ n. pairs_below c.later.i + c.later.i ≤ n) (sym c.requires.areas.as_many) (pairs_within c.later.i (length c.args.ways.now) c.later-test.true))
+pub best_sum-requires-clause-end : goal.best_sum-requires-clause-end
+best_sum-requires-clause-end c = subst (λ n. n + c.later.i ≤ length c.args.areas.now) (sym c.later.invariant.start) (subst (λ n. pairs_below c.later.i + c.later.i ≤ n) (sym c.requires.areas.as_many) (pairs_within c.later.i (length c.args.ways.now) c.later-test.true))
 
 pub push-requires : goal.push-requires
 push-requires c = let room : length c.later.row.items < 128 = omega (arith, c.later.invariant.row.as_many, c.requires.few) in (omega arith, room)
@@ -24,10 +24,10 @@ overflow_add-start c =
 pub later-preserved : goal.later-preserved
 later-preserved c =
     let ways = map vector_of c.args.ways.now in
-    let reach = reach-as (λ j. at c.args.areas.now (c.later.start + j)) (area_at ways c.later.i) c.args.before.now c.later.i c.reach.result
-    (λ j low. ap (λ n. at c.args.areas.now (n + j)) c.later.invariant.start ∙ c.requires.areas.each c.later.i c.later-test.true j low) c.reach.ensures in
+    let best_sum = best_sum-as (λ j. at c.args.areas.now (c.later.start + j)) (area_at ways c.later.i) c.args.before.now c.later.i c.best_sum.result
+    (λ j low. ap (λ n. at c.args.areas.now (n + j)) c.later.invariant.start ∙ c.requires.areas.each c.later.i c.later-test.true j low) c.best_sum.ensures in
     record {
-      row = row-more ways c.args.before.now c.later.row.items c.push.new.self.items c.later.i c.reach.result c.later.invariant.row reach (c.push.ensures.items ∙ ap (λ u. c.later.row.items ++ u ∷ []) (kept64 {z = c.reach.result} c.reach.type_inv));
+      row = row-more ways c.args.before.now c.later.row.items c.push.new.self.items c.later.i c.best_sum.result c.later.invariant.row best_sum (c.push.ensures.items ∙ ap (λ u. c.later.row.items ++ u ∷ []) (kept64 {z = c.best_sum.result} c.best_sum.type_inv));
       start = ap (λ n. n + c.later.i) c.later.invariant.start ∙ sym (pairs_next c.later.i);
     }
 

@@ -3,7 +3,7 @@ use Rattle.std.proofs.lemmas.Int.{ints}
 use Rattle.std.proofs.Math.Facts.{to_z-of_z}
 use Rattle.integers.proofs.Sizes.{size_fits}
 use Rattle.bounds_model.specs.Space.{dot}
-use Rattle.bounds_model.specs.Potentials.{IsDependence}
+use Rattle.bounds_model.specs.Slacks.{IsDependence}
 use Rattle.kernel_laws.specs.Limits.{IsVectorWithin}
 use Rattle.kernel_laws.specs.Vectors.{vector_of}
 use Rattle.kernel_laws.proofs.SideLimits.{more_within}

@@ -1,6 +1,6 @@
 use Rattle.std.proofs.Common.{sym, subst, ◌≤◌, pos, [], ◌∷◌, get_or, arith, le_trans}
 use Rattle.std.specs.Prelude.{All, ◌↔◌}
-use Rattle.bounds_model.specs.Potentials.{AreAffinelyDependent}
+use Rattle.bounds_model.specs.Slacks.{AreAffinelyDependent}
 use Rattle.kernel_laws.specs.declared.vectors.Vector.{Vector}
 use Rattle.kernel_laws.specs.Vectors.{vector_of}
 use Rattle.kernel_laws.specs.Limits.{IsDifference}

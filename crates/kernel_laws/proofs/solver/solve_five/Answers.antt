@@ -1,7 +1,7 @@
 use Rattle.std.proofs.Common.{◌≡◌, sym, ◌∙◌, subst, ℤ, pos, neg_ℤ, ◌-ℤ◌, ◌<ℤ◌, [], ◌∷◌, arith}
 use Rattle.std.proofs.Math.Facts.{to_z-of_z}
 use Rattle.bounds_model.specs.Space.{vector, origin}
-use Rattle.bounds_model.specs.Potentials.{IsDependence}
+use Rattle.bounds_model.specs.Slacks.{IsDependence}
 use Rattle.kernel_laws.specs.Vectors.{vector_of}
 use Rattle.kernel_laws.proofs.SideLimits.{more_within}
 use Rattle.kernel_laws.proofs.Crosses.{not_zero_from}

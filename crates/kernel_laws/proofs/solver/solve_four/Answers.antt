@@ -1,7 +1,7 @@
 use Rattle.std.proofs.Common.{◌≡◌, sym, ◌∙◌, subst, pos, negsuc, neg_ℤ, ◌-ℤ◌, [], ◌∷◌}
 use Rattle.std.proofs.Math.Facts.{to_z-of_z}
 use Rattle.bounds_model.specs.Space.{vector, origin}
-use Rattle.bounds_model.specs.Potentials.{IsDependence}
+use Rattle.bounds_model.specs.Slacks.{IsDependence}
 use Rattle.kernel_laws.specs.Vectors.{vector_of}
 use Rattle.kernel_laws.specs.Solutions.{AreItems, weight_limit}
 use Rattle.kernel_laws.specs.Answers.{Answers}

@@ -5,7 +5,7 @@ use Rattle.integers.specs.Size.{Size}
 use Rattle.integers.proofs.Sizes.{size_fits, size_more}
 use Rattle.integers.proofs.MachineArithmetic.{Given, given, with_inputs, codes, computes, size_within}
 use Rattle.bounds_model.specs.Space.{SpacePoint, vector, origin}
-use Rattle.bounds_model.specs.Potentials.{IsDependence}
+use Rattle.bounds_model.specs.Slacks.{IsDependence}
 use Rattle.kernel_laws.specs.Limits.{IsVectorWithin}
 use Rattle.kernel_laws.specs.Vectors.{vector_of, sum_of}
 use Rattle.kernel_laws.proofs.Points.{squared_length_positive}

@@ -5,7 +5,7 @@ use Rattle.integers.specs.Size.{Size}
 use Rattle.integers.proofs.Sizes.{size_sub, size_mul, size_more, size_fits}
 use Rattle.integers.proofs.MachineArithmetic.{Given, given, with_inputs, codes, fits, size_within, number}
 use Rattle.bounds_model.specs.Space.{SpacePoint, vector, origin, squared_length}
-use Rattle.bounds_model.specs.Potentials.{IsDependence}
+use Rattle.bounds_model.specs.Slacks.{IsDependence}
 use Rattle.kernel_laws.specs.Limits.{IsVectorWithin}
 use Rattle.kernel_laws.specs.Vectors.{vector_of}
 use Rattle.kernel_laws.specs.Solutions.{Reduces, weight_limit}
@@ -70,12 +70,12 @@ returns-clause-answer g c =
     let fits_double : FitsSigned w128 (pos 2 *ℤ l) = size_fits (two_size size) tt in
     let fits_r : FitsSigned w128 r = size_fits c.right-weight.ensures.size tt in
     let reduces : Reduces ((pos 2 *ℤ l -ℤ r) ∷ r ∷ []) c.weights_of_two.result.items = simp to_z-of_z at c.weights_of_two.ensures in
-    let square = g.T.Potential.SQUARE in
-    let limit : 2 ^ 66 ≤ weight_limit square c.args.dim = limit_at_least square c.args.dim g.T.Potential.zero_or_one c.requires.dim in
-    let solution : pos 2 *ℤ (u.x *ℤ (r *ℤ u.x) +ℤ u.y *ℤ (r *ℤ u.y) +ℤ u.z *ℤ (r *ℤ u.z)) ≡ pos 2 *ℤ l *ℤ right_side square (vector_of c.args.a) (vector_of c.args.b) =
+    let quadratic = g.T.Potential.SQUARE in
+    let limit : 2 ^ 66 ≤ weight_limit quadratic c.args.dim = limit_at_least quadratic c.args.dim g.T.Potential.zero_or_one c.requires.dim in
+    let solution : pos 2 *ℤ (u.x *ℤ (r *ℤ u.x) +ℤ u.y *ℤ (r *ℤ u.y) +ℤ u.z *ℤ (r *ℤ u.z)) ≡ pos 2 *ℤ l *ℤ right_side quadratic (vector_of c.args.a) (vector_of c.args.b) =
     solves_one u r ∙ ap₂ (λ l r. pos 2 *ℤ l *ℤ r) length_is c.right-weight.ensures.value in
     let positive : pos 0 <ℤ (pos 2 *ℤ l) = omega (arith, ints) in
-    weighting_of_two square (weight_limit square c.args.dim) (vector_of c.args.a) (vector_of c.args.b) r (pos 2 *ℤ l) c.weights_of_two.result.items reduces solution positive
+    weighting_of_two quadratic (weight_limit quadratic c.args.dim) (vector_of c.args.a) (vector_of c.args.b) r (pos 2 *ℤ l) c.weights_of_two.result.items reduces solution positive
     (within_limit limit (size_more (two_size size) tt)) (within_limit limit (size_more (size_sub (two_size size) c.right-weight.ensures.size) tt)) (within_limit limit (size_more c.right-weight.ensures.size tt))
 
 pub returns-clause-null : goal.returns-clause-null

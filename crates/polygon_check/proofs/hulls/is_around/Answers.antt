@@ -3,7 +3,7 @@ use Rattle.std.specs.Prelude.{Contains}
 use Rattle.std.proofs.lemmas.List.{length-map}
 use Rattle.bounds_model.specs.Plane.{point_at}
 use Rattle.bounded_coords.specs.Clouds.{points_of}
-use Rattle.polygon_check.proofs.HullReads.{least_is, corner_listed, hold_two, hold_ring, pass_if}
+use Rattle.polygon_check.proofs.HullReads.{least_is, corner_listed, hold_two, hold_cycle, pass_if}
 use Rattle.polygon_check.proofs.hulls.is_around.Goals as goal
 
 pub returns-then-numbers-eq2 : goal.returns-then-numbers-eq2
@@ -19,6 +19,6 @@ pub returns : goal.returns
 returns c =
     let points = points_of c.args.cloud in
     let numbers = c.args.numbers.now in
-    let ring = hold_ring points (map (point_at points) numbers) (length numbers) (sym (length-map numbers (point_at points))) (omega (arith, c.requires.as_many.at_least, c.if-numbers-eq1.false, c.if-numbers-eq2.false)) in
+    let cycle = hold_cycle points (map (point_at points) numbers) (length numbers) (sym (length-map numbers (point_at points))) (omega (arith, c.requires.as_many.at_least, c.if-numbers-eq1.false, c.if-numbers-eq2.false)) in
     pass_if points (map (point_at points) numbers) (least_is points numbers c.corner-first.result.now c.requires.as_many.at_least c.requires.below c.corner-first.ensures (c.is_least.ensures.0 c.if-not-is_least.false)) (c.is_once.ensures.0 c.if-not-is_once.false)
-    (λ yes. ring.0 (c.go_around.ensures.0 yes), λ h. c.go_around.ensures.1 (ring.1 h))
+    (λ yes. cycle.0 (c.go_around.ensures.0 yes), λ h. c.go_around.ensures.1 (cycle.1 h))

@@ -4,7 +4,7 @@ use Rattle.std.proofs.lemmas.List.{length-map}
 use Rattle.integers.specs.Size.{Size}
 use Rattle.integers.proofs.Sizes.{size_add, size_unsigned}
 use Rattle.bounds_model.specs.Plane.{point_at}
-use Rattle.bounds_model.specs.Kgon.{fan_area, twice_area}
+use Rattle.bounds_model.specs.Kgon.{triangulated_area, twice_area}
 use Rattle.bounded_coords.specs.Clouds.{points_of}
 use Rattle.polygon_check.proofs.HullReads.{numbered_corner}
 use Rattle.polygon_check.proofs.Areas.{begins, one_more, ends, size_under, turn_of, machine_sum}
@@ -36,7 +36,7 @@ chosen-preserved c =
     let sum = machine_sum small c.twice_area-area.ensures.small in (
       omega arith,
       subst (Size ((i + 1) * 2 ^ 39)) (sym sum) (size_under (one_row i) (size_add inv.1 c.twice_area-area.ensures.small)),
-      λ k e. subst (λ z. (z +ℤ fan_area (point_at ps 0) (drop k ps)) ≡ twice_area ps) (sym (sum ∙ ap (λ z. to_z w64 c.chosen.area-bits +ℤ z) area))
+      λ k e. subst (λ z. (z +ℤ triangulated_area (point_at ps 0) (drop k ps)) ≡ twice_area ps) (sym (sum ∙ ap (λ z. to_z w64 c.chosen.area-bits +ℤ z) area))
           (one_more (point_at ps 0) ps i (to_z w64 c.chosen.area-bits) (twice_area ps) inv.0 (omega (arith, below, length-map chosen (point_at corners))) inv.2 k e),
     )
 

@@ -1,16 +1,16 @@
 use Rattle.std.proofs.Common.{arith, rules, FitsSigned, to_z-of_z}
 use mir.Syntax.{w64, w128}
-use Rattle.ball_sums.proofs.SumSizes.{moment_fits, range_more}
+use Rattle.ball_sums.proofs.SumSizes.{second_moment_fits, range_more}
 use Rattle.ball_sums.proofs.sums.Sums.with.Goals as goal
 
 pub overflow_mul-result : goal.overflow_mul-result
 overflow_mul-result g c =
-    let fits = moment_fits c.args.self.weight c.args.weight c.squared.result c.args.self.moment g.met.K.Kernel.two_or_three c.requires.limit c.requires.range.moment c.squared.ensures.limit in
+    let fits = second_moment_fits c.args.self.weight c.args.weight c.squared.result c.args.self.second_moment g.met.K.Kernel.two_or_three c.requires.limit c.requires.range.second_moment c.squared.ensures.limit in
     omega arith
 
 pub overflow_add-result-2 : goal.overflow_add-result-2
 overflow_add-result-2 g c =
-    let fits = moment_fits c.args.self.weight c.args.weight c.squared.result c.args.self.moment g.met.K.Kernel.two_or_three c.requires.limit c.requires.range.moment c.squared.ensures.limit in
+    let fits = second_moment_fits c.args.self.weight c.args.weight c.squared.result c.args.self.second_moment g.met.K.Kernel.two_or_three c.requires.limit c.requires.range.second_moment c.squared.ensures.limit in
     omega arith
 
 pub returns-clause-range : goal.returns-clause-range
@@ -27,4 +27,4 @@ returns-clause-range g c =
     let is_x = simp to_z-of_z at c.plus.ensures in
     let is_y = simp to_z-of_z at c.plus-2.ensures in
     let is_z = simp to_z-of_z at c.plus-3.ensures in
-    simp to_z-of_z (range_more c.args.self.weight c.args.weight c.squared.result c.args.self.moment c.requires.range c.requires.vector.within c.requires.limit c.squared.ensures.limit is_x is_y is_z)
+    simp to_z-of_z (range_more c.args.self.weight c.args.weight c.squared.result c.args.self.second_moment c.requires.range c.requires.vector.within c.requires.limit c.squared.ensures.limit is_x is_y is_z)

@@ -7,7 +7,7 @@ use Rattle.corral.proofs.MomentSizes.{MomentSizes, moment_sizes}
 use Rattle.corral.proofs.sums.Moments.wide_along.Goals as goal
 
 -- the coordinates, each with its bound
-abbrev inputs : {l m t : ℕ} {square mass : ℤ} {v s : SpacePoint} → MomentSizes l m t square v s mass → List Given
+abbrev inputs : {l m t : ℕ} {quadratic mass : ℤ} {v s : SpacePoint} → MomentSizes l m t quadratic v s mass → List Given
 inputs b = given b.vector.x ∷ given b.vector.y ∷ given b.vector.z ∷ given b.sum.x ∷ given b.sum.y ∷ given b.sum.z ∷ []
 
 pub overflow_mul-result : goal.overflow_mul-result

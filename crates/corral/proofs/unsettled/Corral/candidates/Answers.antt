@@ -43,4 +43,4 @@ returns-clause-items g c =
     let same = ap length c.as_slice-support-items.ensures.value in
     let end = c.fill.auto.support-index-end in
     candidates_are_items {K = g.row.K.Denot} g.T.Potential.SQUARE g.K.Kernel.DIM g.K.Kernel.place c.args.self.now.items c.fill.all.items c.fill.invariant.candidates (omega arith) (omega arith) c.fill.invariant.differences
-    (λ square. subst (λ cs. All (λ (a : Candidate). All (λ (b : Candidate). IsNear {K = g.row.K.Denot} g.K.Kernel.DIM g.K.Kernel.place c.args.self.now.items a.id b.id) cs) cs) c.as_slice.ensures.value (c.near_pairs.ensures square))
+    (λ quadratic. subst (λ cs. All (λ (a : Candidate). All (λ (b : Candidate). IsNear {K = g.row.K.Denot} g.K.Kernel.DIM g.K.Kernel.place c.args.self.now.items a.id b.id) cs) cs) c.as_slice.ensures.value (c.near_pairs.ensures quadratic))

@@ -16,4 +16,4 @@ tell-preserved g c =
     (near_points {K = g.row.K.Denot} g.K.Kernel.DIM g.K.Kernel.place c.args.self.now.items c.in-Points.cloud c.args.id (get_or c.args.candidates.now c.tell.candidate-index blank).id c.at.result.now c.at-in-tell.result.now (vector_of c.diff-apart.result) c.in-Points.is c.at.ensures c.at-in-tell.ensures c.diff-apart.ensures.value c.diff-apart.ensures.difference.within)
 
 pub returns-after-tell : goal.returns-after-tell
-returns-after-tell g c square = subst (All (λ (c' : Candidate). IsNear {K = g.row.K.Denot} g.K.Kernel.DIM g.K.Kernel.place c.args.self.now.items c.args.id c'.id)) (take_whole c.args.candidates.now c.tell.candidate-index c.tell-test.false) c.tell.invariant
+returns-after-tell g c quadratic = subst (All (λ (c' : Candidate). IsNear {K = g.row.K.Denot} g.K.Kernel.DIM g.K.Kernel.place c.args.self.now.items c.args.id c'.id)) (take_whole c.args.candidates.now c.tell.candidate-index c.tell-test.false) c.tell.invariant

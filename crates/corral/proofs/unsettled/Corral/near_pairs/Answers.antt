@@ -8,10 +8,10 @@ use Rattle.corral.proofs.Mapped.{take_whole}
 use Rattle.corral.proofs.unsettled.Corral.near_pairs.Goals as goal
 
 pub pair-preserved : goal.pair-preserved
-pair-preserved g c square =
+pair-preserved g c quadratic =
     let within = c.pair-test.true in
-    All-more (λ (a : Candidate). All (λ (b : Candidate). IsNear {K = g.row.K.Denot} g.K.Kernel.DIM g.K.Kernel.place c.args.self.now.items a.id b.id) c.args.candidates.now) c.args.candidates.now c.pair.a-index blank within (c.pair.invariant square) (c.near_all.ensures square)
+    All-more (λ (a : Candidate). All (λ (b : Candidate). IsNear {K = g.row.K.Denot} g.K.Kernel.DIM g.K.Kernel.place c.args.self.now.items a.id b.id) c.args.candidates.now) c.args.candidates.now c.pair.a-index blank within (c.pair.invariant quadratic) (c.near_all.ensures quadratic)
 
 pub returns : goal.returns
-returns g c square =
-    subst (All (λ (a : Candidate). All (λ (b : Candidate). IsNear {K = g.row.K.Denot} g.K.Kernel.DIM g.K.Kernel.place c.args.self.now.items a.id b.id) c.args.candidates.now)) (take_whole c.args.candidates.now c.pair.a-index c.pair-test.false) (c.pair.invariant square)
+returns g c quadratic =
+    subst (All (λ (a : Candidate). All (λ (b : Candidate). IsNear {K = g.row.K.Denot} g.K.Kernel.DIM g.K.Kernel.place c.args.self.now.items a.id b.id) c.args.candidates.now)) (take_whole c.args.candidates.now c.pair.a-index c.pair-test.false) (c.pair.invariant quadratic)

@@ -26,5 +26,5 @@ pub returns-clause-within : goal.returns-clause-within
 returns-clause-within c = record {
   x = with_inputs (given (near c.x.ensures.value c.x.ensures.bounds) ∷ given (near c.x-2.ensures.value c.x-2.ensures.bounds) ∷ []) (λ xs h p q. simp (p, q, c.x.ensures.value, c.x-2.ensures.value, codes) (size_within xs h _ tt));
   y = with_inputs (given (near c.y.ensures.value c.y.ensures.bounds) ∷ given (near c.y-2.ensures.value c.y-2.ensures.bounds) ∷ []) (λ xs h p q. simp (p, q, c.y.ensures.value, c.y-2.ensures.value, codes) (size_within xs h _ tt));
-  height = subst (Size 80000000000) (sym (with_inputs (given (range c.squared_length.ensures.low c.squared_length.ensures.high) ∷ given (range c.squared_length-2.ensures.low c.squared_length-2.ensures.high) ∷ []) (λ xs h p q. simp (p, q, codes) (computes xs h _ _ tt tt)))) (difference c.squared_length.ensures.low c.squared_length.ensures.high c.squared_length-2.ensures.low c.squared_length-2.ensures.high);
+  lift = subst (Size 80000000000) (sym (with_inputs (given (range c.squared_length.ensures.low c.squared_length.ensures.high) ∷ given (range c.squared_length-2.ensures.low c.squared_length-2.ensures.high) ∷ []) (λ xs h p q. simp (p, q, codes) (computes xs h _ _ tt tt)))) (difference c.squared_length.ensures.low c.squared_length.ensures.high c.squared_length-2.ensures.low c.squared_length-2.ensures.high);
 }

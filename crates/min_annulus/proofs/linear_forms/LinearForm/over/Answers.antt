@@ -9,7 +9,7 @@ use Rattle.min_annulus.proofs.linear_forms.LinearForm.over.Goals as goal
 
 -- the numbers of the form and of the difference, each with its bound
 abbrev inputs : {f : LinearForm} {d : DifferenceVector} → IsLinearForm f → IsDifference d → List Given
-inputs f d = given f.x ∷ given f.y ∷ given f.w ∷ given d.x ∷ given d.y ∷ given d.height ∷ []
+inputs f d = given f.x ∷ given f.y ∷ given f.w ∷ given d.x ∷ given d.y ∷ given d.lift ∷ []
 
 pub overflow_add-result : goal.overflow_add-result
 overflow_add-result c = with_inputs (inputs c.requires.form c.requires.difference) (λ xs h p q r s t u. simp (p, q, r, s, t, u, codes) (fits xs h w128 _ tt))

@@ -8,7 +8,7 @@ use Rattle.min_annulus.proofs.linear_forms.LinearForm.through.Goals as goal
 
 -- the numbers of the differences, each with its bound
 abbrev inputs : {a b c : DifferenceVector} → IsDifference a → IsDifference b → IsDifference c → List Given
-inputs a b c = given a.x ∷ given a.y ∷ given a.height ∷ given b.x ∷ given b.y ∷ given b.height ∷ given c.x ∷ given c.y ∷ given c.height ∷ []
+inputs a b c = given a.x ∷ given a.y ∷ given a.lift ∷ given b.x ∷ given b.y ∷ given b.lift ∷ given c.x ∷ given c.y ∷ given c.lift ∷ []
 
 pub overflow_mul-result : goal.overflow_mul-result
 overflow_mul-result c = with_inputs (inputs c.requires.a c.requires.b c.requires.c) (λ xs h p q r s t u v w z. simp (p, q, r, s, t, u, v, w, z, codes) (fits xs h w64 _ tt))

@@ -1,6 +1,6 @@
 use Rattle.std.proofs.Common.{subst, ◌≤ℤ◌, pos, le_trans}
 use Rattle.kernel_laws.specs.Limits.{ball_limit}
-use Rattle.ball_sums.proofs.SumSizes.{weight_most, moment_most}
+use Rattle.ball_sums.proofs.SumSizes.{weight_most, second_moment_most}
 use Rattle.ball_sums.proofs.Means.{mean_size_is}
 use Rattle.bounds_model.specs.Fractions.{SameValue}
 use Rattle.corral.specs.Supported.{supports_of, items_of}
@@ -21,8 +21,8 @@ size-size-requires-clause-some g c =
 pub size-size-requires-clause-weight : goal.size-size-requires-clause-weight
 size-size-requires-clause-weight g c = weight_most g.met.K.Kernel.two_or_three c.sums_over-sums.ensures.range.weight
 
-pub size-size-requires-clause-moment : goal.size-size-requires-clause-moment
-size-size-requires-clause-moment g c = le_trans c.sums_over-sums.ensures.range.moment (moment_most g.met.K.Kernel.two_or_three c.sums_over-sums.ensures.range.weight)
+pub size-size-requires-clause-second_moment : goal.size-size-requires-clause-second_moment
+size-size-requires-clause-second_moment g c = le_trans c.sums_over-sums.ensures.range.second_moment (second_moment_most g.met.K.Kernel.two_or_three c.sums_over-sums.ensures.range.weight)
 
 pub invariant_of-result : goal.invariant_of-result
 invariant_of-result g c =

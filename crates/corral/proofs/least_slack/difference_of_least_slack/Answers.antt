@@ -1,0 +1,6 @@
+use Rattle.corral.proofs.Ends.{least_by_ends}
+use Rattle.corral.proofs.least_slack.difference_of_least_slack.Goals as goal
+
+pub returns : goal.returns
+returns g c =
+    least_by_ends g.T.Potential.SQUARE g.K.Kernel.place c.args.p c.args.q c.args.moments c.at-origin.result.now c.least_along.result c.most_along.result c.requires.quadratic c.least_along.ensures c.most_along.ensures

@@ -1,6 +1,0 @@
-use Rattle.corral.proofs.Ends.{lowest_by_ends}
-use Rattle.corral.proofs.lowest.lowest_difference.Goals as goal
-
-pub returns : goal.returns
-returns g c =
-    lowest_by_ends g.T.Potential.SQUARE g.K.Kernel.place c.args.p c.args.q c.args.moments c.at-origin.result.now c.least_along.result c.most_along.result c.requires.square c.least_along.ensures c.most_along.ensures
