@@ -12,9 +12,9 @@ use Rattle.integers.proofs.Order.{mul_le_both}
 use Rattle.bounds_model.specs.Numbers.{IsWithin}
 use Rattle.bounds_model.specs.Plane.{PlaneRatio, plane_limit}
 use Rattle.bounds_model.specs.Fractions.{Fraction, SameValue}
-use Rattle.bounds_model.specs.Places.{IsFraction}
+use Rattle.bounds_model.specs.Ranges.{IsFraction}
 use Rattle.bounds_model.specs.AnnulusAnswer.{squared_radius_at}
-use Rattle.annulus_check.specs.HeldAnnuli.{pair_limit, HasValue}
+use Rattle.annulus_check.specs.DeterminedAnnuli.{pair_limit, HasValue}
 use Rattle.integers.proofs.Narrowing.{widened}
 
 -- ---- sizes

@@ -13,7 +13,7 @@ use Rattle.bounds_model.specs.AnnulusAnswer.{pair_sum, weighted_differences}
 use Rattle.answers.specs.declared.pairs.WeightedPair.{WeightedPair}
 use Rattle.answers.specs.Answers.{pair_of}
 use Rattle.annulus_check.specs.declared.annulus.PairSums.{PairSums}
-use Rattle.annulus_check.specs.HeldAnnuli.{IsSmallPair, AddsPair, AreSmallSums, ArePairSums}
+use Rattle.annulus_check.specs.DeterminedAnnuli.{IsSmallPair, AddsPair, AreSmallSums, ArePairSums}
 use Rattle.integers.proofs.Lists.{All-unmap}
 
 -- ---- sums

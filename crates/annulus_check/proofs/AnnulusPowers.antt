@@ -9,7 +9,7 @@ use Rattle.integers.proofs.Extremes.{greatest-take_one, least-take_one, greatest
 use Rattle.bounds_model.specs.Plane.{PlanePoint, PlaneRatio}
 use Rattle.bounds_model.specs.AnnulusAnswer.{power}
 use Rattle.annulus_check.specs.declared.annulus.Powers.{Powers}
-use Rattle.annulus_check.specs.HeldAnnuli.{ArePowers}
+use Rattle.annulus_check.specs.DeterminedAnnuli.{ArePowers}
 use Rattle.annulus_check.proofs.AnnulusNumbers.{back128, size_max, size_min}
 
 -- of one point

@@ -1,1 +1,1 @@
-pub mod HeldAnnuli
+pub mod DeterminedAnnuli

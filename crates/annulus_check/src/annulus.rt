@@ -4,13 +4,13 @@ ghost use Rattle.integers.specs.Size.{Size};
 ghost use Rattle.integers.specs.Extremes.{greatest, least};
 ghost use Rattle.bounds_model.specs.Plane.{squared_length as squared_length_of};
 ghost use Rattle.bounds_model.specs.Fractions.{SameValue};
-ghost use Rattle.bounds_model.specs.Places.{IsFraction};
+ghost use Rattle.bounds_model.specs.Ranges.{IsFraction};
 ghost use Rattle.bounds_model.specs.AnnulusAnswer.{power as power_of, squared_radius_at};
 ghost use Rattle.bounds_model.specs.Asks.{ask_annulus, plane};
 ghost use Rattle.bounds_model.specs.Answers.{Passes, IsBest, annulus};
 ghost use Rattle.bounded_coords.specs.Clouds.{points_of};
 ghost use Rattle.answers.specs.Answers.{pair_of, annulus_of};
-ghost use Rattle.annulus_check.specs.HeldAnnuli.{IsSmallCentre, IsSmallPair, ratio_of, IsCentre, AddsPair, AreSmallSums, ArePairSums, ArePowers, MeetsRest};
+ghost use Rattle.annulus_check.specs.DeterminedAnnuli.{IsSmallCentre, IsSmallPair, ratio_of, IsCentre, AddsPair, AreSmallSums, ArePairSums, ArePowers, MeetsRest};
 
 use answers::{AnnulusAnswer, WeightedPair};
 use bounded_coords::{Cloud2, Point2};
@@ -50,7 +50,7 @@ pub fn check_annulus(cloud: Cloud2<'_>, a: &AnnulusAnswer) -> bool
     }
     let centre = Centre::of(&a.center);
     let powers = Powers::of(cloud, centre);
-    is_held(a, centre, powers, sums)
+    is_determined(a, centre, powers, sums)
 }
 
 // ---- the limits
@@ -231,7 +231,7 @@ impl Powers {
 // ---- the size, the balance and the radii
 
 /// Whether the size is right, the pairs are balanced and show it to be least, and the radii are those of the points.
-fn is_held(a: &AnnulusAnswer, centre: Centre, powers: Powers, sums: PairSums) -> bool
+fn is_determined(a: &AnnulusAnswer, centre: Centre, powers: Powers, sums: PairSums) -> bool
     requires centre { IsCentre centre }
     requires greatest { Size (2 ^ 80) powers.greatest }
     requires least { Size (2 ^ 80) powers.least }

@@ -118,7 +118,7 @@ fn square(n: i128) -> u128 {
     n.unsigned_abs().wrapping_mul(n.unsigned_abs())
 }
 
-/// The answer of a row, if its numbers are in their places.
+/// The answer of a row, if its numbers are in their ranges.
 fn annulus_answer(row: AnnulusRow) -> Option<AnnulusAnswer> {
     let mut pairs = ArrayVec::new();
     for (first, second, weight) in row.pairs {

@@ -132,7 +132,7 @@ abbrev pub blocker_of : Blocker → empties.Blocker
 blocker_of Side = side
 blocker_of (Point number) = point number
 
--- an upright rectangle, and what each of its sides rests on
+-- an axis-parallel rectangle, and what each of its sides rests on
 abbrev pub empty_of : EmptyAnswer → empties.EmptyAnswer
 empty_of a = record {
   size = a.size;

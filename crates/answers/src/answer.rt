@@ -24,7 +24,7 @@ pub enum Answer {
     Strip(StripAnswer),
     /// The annulus around the points with the least difference of squared radii.
     Annulus(AnnulusAnswer),
-    /// The largest upright rectangle in a frame with no point inside.
+    /// The largest axis-parallel rectangle in a frame with no point inside.
     Empty(EmptyAnswer),
     /// The largest polygon on so many of the hull's corners.
     Kgon(KgonAnswer),

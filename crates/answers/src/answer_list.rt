@@ -65,7 +65,7 @@ impl<T: Copy> AnswerList<T> {
         self.items.len() as u32
     }
 
-    /// The item at this place, counted from 0.
+    /// The item of this index, counted from 0.
     pub fn at(&self, i: u32) -> T
         requires { i < length self.now }
         ensures { slice_get self.now i ≡ Some result }

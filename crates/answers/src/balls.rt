@@ -1,4 +1,4 @@
-//! Circles and spheres, and the points that hold them.
+//! Circles and spheres, and the points that determine them.
 use arrayvec::ArrayVec;
 use exact_fractions::{Frac, Homog2, Homog3};
 

@@ -13,7 +13,7 @@ use Rattle.answers.specs.declared.balls.Weighted.{Weighted}
 use Rattle.answers.specs.Answers.{weighted_of}
 use Rattle.integers.proofs.Lists.{All-unmap}
 use Rattle.ball_sums.specs.declared.sums.Sums.{Sums}
-use Rattle.ball_check.specs.HeldBalls.{AreSupportSums}
+use Rattle.ball_check.specs.DeterminedBalls.{AreSupportSums}
 
 -- the place of a numbered point
 pub placed : {P : Type 0} (place : P → SpacePoint) (points : List P) (i : ℕ) (p : P) → slice_get points i ≡ Some p → point_at (map place points) i ≡ place p
@@ -40,15 +40,15 @@ difference a b h = by_lt_z a b (λ below. absurd (h (omega (arith, ints)))) (λ 
 -- the slack in the ball that the supports hold, in the supports' own words
 slack_is : {dim : ℕ} (points : List SpacePoint) (supports : List model.Weighted) (h : Sums) (first p : SpacePoint) → AreSupportSums dim points supports h → first_support points supports ≡ first
     → slack_from_origin (sum_of h.pull) h.weight (vector first p) ≡ pos 2 *ℤ dot (vector (first_support points supports) p) (pull points supports) -ℤ weight_sum supports *ℤ squared_length (vector (first_support points supports) p)
-slack_is points supports h first p held is =
-    ap₂ (λ sum weight. pos 2 *ℤ dot (vector first p) sum -ℤ weight *ℤ squared_length (vector first p)) held.sums.sums.pull held.sums.sums.weight
+slack_is points supports h first p totals is =
+    ap₂ (λ sum weight. pos 2 *ℤ dot (vector first p) sum -ℤ weight *ℤ squared_length (vector first p)) totals.sums.sums.pull totals.sums.sums.weight
     ∙ ap (λ f. pos 2 *ℤ dot (vector f p) (pull points supports) -ℤ weight_sum supports *ℤ squared_length (vector f p)) (sym is)
 
 -- a point of slack 0 is on the ball
 pub on_ball_by : {yes : Bool} {dim : ℕ} (points : List SpacePoint) (supports : List model.Weighted) (h : Sums) (first p : SpacePoint) (s : model.Weighted) → AreSupportSums dim points supports h → first_support points supports ≡ first → point_at points s.point ≡ p
     → (IsTrue yes ↔ (slack_from_origin (sum_of h.pull) h.weight (vector first p) ≡ pos 0)) → IsTrue yes ↔ IsOnBall points supports s
-on_ball_by {yes} points supports h first p s held is at test =
-    let e = ap (λ q. slack_from_origin (sum_of h.pull) h.weight (vector first q)) (sym at) ∙ slack_is points supports h first (point_at points s.point) held is in
+on_ball_by {yes} points supports h first p s totals is at test =
+    let e = ap (λ q. slack_from_origin (sum_of h.pull) h.weight (vector first q)) (sym at) ∙ slack_is points supports h first (point_at points s.point) totals is in
     (λ t. equal _ _ (sym e ∙ test.0 t), λ on. test.1 (e ∙ none _ _ on))
   where
     equal : (a b : ℤ) → a -ℤ b ≡ pos 0 → a ≡ b
@@ -60,8 +60,8 @@ on_ball_by {yes} points supports h first p s held is at test =
 -- and one with a slack below 0 is outside
 pub outside_by : {yes : Bool} {dim : ℕ} (points : List SpacePoint) (supports : List model.Weighted) (h : Sums) (first p : SpacePoint) → AreSupportSums dim points supports h → first_support points supports ≡ first
     → (IsTrue yes ↔ (slack_from_origin (sum_of h.pull) h.weight (vector first p) <ℤ pos 0)) → (IsTrue yes → IsNotOutside points supports p → ⊥) × ((IsTrue yes → ⊥) → IsNotOutside points supports p)
-outside_by {yes} points supports h first p held is test =
-    let e = slack_is points supports h first p held is in
+outside_by {yes} points supports h first p totals is test =
+    let e = slack_is points supports h first p totals is in
     (λ t inside. clash _ _ (subst (λ z. z <ℤ pos 0) e (test.0 t)) inside, λ no. difference _ _ (λ below. no (test.1 (subst (λ z. z <ℤ pos 0) (sym e) below))))
   where
     clash : (a b : ℤ) → (a -ℤ b) <ℤ pos 0 → b ≤ℤ a → ⊥

@@ -1,1 +1,1 @@
-pub mod HeldBalls
+pub mod DeterminedBalls

@@ -1,8 +1,8 @@
-//! Circles and spheres: weighted points that hold a ball in place around all points.
+//! Circles and spheres: weighted points that determine a ball around all points.
 ghost use Rattle.std.specs.Prelude.{◌≡◌, ◌↔◌, ◌≤◌, ◌<◌, ◌^◌, pos, ◌<ℤ◌, length, map, All, IsTrue, MatchOption};
 ghost use Rattle.bounds_model.specs.Space.{vector, origin, SamePlace, flat, flat_ratio};
 ghost use Rattle.bounds_model.specs.Fractions.{SameValue};
-ghost use Rattle.bounds_model.specs.Places.{IsFraction, IsPlaneRatio, IsSpaceRatio};
+ghost use Rattle.bounds_model.specs.Ranges.{IsFraction, IsPlaneRatio, IsSpaceRatio};
 ghost use Rattle.bounds_model.specs.BallAnswer.{first_support, supported_size, supported_centre, IsOnBall, IsNotOutside};
 ghost use Rattle.bounds_model.specs.Asks.{ask_circle, ask_sphere, plane, space};
 ghost use Rattle.bounds_model.specs.Answers.{Passes, IsBest, circle, sphere};
@@ -12,7 +12,7 @@ ghost use Rattle.kernel_laws.specs.Signs.{slack_from_origin};
 ghost use Rattle.answers.specs.Answers.{weighted_of, circle_of, sphere_of};
 ghost use Rattle.ball_sums.specs.Sums.{IsInRange};
 ghost use Rattle.ball_sums.specs.Means.{mean_size, plane_mean, space_mean};
-ghost use Rattle.ball_check.specs.HeldBalls.{HasBallLimits, HoldsBall, AreSupportSums};
+ghost use Rattle.ball_check.specs.DeterminedBalls.{HasBallLimits, DetermineBall, AreSupportSums};
 
 use answers::{BallAnswer2, BallAnswer3, Weighted};
 use ball_sums::Sums;
@@ -21,7 +21,7 @@ use exact_fractions::{Frac, Homog2, Homog3};
 use kernel_laws::{Kernel, Plane, Sign, Space, side};
 use optimality::answer::passing_answers_are_best;
 
-/// Whether the supports hold a circle of this size and centre in place around all points (CGAL manual, Bounding Volumes,
+/// Whether the supports determine a circle of this size and centre around all points (CGAL manual, Bounding Volumes,
 /// `Min_circle_2`): with its weights, each support is on the circle around the weighted mean, and no point is outside. A circle is
 /// the smallest around points on it exactly where its centre is a weighted mean of them (Seidel's lemma, in Fischer, Gärtner and
 /// Kutz, Fast smallest-enclosing-ball computation in high dimensions).
@@ -31,47 +31,47 @@ pub fn check_circle(cloud: Cloud2<'_>, a: &BallAnswer2) -> bool
 {
     passing_answers_are_best();
     let supports = a.supports.as_slice();
-    match held_ball(&Plane, cloud, supports, &a.size) {
-        Some(held) => is_plane_centre(&a.center, cloud.at(supports[0].point), &held),
+    match determined_ball(&Plane, cloud, supports, &a.size) {
+        Some(totals) => is_plane_centre(&a.center, cloud.at(supports[0].point), &totals),
         None => false,
     }
 }
 
-/// Whether the supports hold a sphere of this size and centre in place around all points, as for a circle.
+/// Whether the supports determine a sphere of this size and centre around all points, as for a circle.
 pub fn check_sphere(cloud: Cloud3<'_>, a: &BallAnswer3) -> bool
     ensures passes { IsTrue result ↔ Passes ask_sphere (space (points_of cloud.entry)) (sphere (sphere_of a.now)) }
     ensures best { IsTrue result → IsBest ask_sphere (space (points_of cloud.entry)) (sphere (sphere_of a.now)) }
 {
     passing_answers_are_best();
     let supports = a.supports.as_slice();
-    match held_ball(&Space, cloud, supports, &a.size) {
-        Some(held) => is_space_centre(&a.center, cloud.at(supports[0].point), &held),
+    match determined_ball(&Space, cloud, supports, &a.size) {
+        Some(totals) => is_space_centre(&a.center, cloud.at(supports[0].point), &totals),
         None => false,
     }
 }
 
-/// The sums over the supports, where these hold a ball of this size in place around all points.
-fn held_ball<K: Kernel>(
+/// The sums over the supports, where these determine a ball of this size around all points.
+fn determined_ball<K: Kernel>(
     kernel: &K,
     cloud: Cloud<'_, K::P>,
     supports: &[Weighted],
     size: &Frac,
 ) -> Option<Sums>
-    ensures { MatchOption result (HoldsBall K.DIM (map K.place (points_of cloud.entry)) (map weighted_of supports.now) size.now → ⊥)
-        (λ h. HoldsBall K.DIM (map K.place (points_of cloud.entry)) (map weighted_of supports.now) size.now
+    ensures { MatchOption result (DetermineBall K.DIM (map K.place (points_of cloud.entry)) (map weighted_of supports.now) size.now → ⊥)
+        (λ h. DetermineBall K.DIM (map K.place (points_of cloud.entry)) (map weighted_of supports.now) size.now
         × AreSupportSums K.DIM (map K.place (points_of cloud.entry)) (map weighted_of supports.now) h) }
 {
-    let held = sums(kernel, cloud, supports)?;
-    if !is_size(size, &held) {
+    let totals = sums(kernel, cloud, supports)?;
+    if !is_size(size, &totals) {
         return None;
     }
-    if !are_on_ball(kernel, cloud, supports, &held) {
+    if !are_on_ball(kernel, cloud, supports, &totals) {
         return None;
     }
-    if !is_none_outside(kernel, cloud, supports, &held) {
+    if !is_none_outside(kernel, cloud, supports, &totals) {
         return None;
     }
-    Some(held)
+    Some(totals)
 }
 
 // ---- the limits
@@ -90,12 +90,12 @@ fn sums<K: Kernel>(kernel: &K, cloud: Cloud<'_, K::P>, supports: &[Weighted]) ->
         return None;
     }
     let first = cloud.at(supports[0].point);
-    let mut held = Sums::none();
+    let mut totals = Sums::none();
     for s in supports {
         let to = kernel.diff(first, cloud.at(s.point));
-        held = held.checked_with(kernel, s.weight, to)?;
+        totals = totals.checked_with(kernel, s.weight, to)?;
     }
-    Some(held)
+    Some(totals)
 }
 
 /// Whether the supports name points, of which there are so many.
@@ -108,13 +108,13 @@ fn are_numbers(supports: &[Weighted], count: u32) -> bool
 // ---- the size, the supports and the points
 
 /// Whether the size is half the weighted mean of the supports' squared distances from the first.
-fn is_size(size: &Frac, held: &Sums) -> bool
-    requires some { 1 ≤ held.now.weight }
-    requires weight { held.now.weight ≤ 2 ^ 92 }
-    requires second_moment { held.now.second_moment ≤ 2 ^ 122 }
-    ensures { IsTrue result ↔ (IsFraction size.now × SameValue size.now (mean_size held.now)) }
+fn is_size(size: &Frac, totals: &Sums) -> bool
+    requires some { 1 ≤ totals.now.weight }
+    requires weight { totals.now.weight ≤ 2 ^ 92 }
+    requires second_moment { totals.now.second_moment ≤ 2 ^ 122 }
+    ensures { IsTrue result ↔ (IsFraction size.now × SameValue size.now (mean_size totals.now)) }
 {
-    let mean = held.size();
+    let mean = totals.size();
     size.num() == mean.num() && size.den() == mean.den()
 }
 
@@ -123,15 +123,15 @@ fn are_on_ball<K: Kernel>(
     kernel: &K,
     cloud: Cloud<'_, K::P>,
     supports: &[Weighted],
-    held: &Sums,
+    totals: &Sums,
 ) -> bool
     requires limits { HasBallLimits K.DIM (length (points_of cloud)) (map weighted_of supports.now) }
-    requires held { AreSupportSums K.DIM (map K.place (points_of cloud)) (map weighted_of supports.now) held.now }
+    requires totals { AreSupportSums K.DIM (map K.place (points_of cloud)) (map weighted_of supports.now) totals.now }
     ensures { IsTrue result ↔ All (IsOnBall (map K.place (points_of cloud.entry)) (map weighted_of supports.now)) (map weighted_of supports.now) }
 {
     let first = cloud.at(supports[0].point);
     for s in supports {
-        if !is_on(kernel, held, first, cloud.at(s.point)) {
+        if !is_on(kernel, totals, first, cloud.at(s.point)) {
             return false;
         }
     }
@@ -143,16 +143,16 @@ fn is_none_outside<K: Kernel>(
     kernel: &K,
     cloud: Cloud<'_, K::P>,
     supports: &[Weighted],
-    held: &Sums,
+    totals: &Sums,
 ) -> bool
     requires limits { HasBallLimits K.DIM (length (points_of cloud)) (map weighted_of supports.now) }
-    requires held { AreSupportSums K.DIM (map K.place (points_of cloud)) (map weighted_of supports.now) held.now }
+    requires totals { AreSupportSums K.DIM (map K.place (points_of cloud)) (map weighted_of supports.now) totals.now }
     ensures { IsTrue result ↔ All (IsNotOutside (map K.place (points_of cloud.entry)) (map weighted_of supports.now))
         (map K.place (points_of cloud.entry)) }
 {
     let first = cloud.at(supports[0].point);
     for i in 0..cloud.len() {
-        if is_outside(kernel, held, first, cloud.at(i)) {
+        if is_outside(kernel, totals, first, cloud.at(i)) {
             return false;
         }
     }
@@ -160,25 +160,25 @@ fn is_none_outside<K: Kernel>(
 }
 
 /// Whether a point is on the ball.
-fn is_on<K: Kernel>(kernel: &K, held: &Sums, first: &K::P, p: &K::P) -> bool
-    requires some { 1 ≤ held.now.weight }
-    requires range { IsInRange K.DIM held.now }
-    ensures { IsTrue result ↔ (slack_from_origin (sum_of held.now.pull) held.now.weight (vector (K.place first.now) (K.place p.now)) ≡ pos 0) }
+fn is_on<K: Kernel>(kernel: &K, totals: &Sums, first: &K::P, p: &K::P) -> bool
+    requires some { 1 ≤ totals.now.weight }
+    requires range { IsInRange K.DIM totals.now }
+    ensures { IsTrue result ↔ (slack_from_origin (sum_of totals.now.pull) totals.now.weight (vector (K.place first.now) (K.place p.now)) ≡ pos 0) }
 {
     matches!(
-        side(kernel, held.pull, held.weight, kernel.diff(first, p)),
+        side(kernel, totals.pull, totals.weight, kernel.diff(first, p)),
         Sign::Zero
     )
 }
 
 /// Whether a point is outside the ball.
-fn is_outside<K: Kernel>(kernel: &K, held: &Sums, first: &K::P, p: &K::P) -> bool
-    requires some { 1 ≤ held.now.weight }
-    requires range { IsInRange K.DIM held.now }
-    ensures { IsTrue result ↔ (slack_from_origin (sum_of held.now.pull) held.now.weight (vector (K.place first.now) (K.place p.now)) <ℤ pos 0) }
+fn is_outside<K: Kernel>(kernel: &K, totals: &Sums, first: &K::P, p: &K::P) -> bool
+    requires some { 1 ≤ totals.now.weight }
+    requires range { IsInRange K.DIM totals.now }
+    ensures { IsTrue result ↔ (slack_from_origin (sum_of totals.now.pull) totals.now.weight (vector (K.place first.now) (K.place p.now)) <ℤ pos 0) }
 {
     matches!(
-        side(kernel, held.pull, held.weight, kernel.diff(first, p)),
+        side(kernel, totals.pull, totals.weight, kernel.diff(first, p)),
         Sign::Minus
     )
 }
@@ -186,19 +186,19 @@ fn is_outside<K: Kernel>(kernel: &K, held: &Sums, first: &K::P, p: &K::P) -> boo
 // ---- the centre
 
 /// Whether the centre is the weighted mean of the supports.
-fn is_plane_centre(centre: &Homog2, first: &Point2, held: &Sums) -> bool
-    requires some { 1 ≤ held.now.weight }
-    requires range { IsInRange 2 held.now }
-    ensures { IsTrue result ↔ (IsPlaneRatio centre.now × SamePlace (flat_ratio centre.now) (flat_ratio (plane_mean first.now held.now))) }
+fn is_plane_centre(centre: &Homog2, first: &Point2, totals: &Sums) -> bool
+    requires some { 1 ≤ totals.now.weight }
+    requires range { IsInRange 2 totals.now }
+    ensures { IsTrue result ↔ (IsPlaneRatio centre.now × SamePlace (flat_ratio centre.now) (flat_ratio (plane_mean first.now totals.now))) }
 {
-    *centre == held.plane_centre(first)
+    *centre == totals.plane_centre(first)
 }
 
 /// Whether the centre is the weighted mean of the supports.
-fn is_space_centre(centre: &Homog3, first: &Point3, held: &Sums) -> bool
-    requires some { 1 ≤ held.now.weight }
-    requires range { IsInRange 3 held.now }
-    ensures { IsTrue result ↔ (IsSpaceRatio centre.now × SamePlace centre.now (space_mean first.now held.now)) }
+fn is_space_centre(centre: &Homog3, first: &Point3, totals: &Sums) -> bool
+    requires some { 1 ≤ totals.now.weight }
+    requires range { IsInRange 3 totals.now }
+    ensures { IsTrue result ↔ (IsSpaceRatio centre.now × SamePlace centre.now (space_mean first.now totals.now)) }
 {
-    *centre == held.space_centre(first)
+    *centre == totals.space_centre(first)
 }

@@ -1,5 +1,5 @@
 //! The checker of circles and spheres: it looks at the points and the answer alone, and says yes exactly where the weighted points hold the
-//! ball in place, around all points.
+//! ball, around all points.
 //!
 //! - `balls`: the checkers
 #![tactic(auto)]

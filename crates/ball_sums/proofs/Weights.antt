@@ -4,8 +4,8 @@ use Rattle.std.specs.Prelude.{All}
 use Rattle.std.proofs.lemmas.Int.{ints}
 use Rattle.std.proofs.lemmas.List.Elements.{All-head, All-tail}
 use Rattle.integers.proofs.Sums.{total_nonneg_all, total_positive}
-use Rattle.bounds_model.specs.Places.{number_limit}
-use Rattle.bounds_model.specs.BallAnswer.{Weighted, weight_sum, IsSupportPlace}
+use Rattle.bounds_model.specs.Ranges.{number_limit}
+use Rattle.bounds_model.specs.BallAnswer.{Weighted, weight_sum, IsSupportInRange}
 
 nonneg : (supports : List Weighted) → All (λ s. pos 1 ≤ℤ s.weight) supports → pos 0 ≤ℤ weight_sum supports
 nonneg supports h = total_nonneg_all (λ s. s.weight) supports (λ k d l. let one = h k d l in omega (arith, ints))
@@ -25,10 +25,10 @@ no_more_than_all (s ∷ supports) h (suc k) d l =
     let below = no_more_than_all supports (All-tail (λ (s : Weighted). pos 1 ≤ℤ s.weight) s supports h) k d (omega arith) in
     omega (arith, ints)
 
--- supports of listed points, with weights within a limit, are in their places
-pub in_places : (count limit : ℕ) (supports : List Weighted) → count ≤ 10000 → limit ≤ 2 ^ 92 → All (λ s. s.point < count) supports → All (λ s. pos 1 ≤ℤ s.weight) supports → weight_sum supports ≤ℤ pos limit
-    → All IsSupportPlace supports
-in_places count limit supports few small numbers weights most k d l =
+-- supports of listed points, with weights within a limit, are in their ranges
+pub in_ranges : (count limit : ℕ) (supports : List Weighted) → count ≤ 10000 → limit ≤ 2 ^ 92 → All (λ s. s.point < count) supports → All (λ s. pos 1 ≤ℤ s.weight) supports → weight_sum supports ≤ℤ pos limit
+    → All IsSupportInRange supports
+in_ranges count limit supports few small numbers weights most k d l =
     let listed = numbers k d l in
     let low = weights k d l in
     let high = no_more_than_all supports weights k d l in

@@ -3,7 +3,7 @@ ghost use Rattle.std.specs.Prelude.{◌≡◌, ◌≤◌, ◌^◌, ◌+ℤ◌, �
 ghost use Rattle.integers.specs.Size.{Size};
 ghost use Rattle.bounds_model.specs.Space.{SamePlace, flat_ratio};
 ghost use Rattle.bounds_model.specs.Fractions.{SameValue};
-ghost use Rattle.bounds_model.specs.Places.{IsNumber, IsFraction, IsPlaneRatio, IsSpaceRatio};
+ghost use Rattle.bounds_model.specs.Ranges.{IsNumber, IsFraction, IsPlaneRatio, IsSpaceRatio};
 ghost use Rattle.ball_sums.specs.Sums.{IsInRange};
 ghost use Rattle.ball_sums.specs.Means.{mean_size, plane_mean, space_mean};
 

@@ -1,4 +1,4 @@
-//! Sums over the weighted points that hold a ball in place, and the ball that they give.
+//! Sums over the weighted points that determine a ball, and the ball that they give.
 //!
 //! - `sums`: the sums, one point after another
 //! - `ball`: its size and its centre

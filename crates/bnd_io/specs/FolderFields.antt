@@ -19,7 +19,7 @@ is_open Closed = false
 is_open Absent = true
 is_open (File i) = true
 
--- the bytes of the file at a place
+-- the bytes of the file at an index
 abbrev pub bytes_at : List NamedFile → ℕ → List ℕ
 bytes_at files i = bytes_in (slice_get files i) where
   bytes_in : Option NamedFile → List ℕ
@@ -32,11 +32,11 @@ open_bytes files Closed = []
 open_bytes files Absent = []
 open_bytes files (File i) = bytes_at files i
 
--- the place of the open file is one of the files
-abbrev pub IsPlace : List NamedFile → Current → Type 0
-IsPlace files Closed = ⊤
-IsPlace files Absent = ⊤
-IsPlace files (File i) = i < length files
+-- the index of the open file is one of the files
+abbrev pub IsOfListedFile : List NamedFile → Current → Type 0
+IsOfListedFile files Closed = ⊤
+IsOfListedFile files Absent = ⊤
+IsOfListedFile files (File i) = i < length files
 
 abbrev pub folder_view : Inside → FolderView
 folder_view m = record {
@@ -49,5 +49,5 @@ folder_view m = record {
 }
 
 pub record IsSound (m : Inside) : Type 0 where
-  pub current : IsPlace m.files.items m.current
+  pub current : IsOfListedFile m.files.items m.current
   pub at : m.at ≤ length (open_bytes m.files.items m.current)

@@ -3,7 +3,7 @@ use Rattle.std.specs.Prelude.{ℕ, ◌+◌, Bool, true, false, ◌||◌, ◌==�
 use Rattle.std.specs.declared.option.Option.TheVariants.{Some}
 use Rattle.bnd_io.specs.Files.{Folder, FilesState, bytes_of, at_most_u64, grown}
 
--- named files at one time: their names with their bytes, and the place in the open one
+-- named files at one time: their names with their bytes, and the offset in the open one
 pub record FolderView : Type 0 where
   pub folder : Folder
   pub is_open : Bool

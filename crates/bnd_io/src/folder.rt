@@ -2,7 +2,7 @@
 ghost use Rattle.std.specs.Prelude.{⊤, ◌≡◌, ◌↔◌, ◌<◌, ◌≤◌, ◌∷◌, length, take, min, string_bytes, IsSome, IsTrue, IsFalse, IfSome, IfOk, OnOk, OnErr};
 ghost use Rattle.bnd_io.specs.Files.{bytes_of, has_name};
 ghost use Rattle.bnd_io.specs.Folders.{no_files, with_file, at_start, closed, behind};
-ghost use Rattle.bnd_io.specs.FolderFields.{bytes_at, folder_of, is_open, open_bytes, IsPlace};
+ghost use Rattle.bnd_io.specs.FolderFields.{bytes_at, folder_of, is_open, open_bytes, IsOfListedFile};
 
 use bounded_coords::OutOfMemory;
 use std::alloc::{AllocError, Global};
@@ -21,11 +21,11 @@ enum Current {
     Closed,
     /// A file that is not there, which has no bytes.
     Absent,
-    /// The file at this place.
+    /// The file at this index.
     File(usize),
 }
 
-/// Named files, and the place in the open one.
+/// Named files, and the index in the open one.
 #[derive(Drop)]
 pub(crate) struct OpenFolder {
     alloc: Global,
@@ -84,7 +84,7 @@ impl OpenFolder {
     pub(crate) fn has(&self, name: &str) -> bool
         ensures { IsTrue result ↔ IsTrue (has_name self.now.folder name.now) }
     {
-        place_of(&self.files, name).is_some()
+        index_of(&self.files, name).is_some()
     }
 
     /// Opens the file of this name at its first byte. One that is not there has no bytes.
@@ -127,18 +127,18 @@ impl OpenFolder {
 // The newest file of this name, or a file of no bytes.
 fn named(files: &[NamedFile], name: &str) -> Current
     ensures open { IsTrue (is_open result) }
-    ensures place { IsPlace files.now result }
+    ensures index { IsOfListedFile files.now result }
     ensures bytes { open_bytes files.now result ≡ bytes_of (folder_of files.now) name.now }
 {
-    match place_of(files, name) {
-        Some(place) => Current::File(place),
+    match index_of(files, name) {
+        Some(index) => Current::File(index),
         None => Current::Absent,
     }
 }
 
 // The bytes of the open file, or none where no file is open.
 fn current_bytes(files: &[NamedFile], current: Current) -> &[u8]
-    requires { IsPlace files.now current }
+    requires { IsOfListedFile files.now current }
     ensures { result.now ≡ open_bytes files.now current }
 {
     match current {
@@ -148,7 +148,7 @@ fn current_bytes(files: &[NamedFile], current: Current) -> &[u8]
 }
 
 // Where the newest file of this name stands in the list.
-fn place_of(files: &[NamedFile], name: &str) -> Option<usize>
+fn index_of(files: &[NamedFile], name: &str) -> Option<usize>
     ensures within { IfSome result (λ i. i < length files.now) }
     ensures bytes { IfSome result (λ i. bytes_at files.now i ≡ bytes_of (folder_of files.now) name.now) }
     ensures found { IsSome result ↔ IsTrue (has_name (folder_of files.now) name.now) }

@@ -6,7 +6,7 @@ use Rattle.bounds_model.specs.Numbers.{IsWithin, HasCount}
 use Rattle.bounds_model.specs.Plane.{PlanePoint, PlaneRatio, point_at, dot, squared_length}
 use Rattle.bounds_model.specs.Fractions.{Fraction, SameValue}
 use Rattle.bounds_model.specs.Annulus.{Annulus}
-use Rattle.bounds_model.specs.Places.{IsFraction, IsPlaneRatio, IsNatural, point_limit}
+use Rattle.bounds_model.specs.Ranges.{IsFraction, IsPlaneRatio, IsNatural, point_limit}
 
 -- the numbers of two points with a weight
 pub record WeightedPair : Type 0 where
@@ -26,18 +26,18 @@ pub record AnnulusAnswer : Type 0 where
 abbrev pub annulus_of : AnnulusAnswer → Annulus
 annulus_of a = record { centre = a.centre; inner = a.inner; outer = a.outer }
 
--- the numbers of a pair are in their places
-abbrev pub IsPairPlace : WeightedPair → Type 0
-IsPairPlace pair = (pair.first ≤ point_limit) × (pair.second ≤ point_limit) × IsNatural pair.weight
+-- the numbers of a pair are in their ranges
+abbrev pub IsPairInRange : WeightedPair → Type 0
+IsPairInRange pair = (pair.first ≤ point_limit) × (pair.second ≤ point_limit) × IsNatural pair.weight
 
--- all numbers are in their places
-pub record AnnulusPlaces (a : AnnulusAnswer) : Type 0 where
+-- all numbers are in their ranges
+pub record AnnulusRanges (a : AnnulusAnswer) : Type 0 where
   pub size : IsFraction a.size
   pub centre : IsPlaneRatio a.centre
   pub inner : IsFraction a.inner
   pub outer : IsFraction a.outer
   pub count : HasCount 1 3 a.pairs
-  pub pairs : All IsPairPlace a.pairs
+  pub pairs : All IsPairInRange a.pairs
 
 -- w times the power of a point with regard to the circle around the centre through the origin: the squared distance from the centre, less a term that is the same for all points
 abbrev pub power : PlaneRatio → PlanePoint → ℤ
@@ -57,7 +57,7 @@ weighted_differences points f pairs = total (λ pair. pair.weight *ℤ (f (point
 
 -- what a checker asks of an annulus
 pub record PassesAnnulus (points : List PlanePoint) (a : AnnulusAnswer) : Type 0 where
-  pub places : AnnulusPlaces a
+  pub ranges : AnnulusRanges a
   pub numbers : All (λ pair. (pair.first < length points) × (pair.second < length points)) a.pairs
   pub w_limit : a.centre.w ≤ℤ pos (2 ^ 42)
   pub x_limit : IsWithin (2 ^ 58) a.centre.x

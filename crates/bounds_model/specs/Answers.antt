@@ -20,15 +20,15 @@ use Rattle.bounds_model.specs.EmptyRectangle.{Box, FitsEmpty, empty_size}
 use Rattle.bounds_model.specs.Kgon.{FitsKgon, kgon_size}
 use Rattle.bounds_model.specs.Distance.{FitsDistance, distance_size}
 use Rattle.bounds_model.specs.Centres.{FitsCentres, centres_size}
-use Rattle.bounds_model.specs.BallAnswer.{CircleAnswer, SphereAnswer, CirclePlaces, SpherePlaces, circle_of, sphere_of, PassesCircle, PassesSphere}
-use Rattle.bounds_model.specs.RectangleAnswer.{RectangleAnswer, RectanglePlaces, rectangle_of, PassesRectangle}
-use Rattle.bounds_model.specs.ParallelogramAnswer.{ParallelogramAnswer, ParallelogramPlaces, parallelogram_of, PassesParallelogram}
-use Rattle.bounds_model.specs.StripAnswer.{StripAnswer, StripPlaces, strip_of, PassesStrip}
-use Rattle.bounds_model.specs.AnnulusAnswer.{AnnulusAnswer, AnnulusPlaces, annulus_of, PassesAnnulus}
-use Rattle.bounds_model.specs.EmptyAnswer.{EmptyAnswer, EmptyPlaces, empty_of, PassesEmpty}
-use Rattle.bounds_model.specs.KgonAnswer.{KgonAnswer, KgonPlaces, corner_points, PassesKgon}
-use Rattle.bounds_model.specs.DistanceAnswer.{DistanceAnswer, DistancePlaces, weights_of, PassesDistance}
-use Rattle.bounds_model.specs.CentresAnswer.{CentresAnswer, CentresPlaces, cover_of, PassesCentres}
+use Rattle.bounds_model.specs.BallAnswer.{CircleAnswer, SphereAnswer, CircleRanges, SphereRanges, circle_of, sphere_of, PassesCircle, PassesSphere}
+use Rattle.bounds_model.specs.RectangleAnswer.{RectangleAnswer, RectangleRanges, rectangle_of, PassesRectangle}
+use Rattle.bounds_model.specs.ParallelogramAnswer.{ParallelogramAnswer, ParallelogramRanges, parallelogram_of, PassesParallelogram}
+use Rattle.bounds_model.specs.StripAnswer.{StripAnswer, StripRanges, strip_of, PassesStrip}
+use Rattle.bounds_model.specs.AnnulusAnswer.{AnnulusAnswer, AnnulusRanges, annulus_of, PassesAnnulus}
+use Rattle.bounds_model.specs.EmptyAnswer.{EmptyAnswer, EmptyRanges, empty_of, PassesEmpty}
+use Rattle.bounds_model.specs.KgonAnswer.{KgonAnswer, KgonRanges, corner_points, PassesKgon}
+use Rattle.bounds_model.specs.DistanceAnswer.{DistanceAnswer, DistanceRanges, weights_of, PassesDistance}
+use Rattle.bounds_model.specs.CentresAnswer.{CentresAnswer, CentresRanges, cover_of, PassesCentres}
 
 -- an answer of each kind
 pub data Answer : Type 0 where
@@ -56,18 +56,18 @@ size_of (kgon a) = a.size
 size_of (distance a) = a.size
 size_of (centres a) = a.size
 
--- all numbers of an answer are in their places
-abbrev pub HasPlaces : Answer → Type 0
-HasPlaces (circle a) = CirclePlaces a
-HasPlaces (sphere a) = SpherePlaces a
-HasPlaces (rectangle a) = RectanglePlaces a
-HasPlaces (parallelogram a) = ParallelogramPlaces a
-HasPlaces (strip a) = StripPlaces a
-HasPlaces (annulus a) = AnnulusPlaces a
-HasPlaces (empty a) = EmptyPlaces a
-HasPlaces (kgon a) = KgonPlaces a
-HasPlaces (distance a) = DistancePlaces a
-HasPlaces (centres a) = CentresPlaces a
+-- all numbers of an answer are in their ranges
+abbrev pub KeepsRanges : Answer → Type 0
+KeepsRanges (circle a) = CircleRanges a
+KeepsRanges (sphere a) = SphereRanges a
+KeepsRanges (rectangle a) = RectangleRanges a
+KeepsRanges (parallelogram a) = ParallelogramRanges a
+KeepsRanges (strip a) = StripRanges a
+KeepsRanges (annulus a) = AnnulusRanges a
+KeepsRanges (empty a) = EmptyRanges a
+KeepsRanges (kgon a) = KgonRanges a
+KeepsRanges (distance a) = DistanceRanges a
+KeepsRanges (centres a) = CentresRanges a
 
 -- points and an answer of the kind that is asked
 pub data Claim : Type 0 where

@@ -6,20 +6,20 @@ use Rattle.bounds_model.specs.Plane.{PlanePoint, PlaneRatio}
 use Rattle.bounds_model.specs.Space.{SpacePoint, SpaceRatio, plus, times, point_at, vector, dot, squared_length, weighted_sum, origin, flat, flat_ratio, SamePlace}
 use Rattle.bounds_model.specs.Fractions.{Fraction, SameValue}
 use Rattle.bounds_model.specs.Ball.{Ball}
-use Rattle.bounds_model.specs.Places.{IsNatural, IsFraction, IsPlaneRatio, IsSpaceRatio, point_limit}
+use Rattle.bounds_model.specs.Ranges.{IsNatural, IsFraction, IsPlaneRatio, IsSpaceRatio, point_limit}
 
 -- the number of a point with its weight
 pub record Weighted : Type 0 where
   pub point : ℕ
   pub weight : ℤ
 
--- a circle, and weighted points that hold it in place
+-- a circle, and weighted points that determine it
 pub record CircleAnswer : Type 0 where
   pub size : Fraction
   pub centre : PlaneRatio
   pub supports : List Weighted
 
--- a sphere, and weighted points that hold it in place
+-- a sphere, and weighted points that determine it
 pub record SphereAnswer : Type 0 where
   pub size : Fraction
   pub centre : SpaceRatio
@@ -33,23 +33,23 @@ circle_of a = record { centre = flat_ratio a.centre; squared_radius = a.size }
 abbrev pub sphere_of : SphereAnswer → Ball
 sphere_of a = record { centre = a.centre; squared_radius = a.size }
 
--- the numbers of a support are in their places
-abbrev pub IsSupportPlace : Weighted → Type 0
-IsSupportPlace s = (s.point ≤ point_limit) × IsNatural s.weight
+-- the numbers of a support are in their ranges
+abbrev pub IsSupportInRange : Weighted → Type 0
+IsSupportInRange s = (s.point ≤ point_limit) × IsNatural s.weight
 
--- all numbers are in their places
-pub record CirclePlaces (a : CircleAnswer) : Type 0 where
+-- all numbers are in their ranges
+pub record CircleRanges (a : CircleAnswer) : Type 0 where
   pub size : IsFraction a.size
   pub centre : IsPlaneRatio a.centre
   pub count : HasCount 1 3 a.supports
-  pub supports : All IsSupportPlace a.supports
+  pub supports : All IsSupportInRange a.supports
 
--- all numbers are in their places
-pub record SpherePlaces (a : SphereAnswer) : Type 0 where
+-- all numbers are in their ranges
+pub record SphereRanges (a : SphereAnswer) : Type 0 where
   pub size : IsFraction a.size
   pub centre : IsSpaceRatio a.centre
   pub count : HasCount 1 4 a.supports
-  pub supports : All IsSupportPlace a.supports
+  pub supports : All IsSupportInRange a.supports
 
 -- the point of the first support
 abbrev pub first_support : List SpacePoint → List Weighted → SpacePoint
@@ -95,7 +95,7 @@ supported_centre points supports =
     let sum = plus (times (weight_sum supports) (first_support points supports)) (pull points supports) in
     record { x = sum.x; y = sum.y; z = sum.z; w = weight_sum supports }
 
--- weighted points hold a ball in place
+-- weighted points determine a ball
 pub record IsBallWitness (limit : ℕ) (points : List SpacePoint) (ball : Ball) (supports : List Weighted) : Type 0 where
   pub weights : All (λ s. pos 1 ≤ℤ s.weight) supports
   pub weight_limit : weight_sum supports ≤ℤ pos limit
@@ -106,12 +106,12 @@ pub record IsBallWitness (limit : ℕ) (points : List SpacePoint) (ball : Ball) 
 
 -- what a checker asks of a circle
 pub record PassesCircle (points : List PlanePoint) (a : CircleAnswer) : Type 0 where
-  pub places : CirclePlaces a
+  pub ranges : CircleRanges a
   pub numbers : All (λ s. s.point < length points) a.supports
   pub witness : IsBallWitness (2 ^ 80) (map flat points) (circle_of a) a.supports
 
 -- what a checker asks of a sphere
 pub record PassesSphere (points : List SpacePoint) (a : SphereAnswer) : Type 0 where
-  pub places : SpherePlaces a
+  pub ranges : SphereRanges a
   pub numbers : All (λ s. s.point < length points) a.supports
   pub witness : IsBallWitness (2 ^ 92) points (sphere_of a) a.supports

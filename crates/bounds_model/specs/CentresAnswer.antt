@@ -5,7 +5,7 @@ use Rattle.bounds_model.specs.Numbers.{AllNumbered, IsWithin, HasCount}
 use Rattle.bounds_model.specs.Plane.{PlanePoint, PlaneRatio, point_at}
 use Rattle.bounds_model.specs.Fractions.{Fraction}
 use Rattle.bounds_model.specs.Centres.{Cover, FitsCentres}
-use Rattle.bounds_model.specs.Places.{IsFraction, IsPlaneRatio, point_limit}
+use Rattle.bounds_model.specs.Ranges.{IsFraction, IsPlaneRatio, point_limit}
 
 -- the numbers of two points that are far apart
 pub record Leaf : Type 0 where
@@ -22,8 +22,8 @@ pub record CentresAnswer : Type 0 where
 abbrev pub cover_of : CentresAnswer → Cover
 cover_of a = record { centres = a.squares; radius = a.size }
 
--- all numbers are in their places
-pub record CentresPlaces (a : CentresAnswer) : Type 0 where
+-- all numbers are in their ranges
+pub record CentresRanges (a : CentresAnswer) : Type 0 where
   pub size : IsFraction a.size
   pub square_count : HasCount 1 3 a.squares
   pub squares : All IsPlaneRatio a.squares
@@ -46,14 +46,14 @@ pub record Square : Type 0 where
   pub bottom : ℤ
   pub side : ℕ
 
--- whether the square holds the point
-abbrev pub holds : Square → PlanePoint → Bool
-holds square p =
+-- whether the square contains the point
+abbrev pub contains : Square → PlanePoint → Bool
+contains square p =
     int_le square.left p.x && int_le p.x (square.left +ℤ pos square.side) && int_le square.bottom p.y && int_le p.y (square.bottom +ℤ pos square.side)
 
--- the points that the square does not hold
+-- the points that the square does not contain
 abbrev pub outside : Square → List PlanePoint → List PlanePoint
-outside square points = filter (λ p. not (holds square p)) points
+outside square points = filter (λ p. not (contains square p)) points
 
 -- the square in a corner of the points' bounding box, with its own same corner there: 0 is lower left, 1 lower right, 2 upper left, 3 upper right
 abbrev pub corner_square : ℕ → ℕ → List PlanePoint → Square
@@ -90,7 +90,7 @@ AreLeaves (suc side) count points leaves = (length leaves ≡ 4 ^ (count - 1)) �
 
 -- what a checker asks of centres
 pub record PassesCentres (count : ℕ) (points : List PlanePoint) (a : CentresAnswer) : Type 0 where
-  pub places : CentresPlaces a
+  pub ranges : CentresRanges a
   pub numbers : All (λ leaf. (leaf.first < length points) × (leaf.second < length points)) a.leaves
   pub halves : (a.size.d ≡ pos 1) ⊎ (a.size.d ≡ pos 2)
   pub size_limit : a.size.n ≤ℤ pos 1000000

@@ -13,12 +13,12 @@ pub record LeadToGreatest (points : List PlanePoint) (a b : PlanePoint) : Type 0
   pub to_greatest : IsGreatestPoint points b
   pub on_line : All (λ p. cross (vector a b) (vector a p) ≡ pos 0) points
 
--- the corners hold all points: one is equal to all, two are the ends of a line, three or more go around
-abbrev pub HoldAll : List PlanePoint → List PlanePoint → Type 0
-HoldAll points [] = ⊥
-HoldAll points (a ∷ []) = All (λ p. p ≡ a) points
-HoldAll points (a ∷ b ∷ []) = LeadToGreatest points a b
-HoldAll points (a ∷ b ∷ c ∷ rest) = GoAround points (a ∷ b ∷ c ∷ rest)
+-- the corners surround all points: one is equal to all, two are the ends of a line, three or more go around
+abbrev pub SurroundAll : List PlanePoint → List PlanePoint → Type 0
+SurroundAll points [] = ⊥
+SurroundAll points (a ∷ []) = All (λ p. p ≡ a) points
+SurroundAll points (a ∷ b ∷ []) = LeadToGreatest points a b
+SurroundAll points (a ∷ b ∷ c ∷ rest) = GoAround points (a ∷ b ∷ c ∷ rest)
 
 -- no later element is equal to the first
 abbrev pub FirstIsOnce : List PlanePoint → Type 0
@@ -29,4 +29,4 @@ FirstIsOnce (a ∷ rest) = All (λ c. c ≢ a) rest
 pub record CornersPass (points corners : List PlanePoint) : Type 0 where
   pub from_least : IsLeastPoint points (around corners 0)
   pub once : FirstIsOnce corners
-  pub hold : HoldAll points corners
+  pub surround : SurroundAll points corners

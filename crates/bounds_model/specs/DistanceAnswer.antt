@@ -5,8 +5,8 @@ use Rattle.bounds_model.specs.Numbers.{HasCount}
 use Rattle.bounds_model.specs.Space.{SpacePoint, SpaceRatio, origin, point_at, vector, times, dot, weighted_sum, SamePlace}
 use Rattle.bounds_model.specs.Fractions.{Fraction, SameValue, HaveNoCommonFactor}
 use Rattle.bounds_model.specs.Distance.{Weights}
-use Rattle.bounds_model.specs.AnnulusAnswer.{WeightedPair, IsPairPlace, pair_sum}
-use Rattle.bounds_model.specs.Places.{IsFraction, IsSpaceRatio, IsNumber}
+use Rattle.bounds_model.specs.AnnulusAnswer.{WeightedPair, IsPairInRange, pair_sum}
+use Rattle.bounds_model.specs.Ranges.{IsFraction, IsSpaceRatio, IsNumber}
 
 -- a point of each hull, the direction between them, and weighted pairs of points that they are the means of
 pub record DistanceAnswer : Type 0 where
@@ -32,8 +32,8 @@ weights_of ps qs a = record {
   second = at_numbers (weight_of (λ pair. pair.second) a.pairs) 0 qs;
 }
 
--- all numbers are in their places
-pub record DistancePlaces (a : DistanceAnswer) : Type 0 where
+-- all numbers are in their ranges
+pub record DistanceRanges (a : DistanceAnswer) : Type 0 where
   pub size : IsFraction a.size
   pub from : IsSpaceRatio a.from
   pub to : IsSpaceRatio a.to
@@ -41,7 +41,7 @@ pub record DistancePlaces (a : DistanceAnswer) : Type 0 where
   pub direction_y : IsNumber a.direction.y
   pub direction_z : IsNumber a.direction.z
   pub count : HasCount 1 4 a.pairs
-  pub pairs : All IsPairPlace a.pairs
+  pub pairs : All IsPairInRange a.pairs
 
 -- from the second point of a pair to the first
 abbrev pub difference : List SpacePoint → List SpacePoint → WeightedPair → SpacePoint
@@ -75,7 +75,7 @@ IsDirectionOf v d = ((v ≡ origin) × (d ≡ origin)) ⊎ IsMultipleOfLowest v 
 
 -- what a checker asks of a distance
 pub record PassesDistance (ps qs : List SpacePoint) (a : DistanceAnswer) : Type 0 where
-  pub places : DistancePlaces a
+  pub ranges : DistanceRanges a
   pub numbers : All (λ pair. (pair.first < length ps) × (pair.second < length qs)) a.pairs
   pub weights : All (λ pair. pos 1 ≤ℤ pair.weight) a.pairs
   pub weight_limit : pair_sum a.pairs ≤ℤ pos (2 ^ 66)

@@ -3,14 +3,14 @@ use Rattle.std.specs.Prelude.{◌≡◌, ℕ, ◌+◌, ◌<◌, ℤ, pos, ◌*�
 use Rattle.bounds_model.specs.Plane.{PlanePoint, point_at}
 use Rattle.bounds_model.specs.Fractions.{Fraction, SameValue}
 use Rattle.bounds_model.specs.EmptyRectangle.{Box, EmptyRectangle, IsStrictlyInside, area, empty_size}
-use Rattle.bounds_model.specs.Places.{IsFraction, IsNumber, point_limit}
+use Rattle.bounds_model.specs.Ranges.{IsFraction, IsNumber, point_limit}
 
 -- what a side rests on: the side of the frame, or the point of this number
 pub data Blocker : Type 0 where
   side : Blocker
   point : ℕ → Blocker
 
--- an upright rectangle, and what each of its sides rests on
+-- an axis-parallel rectangle, and what each of its sides rests on
 pub record EmptyAnswer : Type 0 where
   pub size : Fraction
   pub box : Box
@@ -28,8 +28,8 @@ abbrev pub IsBlockerBelow : ℕ → Blocker → Type 0
 IsBlockerBelow bound side = Unit {0}
 IsBlockerBelow bound (point number) = number < bound
 
--- all numbers are in their places
-pub record EmptyPlaces (a : EmptyAnswer) : Type 0 where
+-- all numbers are in their ranges
+pub record EmptyRanges (a : EmptyAnswer) : Type 0 where
   pub size : IsFraction a.size
   pub box_left : IsNumber a.box.left
   pub box_bottom : IsNumber a.box.bottom
@@ -47,10 +47,10 @@ pub record NamesBlockers (points : List PlanePoint) (a : EmptyAnswer) : Type 0 w
   pub right : IsBlockerBelow (length points) a.right
   pub top : IsBlockerBelow (length points) a.top
 
--- an upright side at x from low to high rests on the frame's side or on a point between its ends
-abbrev pub BlocksUpright : List PlanePoint → ℤ → ℤ → ℤ → ℤ → Blocker → Type 0
-BlocksUpright points frame_x x low high side = x ≡ frame_x
-BlocksUpright points frame_x x low high (point number) = ((point_at points number).x ≡ x) × (low <ℤ (point_at points number).y) × ((point_at points number).y <ℤ high)
+-- a vertical side at x from low to high rests on the frame's side or on a point between its ends
+abbrev pub BlocksVertical : List PlanePoint → ℤ → ℤ → ℤ → ℤ → Blocker → Type 0
+BlocksVertical points frame_x x low high side = x ≡ frame_x
+BlocksVertical points frame_x x low high (point number) = ((point_at points number).x ≡ x) × (low <ℤ (point_at points number).y) × ((point_at points number).y <ℤ high)
 
 -- a level side at y from low to high rests on the frame's side or on a point between its ends
 abbrev pub BlocksLevel : List PlanePoint → ℤ → ℤ → ℤ → ℤ → Blocker → Type 0
@@ -59,9 +59,9 @@ BlocksLevel points frame_y y low high (point number) = ((point_at points number)
 
 -- each side rests on what the answer says
 pub record AreBlocked (frame : Box) (points : List PlanePoint) (a : EmptyAnswer) : Type 0 where
-  pub left : BlocksUpright points frame.left a.box.left a.box.bottom a.box.top a.left
+  pub left : BlocksVertical points frame.left a.box.left a.box.bottom a.box.top a.left
   pub bottom : BlocksLevel points frame.bottom a.box.bottom a.box.left a.box.right a.bottom
-  pub right : BlocksUpright points frame.right a.box.right a.box.bottom a.box.top a.right
+  pub right : BlocksVertical points frame.right a.box.right a.box.bottom a.box.top a.right
   pub top : BlocksLevel points frame.top a.box.top a.box.left a.box.right a.top
 
 -- P holds of each height: the bottom and the top of the frame, and the y of each point strictly inside it
@@ -70,7 +70,7 @@ pub record EachY (frame : Box) (points : List PlanePoint) (P : ℤ → Type 0) :
   pub top : P frame.top
   pub inside : All (λ p. IsStrictlyInside frame p → P p.y) points
 
--- P holds of each place along a band: its left and its right, and the x of each point strictly inside it
+-- P holds of each x along a band: its left and its right, and the x of each point strictly inside it
 pub record EachX (band : Box) (points : List PlanePoint) (P : ℤ → Type 0) : Type 0 where
   pub left : P band.left
   pub right : P band.right
@@ -84,17 +84,17 @@ IsEmpty points box = All (λ p. ¬ IsStrictlyInside box p) points
 abbrev pub IsNotLarger : List PlanePoint → Fraction → Box → Type 0
 IsNotLarger points size box = box.left <ℤ box.right → IsEmpty points box → (area box *ℤ size.d) ≤ℤ size.n
 
--- in a band no box from one place to the next is larger than the size
+-- in a band no box from one x to the next is larger than the size
 abbrev pub NoneLargerInBand : List PlanePoint → Fraction → Box → Type 0
 NoneLargerInBand points size band = EachX band points (λ left. EachX band points (λ right. IsNotLarger points size (record band { left = left; right = right })))
 
--- between every two heights no box from one place to the next is larger than the size
+-- between every two heights no box from one x to the next is larger than the size
 abbrev pub NoneLarger : Box → List PlanePoint → Fraction → Type 0
 NoneLarger frame points size = EachY frame points (λ bottom. EachY frame points (λ top. bottom <ℤ top → NoneLargerInBand points size (record frame { bottom = bottom; top = top })))
 
 -- what a checker asks of an empty rectangle
 pub record PassesEmpty (frame : Box) (points : List PlanePoint) (a : EmptyAnswer) : Type 0 where
-  pub places : EmptyPlaces a
+  pub ranges : EmptyRanges a
   pub numbers : NamesBlockers points a
   pub in_left : frame.left ≤ℤ a.box.left
   pub wide : a.box.left <ℤ a.box.right

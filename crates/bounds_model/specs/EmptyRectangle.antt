@@ -1,10 +1,10 @@
--- Upright rectangles inside a frame with no point strictly inside.
+-- Axis-parallel rectangles inside a frame with no point strictly inside.
 use Rattle.std.specs.Prelude.{ℤ, pos, ◌-ℤ◌, ◌*ℤ◌, ◌≤ℤ◌, ◌<ℤ◌, List, All}
 use Rattle.bounds_model.specs.Numbers.{IsWithin}
 use Rattle.bounds_model.specs.Plane.{PlanePoint, times, plane_limit}
 use Rattle.bounds_model.specs.Fractions.{Fraction}
 
--- an upright rectangle
+-- an axis-parallel rectangle
 pub record Box : Type 0 where
   pub left : ℤ
   pub bottom : ℤ

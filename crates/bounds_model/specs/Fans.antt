@@ -2,7 +2,7 @@
 use Rattle.std.specs.Prelude.{◌≡◌, ℕ, ◌+◌, ◌-◌, ◌^◌, ◌<◌, ◌≤◌, ℤ, pos, negsuc, ◌≤ℤ◌, ◌<ℤ◌, List, [], ◌∷◌, ◌++◌, length, map, All}
 use Rattle.bounds_model.specs.Numbers.{AllNumbered, EachBelow, IsWithin, HasCount}
 use Rattle.bounds_model.specs.Plane.{PlanePoint, point_at, vector, dot, cross, quarter_turn}
-use Rattle.bounds_model.specs.Places.{IsPair, fan_limit, point_limit}
+use Rattle.bounds_model.specs.Ranges.{IsDirection, fan_limit, point_limit}
 
 -- from a direction to the next, with the numbers of a highest and a lowest point
 pub record HalfCone : Type 0 where
@@ -108,14 +108,14 @@ pub record IsShort (direction : PlanePoint) : Type 0 where
   pub x : IsWithin direction_limit direction.x
   pub y : IsWithin direction_limit direction.y
 
--- all numbers of a fan are in their places
-pub record HalfPlaces (fan : HalfFan) : Type 0 where
+-- all numbers of a fan are in their ranges
+pub record HalfRanges (fan : HalfFan) : Type 0 where
   pub count : HasCount 1 (fan_limit - 1) fan.cones
-  pub directions : All IsPair (half_directions fan)
+  pub directions : All IsDirection (half_directions fan)
   pub points : All (λ cone. (cone.high ≤ point_limit) × (cone.low ≤ point_limit)) fan.cones
 
--- all numbers of a fan are in their places
-pub record QuarterPlaces (fan : QuarterFan) : Type 0 where
+-- all numbers of a fan are in their ranges
+pub record QuarterRanges (fan : QuarterFan) : Type 0 where
   pub count : HasCount 1 (fan_limit - 1) fan.cones
-  pub directions : All IsPair (quarter_directions fan)
+  pub directions : All IsDirection (quarter_directions fan)
   pub points : All (λ cone. (cone.high ≤ point_limit) × (cone.low ≤ point_limit) × (cone.over ≤ point_limit) × (cone.under ≤ point_limit)) fan.cones

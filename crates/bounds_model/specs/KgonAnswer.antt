@@ -5,7 +5,7 @@ use Rattle.bounds_model.specs.Plane.{PlanePoint, point_at, turn}
 use Rattle.bounds_model.specs.Fractions.{Fraction, SameValue}
 use Rattle.bounds_model.specs.CornerTest.{CornersPass}
 use Rattle.bounds_model.specs.Kgon.{FitsKgon, kgon_size}
-use Rattle.bounds_model.specs.Places.{IsFraction, IsNatural, point_limit}
+use Rattle.bounds_model.specs.Ranges.{IsFraction, IsNatural, point_limit}
 
 -- the numbers of the hull's corners, the positions of the chosen ones, and potentials in layers
 pub record KgonAnswer : Type 0 where
@@ -23,8 +23,8 @@ corner_points points a = map (point_at points) a.corners
 abbrev pub pairs_before : ℕ → ℕ → ℕ
 pairs_before count a = a * (2 * count - a - 1) / 2
 
--- all numbers are in their places
-pub record KgonPlaces (a : KgonAnswer) : Type 0 where
+-- all numbers are in their ranges
+pub record KgonRanges (a : KgonAnswer) : Type 0 where
   pub size : IsFraction a.size
   pub corner_count : HasCount 1 128 a.corners
   pub corners : All (λ number. number ≤ point_limit) a.corners
@@ -46,7 +46,7 @@ Grows corners answer layer a b c =
 
 -- what a checker asks of a polygon
 pub record PassesKgon (k : ℕ) (points : List PlanePoint) (a : KgonAnswer) : Type 0 where
-  pub places : KgonPlaces a
+  pub ranges : KgonRanges a
   pub numbers : All (λ number. number < length points) a.corners
   pub corners : CornersPass points (corner_points points a)
   pub chosen : FitsKgon k (corner_points points a) a.chosen

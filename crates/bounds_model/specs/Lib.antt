@@ -13,7 +13,7 @@ pub mod Hull
 pub mod Kgon
 pub mod Distance
 pub mod Centres
-pub mod Places
+pub mod Ranges
 pub mod Slacks
 pub mod Fans
 pub mod PlainFans

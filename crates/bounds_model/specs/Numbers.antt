@@ -1,4 +1,4 @@
--- Ranges of whole numbers, lengths of lists, and what holds at each place of a list.
+-- Ranges of whole numbers, lengths of lists, and what holds at each index of a list.
 use Rattle.std.specs.Prelude.{ℕ, ℤ, pos, neg_ℤ, ◌≤ℤ◌, ◌<◌, ◌≤◌, List, length, slice_index_or}
 
 -- the number is between -limit and limit
@@ -11,7 +11,7 @@ pub record HasCount {X : Type 0} (low high : ℕ) (xs : List X) : Type 0 where
   pub at_least : low ≤ length xs
   pub at_most : length xs ≤ high
 
--- P holds of each place of a list and the element there
+-- P holds of each index of a list and the element there
 abbrev pub AllNumbered : {X : Type 0} → (ℕ → X → Type 0) → List X → Type 0
 AllNumbered {X} P xs = (k : ℕ) (d : X) → k < length xs → P k (slice_index_or xs k d)
 

@@ -5,8 +5,8 @@ use Rattle.bounds_model.specs.Plane.{PlanePoint, point_at, dot, cross, plus, tim
 use Rattle.bounds_model.specs.Fractions.{Fraction, SameValue}
 use Rattle.bounds_model.specs.Strip.{Span, IsInSpan}
 use Rattle.bounds_model.specs.Parallelogram.{Parallelogram, parallelogram_size}
-use Rattle.bounds_model.specs.Places.{IsFraction, IsPair, IsSpan, IsNumber, IsNatural, point_limit}
-use Rattle.bounds_model.specs.Fans.{HalfFan, HalfCone, half_directions, HoldsHalf, HalfPlaces, reach, IsShort}
+use Rattle.bounds_model.specs.Ranges.{IsFraction, IsDirection, IsSpan, IsNumber, IsNatural, point_limit}
+use Rattle.bounds_model.specs.Fans.{HalfFan, HalfCone, half_directions, HoldsHalf, HalfRanges, reach, IsShort}
 use Rattle.bounds_model.specs.StripAnswer.{IsShortSpan}
 
 -- from the point a to the mean of b and c with the weights beta and gamma: k / (beta + gamma) times a direction turned by a right angle
@@ -32,8 +32,8 @@ pub record ParallelogramAnswer : Type 0 where
 abbrev pub parallelogram_of : ParallelogramAnswer → Parallelogram
 parallelogram_of a = record { first = a.first; first_bounds = a.first_bounds; second = a.second; second_bounds = a.second_bounds; w = pos 1 }
 
--- all numbers of a chord are in their places
-pub record ChordPlaces (chord : Chord) : Type 0 where
+-- all numbers of a chord are in their ranges
+pub record ChordRanges (chord : Chord) : Type 0 where
   pub a : chord.a ≤ point_limit
   pub b : chord.b ≤ point_limit
   pub c : chord.c ≤ point_limit
@@ -41,16 +41,16 @@ pub record ChordPlaces (chord : Chord) : Type 0 where
   pub gamma : IsNatural chord.gamma
   pub k : IsNumber chord.k
 
--- all numbers are in their places
-pub record ParallelogramPlaces (a : ParallelogramAnswer) : Type 0 where
+-- all numbers are in their ranges
+pub record ParallelogramRanges (a : ParallelogramAnswer) : Type 0 where
   pub size : IsFraction a.size
-  pub first : IsPair a.first
+  pub first : IsDirection a.first
   pub first_bounds : IsSpan a.first_bounds
-  pub second : IsPair a.second
+  pub second : IsDirection a.second
   pub second_bounds : IsSpan a.second_bounds
-  pub fan : HalfPlaces a.fan
+  pub fan : HalfRanges a.fan
   pub chord_for_each : length a.chords ≡ length (half_directions a.fan)
-  pub chords : All ChordPlaces a.chords
+  pub chords : All ChordRanges a.chords
 
 -- how large the weights of a chord may be together, and its factor k
 abbrev pub chord_limit : ℕ
@@ -82,7 +82,7 @@ IsNotSmallerAt points a i cone = IsSomeAnd (slice_get a.chords i) (IsNotSmaller 
 
 -- what a checker asks of a parallelogram
 pub record PassesParallelogram (points : List PlanePoint) (a : ParallelogramAnswer) : Type 0 where
-  pub places : ParallelogramPlaces a
+  pub ranges : ParallelogramRanges a
   pub chord_numbers : All (NamesEnds points) a.chords
   pub short_directions : All IsShort (half_directions a.fan)
   pub short_first : IsShort a.first

@@ -10,14 +10,14 @@ abbrev pub edge : List PlanePoint → ℕ → PlanePoint
 edge corners i = vector (around corners i) (around corners (i + 1))
 
 -- the direction is at right angles to an edge that has a length
-pub record IsUpright (edge direction : PlanePoint) : Type 0 where
+pub record IsNormal (edge direction : PlanePoint) : Type 0 where
   pub long : edge ≢ origin
   pub right_angle : dot edge direction ≡ pos 0
 
 -- the direction is at right angles to an edge that has a length, or along it
-pub record IsUprightOrAlong (edge direction : PlanePoint) : Type 0 where
+pub record IsNormalOrParallel (edge direction : PlanePoint) : Type 0 where
   pub long : edge ≢ origin
-  pub upright : (dot edge direction ≡ pos 0) ⊎ (cross edge direction ≡ pos 0)
+  pub normal_or_parallel : (dot edge direction ≡ pos 0) ⊎ (cross edge direction ≡ pos 0)
 
 -- P holds of each direction but the first and the last
 abbrev pub EachInner : List PlanePoint → (PlanePoint → Type 0) → Type 0
@@ -33,13 +33,13 @@ pub record IsPlainHalf (corners directions : List PlanePoint) : Type 0 where
   pub lowest : AreLowest directions
   pub in_range : EachInner directions (λ d. pos 0 <ℤ d.y)
   pub up : Contains directions north
-  pub edges : EachIndex corners (λ i. edge corners i ≢ origin → Any (IsUpright (edge corners i)) directions)
-  pub no_others : EachInner directions (λ d. (d ≡ north) ⊎ SomeIndex corners (λ i. IsUpright (edge corners i) d))
+  pub edges : EachIndex corners (λ i. edge corners i ≢ origin → Any (IsNormal (edge corners i)) directions)
+  pub no_others : EachInner directions (λ d. (d ≡ north) ⊎ SomeIndex corners (λ i. IsNormal (edge corners i) d))
 
 -- a fan over a quarter turn has its ends and the directions at right angles to the edges and along them, each once, and no others
 pub record IsPlainQuarter (corners directions : List PlanePoint) : Type 0 where
   pub once : TurnLeft east north directions
   pub lowest : AreLowest directions
   pub in_range : EachInner directions (λ d. (pos 0 <ℤ d.x) × (pos 0 <ℤ d.y))
-  pub edges : EachIndex corners (λ i. edge corners i ≢ origin → Any (IsUprightOrAlong (edge corners i)) directions)
-  pub no_others : EachInner directions (λ d. SomeIndex corners (λ i. IsUprightOrAlong (edge corners i) d))
+  pub edges : EachIndex corners (λ i. edge corners i ≢ origin → Any (IsNormalOrParallel (edge corners i)) directions)
+  pub no_others : EachInner directions (λ d. SomeIndex corners (λ i. IsNormalOrParallel (edge corners i) d))

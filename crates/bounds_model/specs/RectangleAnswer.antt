@@ -4,8 +4,8 @@ use Rattle.bounds_model.specs.Plane.{PlanePoint, origin, dot, squared_length, qu
 use Rattle.bounds_model.specs.Fractions.{Fraction, SameValue}
 use Rattle.bounds_model.specs.Strip.{Span, IsInSpan}
 use Rattle.bounds_model.specs.Rectangle.{Rectangle, rectangle_size}
-use Rattle.bounds_model.specs.Places.{IsFraction, IsPair, IsSpan}
-use Rattle.bounds_model.specs.Fans.{QuarterFan, QuarterCone, quarter_directions, HoldsQuarter, QuarterPlaces, AtBothEnds, reach, IsShort}
+use Rattle.bounds_model.specs.Ranges.{IsFraction, IsDirection, IsSpan}
+use Rattle.bounds_model.specs.Fans.{QuarterFan, QuarterCone, quarter_directions, HoldsQuarter, QuarterRanges, AtBothEnds, reach, IsShort}
 use Rattle.bounds_model.specs.StripAnswer.{IsShortSpan}
 
 -- a rectangle, and a fan over a quarter turn
@@ -20,13 +20,13 @@ pub record RectangleAnswer : Type 0 where
 abbrev pub rectangle_of : RectangleAnswer → Rectangle
 rectangle_of a = record { direction = a.direction; along = a.along; across = a.across; w = pos 1 }
 
--- all numbers are in their places
-pub record RectanglePlaces (a : RectangleAnswer) : Type 0 where
+-- all numbers are in their ranges
+pub record RectangleRanges (a : RectangleAnswer) : Type 0 where
   pub size : IsFraction a.size
-  pub direction : IsPair a.direction
+  pub direction : IsDirection a.direction
   pub along : IsSpan a.along
   pub across : IsSpan a.across
-  pub fan : QuarterPlaces a.fan
+  pub fan : QuarterRanges a.fan
 
 -- the area of the rectangle around the points in this direction, times the direction's squared length
 abbrev pub reached_area : List PlanePoint → PlanePoint → QuarterCone → ℤ
@@ -38,7 +38,7 @@ IsNotSmaller points size d cone = (size.n *ℤ squared_length d) ≤ℤ (reached
 
 -- what a checker asks of a rectangle
 pub record PassesRectangle (points : List PlanePoint) (a : RectangleAnswer) : Type 0 where
-  pub places : RectanglePlaces a
+  pub ranges : RectangleRanges a
   pub short_directions : All IsShort (quarter_directions a.fan)
   pub short_direction : IsShort a.direction
   pub short_along : IsShortSpan a.along

@@ -4,8 +4,8 @@ use Rattle.bounds_model.specs.Numbers.{IsWithin}
 use Rattle.bounds_model.specs.Plane.{PlanePoint, origin, dot, squared_length}
 use Rattle.bounds_model.specs.Fractions.{Fraction, SameValue}
 use Rattle.bounds_model.specs.Strip.{Span, Strip, IsInSpan, strip_size}
-use Rattle.bounds_model.specs.Places.{IsFraction, IsPair, IsSpan}
-use Rattle.bounds_model.specs.Fans.{HalfFan, HalfCone, half_directions, HoldsHalf, HalfPlaces, AtBothEnds, reach, IsShort, span_limit}
+use Rattle.bounds_model.specs.Ranges.{IsFraction, IsDirection, IsSpan}
+use Rattle.bounds_model.specs.Fans.{HalfFan, HalfCone, half_directions, HoldsHalf, HalfRanges, AtBothEnds, reach, IsShort, span_limit}
 
 -- a strip, and a fan over half a turn
 pub record StripAnswer : Type 0 where
@@ -18,12 +18,12 @@ pub record StripAnswer : Type 0 where
 abbrev pub strip_of : StripAnswer → Strip
 strip_of a = record { normal = a.direction; bounds = a.bounds; w = pos 1 }
 
--- all numbers are in their places
-pub record StripPlaces (a : StripAnswer) : Type 0 where
+-- all numbers are in their ranges
+pub record StripRanges (a : StripAnswer) : Type 0 where
   pub size : IsFraction a.size
-  pub direction : IsPair a.direction
+  pub direction : IsDirection a.direction
   pub bounds : IsSpan a.bounds
-  pub fan : HalfPlaces a.fan
+  pub fan : HalfRanges a.fan
 
 -- bounds within the checker's limit
 pub record IsShortSpan (span : Span) : Type 0 where
@@ -37,7 +37,7 @@ IsNotThinner points size d cone =
 
 -- what a checker asks of a strip
 pub record PassesStrip (points : List PlanePoint) (a : StripAnswer) : Type 0 where
-  pub places : StripPlaces a
+  pub ranges : StripRanges a
   pub short_directions : All IsShort (half_directions a.fan)
   pub short_direction : IsShort a.direction
   pub short_bounds : IsShortSpan a.bounds

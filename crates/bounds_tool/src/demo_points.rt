@@ -71,12 +71,12 @@ impl Draws {
     }
 
     /// The next coordinate of space.
-    fn space_coordinate(&mut self, place: Across) -> i64
+    fn space_coordinate(&mut self, part: Across) -> i64
         ensures state { self.new.state ≡ next_state self.old.state }
-        ensures value { result ≡ across place self.new.state }
+        ensures value { result ≡ across part self.new.state }
         ensures bounds { IsWithin space_limit result }
     {
-        match place {
+        match part {
             Across::Whole => self.next() % 16_001 - 8_000,
             Across::Left => self.next() % 8_000 - 8_000,
             Across::Right => self.next() % 8_000 + 1,
@@ -96,16 +96,16 @@ impl Draws {
         }
     }
 
-    /// The next point of space, with its x in this place.
-    fn space_point(&mut self, place: Across) -> Point3
+    /// The next point of space, with its x in this part.
+    fn space_point(&mut self, part: Across) -> Point3
         ensures state { self.new.state ≡ state_after 3 self.old.state }
         ensures point { result ≡ record {
-          x = across place (state_after 1 self.old.state);
+          x = across part (state_after 1 self.old.state);
           y = space_coordinate (state_after 2 self.old.state);
           z = space_coordinate (state_after 3 self.old.state);
         } }
     {
-        let x = self.space_coordinate(place);
+        let x = self.space_coordinate(part);
         let y = self.space_coordinate(Across::Whole);
         let z = self.space_coordinate(Across::Whole);
         match Point3::new(x, y, z) {
@@ -130,20 +130,20 @@ impl Draws {
         Ok(points)
     }
 
-    /// The next points of space, so many, with their x in this place.
+    /// The next points of space, so many, with their x in this part.
     fn space_points(
         &mut self,
         alloc: Global,
-        place: Across,
+        part: Across,
         count: u32,
     ) -> Result<Points3, OutOfMemory>
         requires { count ≤ 10000 }
-        ensures points { IfOk result (λ points. points ≡ space_points (across place) self.old.state count) }
+        ensures points { IfOk result (λ points. points ≡ space_points (across part) self.old.state count) }
         ensures state { OnOk result (self.new.state ≡ state_after (3 * count) self.old.state) }
     {
         let mut points = Points3::new(alloc);
         'points: for _ in 0..count {
-            match points.push(self.space_point(place)) {
+            match points.push(self.space_point(part)) {
                 Ok(()) => {}
                 Err(PushFault::OutOfMemory) => return Err(OutOfMemory),
                 Err(PushFault::Full) => unreachable!(),

@@ -2,9 +2,9 @@
 use Rattle.std.proofs.Common.{◌≡◌, ◌↔◌, ℕ, ◌≤◌, pos, ◌≤ℤ◌, List, length, All, Any, arith}
 use Rattle.std.proofs.lemmas.List.Elements.{All-weaker}
 use Rattle.bounds_model.specs.Plane.{PlanePoint}
-use Rattle.bounds_model.specs.Places.{IsPlaneRatio, point_limit}
+use Rattle.bounds_model.specs.Ranges.{IsPlaneRatio, point_limit}
 use Rattle.bounds_model.specs.Centres.{IsNear}
-use Rattle.bounds_model.specs.CentresAnswer.{CentresAnswer, PassesCentres, CentresPlaces, IsCentreWithinLimits, AreLeaves, side}
+use Rattle.bounds_model.specs.CentresAnswer.{CentresAnswer, PassesCentres, CentresRanges, IsCentreWithinLimits, AreLeaves, side}
 use Rattle.centres_check.specs.CentresLimits.{IsSmallCentre, IsWithinLimits, NamesPoints}
 
 -- the squares cover the points, and the leaves show that no smaller ones do
@@ -12,27 +12,27 @@ pub record CoversTightly (count : ℕ) (points : List PlanePoint) (a : CentresAn
   pub near : All (λ p. Any (IsNear a.size p) a.squares) points
   pub leaves : AreLeaves (side a.size) count points a.leaves
 
--- numbers within their limits are in their places
-places : (count : ℕ) (points : List PlanePoint) (a : CentresAnswer) → 1 ≤ count → length points ≤ 10000 → length a.squares ≤ 3 → length a.leaves ≤ 16 → IsWithinLimits count points a → CentresPlaces a
-places count points a some few squares leaves limits = record {
-  size = limits.radius.place;
+-- numbers within their limits are in their ranges
+ranges : (count : ℕ) (points : List PlanePoint) (a : CentresAnswer) → 1 ≤ count → length points ≤ 10000 → length a.squares ≤ 3 → length a.leaves ≤ 16 → IsWithinLimits count points a → CentresRanges a
+ranges count points a some few squares leaves limits = record {
+  size = limits.radius.range;
   square_count = record { at_least = omega (arith, limits.as_many, some); at_most = squares };
-  squares = All-weaker IsSmallCentre IsPlaneRatio (λ c small. small.place) a.squares limits.centres;
+  squares = All-weaker IsSmallCentre IsPlaneRatio (λ c small. small.range) a.squares limits.centres;
   leaf_count = record { at_least = omega arith; at_most = leaves };
   leaves = All-weaker (NamesPoints (length points)) (λ leaf. (leaf.first ≤ point_limit) × (leaf.second ≤ point_limit)) (λ leaf names. (omega (arith, names.0), omega (arith, names.1))) a.leaves limits.numbers;
 }
 
 passes : (count : ℕ) (points : List PlanePoint) (a : CentresAnswer) → 1 ≤ count → length points ≤ 10000 → length a.squares ≤ 3 → length a.leaves ≤ 16 → IsWithinLimits count points a → CoversTightly count points a → PassesCentres count points a
 passes count points a some few squares leaves limits tight = record {
-  places = places count points a some few squares leaves limits;
+  ranges = ranges count points a some few squares leaves limits;
   numbers = limits.numbers;
   halves = limits.radius.halves;
   size_limit = limits.radius.limit;
   centres = All-weaker IsSmallCentre IsCentreWithinLimits (λ c small. small.near) a.squares limits.centres;
   covers = record {
     as_many = limits.as_many;
-    denominators = All-weaker IsSmallCentre (λ c. pos 1 ≤ℤ c.w) (λ c small. small.place.denominator) a.squares limits.centres;
-    radius = limits.radius.place.lowest.not_negative;
+    denominators = All-weaker IsSmallCentre (λ c. pos 1 ≤ℤ c.w) (λ c small. small.range.denominator) a.squares limits.centres;
+    radius = limits.radius.range.lowest.not_negative;
     near = tight.near;
   };
   leaves = tight.leaves;
@@ -48,7 +48,7 @@ passes_within_limits {count} points a some few squares leaves limits =
 pub limits_of_passing : {count : ℕ} (points : List PlanePoint) (a : CentresAnswer) → PassesCentres count points a → IsWithinLimits count points a
 limits_of_passing points a p = record {
   as_many = p.covers.as_many;
-  radius = record { place = p.places.size; halves = p.halves; limit = p.size_limit };
-  centres = λ k d below. record { place = p.places.squares k d below; near = p.centres k d below };
+  radius = record { range = p.ranges.size; halves = p.halves; limit = p.size_limit };
+  centres = λ k d below. record { range = p.ranges.squares k d below; near = p.centres k d below };
   numbers = p.numbers;
 }

@@ -144,8 +144,8 @@ below_one side (suc depth) corner part points rest below leaves some few four is
 pub none_found : (side depth : ℕ) (points : List PlanePoint) (squares seen : List Square) (found : Option Bounds) (leaves : List model.Leaf) → seen ≡ squares → found ≡ None → IsFound points seen (length points) found
     → ¬ AreLeavesAt side depth points (left_over squares points) leaves
 none_found side depth points squares seen found leaves same none h leaves_there =
-    let held = subst (IsFound points seen (length points)) none h in
-    let empty : left_over squares points ≡ [] = subst (λ ss. left_over ss points ≡ []) same (nothing_free points seen (length points) (itself (length points)) held) in
+    let covered = subst (IsFound points seen (length points)) none h in
+    let empty : left_over squares points ≡ [] = subst (λ ss. left_over ss points ≡ []) same (nothing_free points seen (length points) (itself (length points)) covered) in
     no_leaves side depth points leaves (subst (λ ps. AreLeavesAt side depth points ps leaves) empty leaves_there)
   where
     itself : (n : ℕ) → n ≤ n

@@ -17,7 +17,7 @@ ghost use Rattle.arrayvec.specs.ArrayVec.{array_vec_len};
 use answers::{CentresAnswer, Leaf};
 use arrayvec::ArrayVec;
 use bounded_coords::{Cloud2, Point2};
-use corner_squares::{Bounds, Square, is_held};
+use corner_squares::{Bounds, Square, any_contains};
 use exact_fractions::{Frac, Homog2};
 use optimality::answer::passing_answers_are_best;
 
@@ -25,7 +25,7 @@ use optimality::answer::passing_answers_are_best;
 const LIMIT: u128 = 1_000_000;
 
 /// Whether there are p squares that cover the points, and leaves which show that no smaller ones do: a leaf is two points too
-/// far apart for one square, after the squares of its place in a tree whose nodes try the four corners of a bounding box
+/// far apart for one square, after the squares of its range in a tree whose nodes try the four corners of a bounding box
 /// (CGAL manual, Geometric Optimisation, `rectangular_p_center_2`). For one square the tree is one leaf.
 pub fn check_centres(cloud: Cloud2<'_>, p: u8, a: &CentresAnswer) -> bool
     requires some { 1 ≤ p }
@@ -228,10 +228,10 @@ fn is_leaf(leaf: &Leaf, side: u32, placed: &[Square], cloud: Cloud2<'_>) -> bool
         (point_at (points_of cloud.entry) leaf.now.second) }
 {
     let (p, q) = (cloud.at(leaf.first), cloud.at(leaf.second));
-    if is_held(placed, p) {
+    if any_contains(placed, p) {
         return false;
     }
-    if is_held(placed, q) {
+    if any_contains(placed, q) {
         return false;
     }
     are_far(p, q, side)
@@ -244,7 +244,7 @@ fn bounding_box(placed: &[Square], cloud: Cloud2<'_>) -> Option<Bounds>
     let mut found = None;
     for i in 0..cloud.len() {
         let p = cloud.at(i);
-        if !is_held(placed, p) {
+        if !any_contains(placed, p) {
             found = Some(Bounds::grown(found, p, i));
         }
     }

@@ -19,7 +19,7 @@ use Rattle.corner_squares.proofs.LeftOver.{Contains-left_over, All-left_over, le
 
 -- ---- one point more
 
--- a place below i + 1 is below i or i
+-- an index below i + 1 is below i or i
 pub below_or_at : (k i : ℕ) → k < i + 1 → (k < i) ⊎ (k ≡ i)
 below_or_at k i h = grind arith
 
@@ -57,7 +57,7 @@ here of points squares i p there free = record {
     is : point_at points i ≡ p
     is = get_or_from_slice_get points i p origin there
 
--- the first point that no square holds
+-- the first point that no square contains
 IsExtent-start : (of : PlanePoint → ℤ) (points : List PlanePoint) (squares : List Square) (i : ℕ) (p : PlanePoint) (e : Extent)
     → ((k : ℕ) → k < i → IsCovered squares (point_at points k)) → slice_get points i ≡ Some p → ¬ IsCovered squares p → IsWithin plane_limit (of p)
     → e ≡ record { low = of p; high = of p; low_at = i; high_at = i } → IsExtent of points squares (i + 1) e
@@ -80,13 +80,13 @@ IsExtent-start of points squares i p e before there free inside is =
     both : (v w : ℤ) → v ≡ w → (w ≤ℤ v) × (v ≤ℤ w)
     both v w e = (omega (arith, ints), omega (arith, ints))
 
--- a point that a square holds
+-- a point that a square contains
 IsExtent-same : (of : PlanePoint → ℤ) (points : List PlanePoint) (squares : List Square) (i : ℕ) (p : PlanePoint) (e : Extent)
     → slice_get points i ≡ Some p → IsCovered squares p → IsExtent of points squares i e → IsExtent of points squares (i + 1) e
-IsExtent-same of points squares i p e there held was = record {
+IsExtent-same of points squares i p e there covered was = record {
   inside = λ k low. elim (below_or_at k i low) [
     | inl less ↦ was.inside k less
-    | inr same ↦ inl (subst (IsCovered squares) (sym (ap (point_at points) same ∙ get_or_from_slice_get points i p origin there)) held)
+    | inr same ↦ inl (subst (IsCovered squares) (sym (ap (point_at points) same ∙ get_or_from_slice_get points i p origin there)) covered)
   ];
   low_at = was.low_at;
   high_at = was.high_at;
@@ -97,12 +97,12 @@ IsExtent-same of points squares i p e there held was = record {
   plane = was.plane;
 }
 
--- a point that no square holds
+-- a point that no square contains
 IsExtent-more : (of : PlanePoint → ℤ) (points : List PlanePoint) (squares : List Square) (i : ℕ) (p : PlanePoint) (old new : Extent)
     → slice_get points i ≡ Some p → ¬ IsCovered squares p → IsWithin plane_limit (of p) → IsExtent of points squares i old → Sees old (of p) i new → IsExtent of points squares (i + 1) new
 IsExtent-more of points squares i p old new there free inside was sees = record {
   inside = λ k low. elim (below_or_at k i low) [
-    | inl less ↦ elim (was.inside k less) [ inl held ↦ inl held | inr in_old ↦ inr (wider old new (of p) (of (point_at points k)) i sees in_old) ]
+    | inl less ↦ elim (was.inside k less) [ inl covered ↦ inl covered | inr in_old ↦ inr (wider old new (of p) (of (point_at points k)) i sees in_old) ]
     | inr same ↦ inr (subst (λ v. (new.low ≤ℤ v) × (v ≤ℤ new.high)) (sym (ap (λ j. of (point_at points j)) same ∙ at.has)) (sees_value old new (of p) i sees))
   ];
   low_at = elim sees.low [ inl stays ↦ moved of points squares old.low_at new.low_at old.low new.low was.low_at stays.1 stays.2 | inr takes ↦ moved of points squares i new.low_at (of p) new.low at takes.1 takes.2 ];
@@ -111,11 +111,11 @@ IsExtent-more of points squares i p old new there free inside was sees = record 
   high_seen = elim sees.high [ inl stays ↦ (let l = was.high_seen in omega (arith, l, stays.2)) | inr takes ↦ omega (arith, takes.2) ];
   low_first = elim sees.low [
     | inl stays ↦ λ k sooner. subst (λ v. IsCovered squares (point_at points k) ⊎ (v <ℤ of (point_at points k))) (sym stays.1) (was.low_first k (subst (λ n. k < n) stays.2 sooner))
-    | inr takes ↦ λ k sooner. elim (was.inside k (subst (λ n. k < n) takes.2 sooner)) [ inl held ↦ inl held | inr in_old ↦ inr (lower (of (point_at points k)) takes in_old) ]
+    | inr takes ↦ λ k sooner. elim (was.inside k (subst (λ n. k < n) takes.2 sooner)) [ inl covered ↦ inl covered | inr in_old ↦ inr (lower (of (point_at points k)) takes in_old) ]
   ];
   high_first = elim sees.high [
     | inl stays ↦ λ k sooner. subst (λ v. IsCovered squares (point_at points k) ⊎ (of (point_at points k) <ℤ v)) (sym stays.1) (was.high_first k (subst (λ n. k < n) stays.2 sooner))
-    | inr takes ↦ λ k sooner. elim (was.inside k (subst (λ n. k < n) takes.2 sooner)) [ inl held ↦ inl held | inr in_old ↦ inr (higher (of (point_at points k)) takes in_old) ]
+    | inr takes ↦ λ k sooner. elim (was.inside k (subst (λ n. k < n) takes.2 sooner)) [ inl covered ↦ inl covered | inr in_old ↦ inr (higher (of (point_at points k)) takes in_old) ]
   ];
   plane = record {
     low = elim sees.low [ inl stays ↦ subst (IsWithin plane_limit) (sym stays.1) was.plane.low | inr takes ↦ subst (IsWithin plane_limit) (sym takes.1) inside ];
@@ -138,7 +138,7 @@ IsExtent-more of points squares i p old new there free inside was sees = record 
 
 -- ---- the box
 
--- the box of the first point that no square holds
+-- the box of the first point that no square contains
 pub IsBox-start : (points : List PlanePoint) (squares : List Square) (i : ℕ) (p : PlanePoint) (b : Bounds)
     → ((k : ℕ) → k < i → IsCovered squares (point_at points k)) → slice_get points i ≡ Some p → ¬ IsCovered squares p → IsInPlane p
     → b.across ≡ record { low = p.x; high = p.x; low_at = i; high_at = i } → b.up ≡ record { low = p.y; high = p.y; low_at = i; high_at = i } → IsBox points squares (i + 1) b
@@ -147,12 +147,12 @@ IsBox-start points squares i p b before there free inside across up = record {
   up = IsExtent-start (λ p. p.y) points squares i p b.up before there free inside.y up;
 }
 
--- it stays where a square holds the next point
+-- it stays where a square contains the next point
 pub IsBox-same : (points : List PlanePoint) (squares : List Square) (i : ℕ) (p : PlanePoint) (b : Bounds)
     → slice_get points i ≡ Some p → IsCovered squares p → IsBox points squares i b → IsBox points squares (i + 1) b
-IsBox-same points squares i p b there held was = record {
-  across = IsExtent-same (λ p. p.x) points squares i p b.across there held was.across;
-  up = IsExtent-same (λ p. p.y) points squares i p b.up there held was.up;
+IsBox-same points squares i p b there covered was = record {
+  across = IsExtent-same (λ p. p.x) points squares i p b.across there covered was.across;
+  up = IsExtent-same (λ p. p.y) points squares i p b.up there covered was.up;
 }
 
 -- and grows where none does
@@ -163,24 +163,24 @@ IsBox-more points squares i p old new there free inside was across up = record {
   up = IsExtent-more (λ p. p.y) points squares i p old.up new.up there free inside.y was.up up;
 }
 
--- the box with a point more that no square holds
+-- the box with a point more that no square contains
 pub box_more : (points : List PlanePoint) (squares : List Square) (i : ℕ) (p : PlanePoint) (found : Option Bounds) (new : Bounds)
     → slice_get points i ≡ Some p → ¬ IsCovered squares p → IsInPlane p → IsFound points squares i found → Adds found p i new → IsBox points squares (i + 1) new
 box_more points squares i p None new there free plane was adds = IsBox-start points squares i p new was there free plane adds.0 adds.1
 box_more points squares i p (Some old) new there free plane was adds = IsBox-more points squares i p old new there free plane was adds.0 adds.1
 
--- nothing new where a square holds the point
+-- nothing new where a square contains the point
 pub found_same : (points : List PlanePoint) (squares : List Square) (i : ℕ) (p : PlanePoint) (found : Option Bounds)
     → slice_get points i ≡ Some p → IsCovered squares p → IsFound points squares i found → IsFound points squares (i + 1) found
-found_same points squares i p None there held was = λ k low. elim (below_or_at k i low) [
+found_same points squares i p None there covered was = λ k low. elim (below_or_at k i low) [
   | inl less ↦ was k less
-  | inr same ↦ subst (IsCovered squares) (sym (ap (point_at points) same ∙ get_or_from_slice_get points i p origin there)) held
+  | inr same ↦ subst (IsCovered squares) (sym (ap (point_at points) same ∙ get_or_from_slice_get points i p origin there)) covered
 ]
-found_same points squares i p (Some b) there held was = IsBox-same points squares i p b there held was
+found_same points squares i p (Some b) there covered was = IsBox-same points squares i p b there covered was
 
 -- ---- all points seen
 
--- where no box was found, all points are held, so nothing is left over
+-- where no box was found, all points are covered, so nothing is left over
 pub nothing_free : (points : List PlanePoint) (squares : List Square) (i : ℕ) → length points ≤ i → ((k : ℕ) → k < i → IsCovered squares (point_at points k)) → left_over squares points ≡ []
 nothing_free points squares i all h =
     no_elements (left_over squares points) (All-left_over (λ p. ⊥) squares points (λ p m free. free (subst (IsCovered squares) (get_or_default points m.0 origin p m.1 ∙ m.2) (h m.0 (seen m.1)))))
@@ -201,7 +201,7 @@ inside_all : (of : PlanePoint → ℤ) (points : List PlanePoint) (squares : Lis
 inside_all of points squares i e all h =
     All-left_over (λ p. (e.low ≤ℤ of p) × (of p ≤ℤ e.high)) squares points
     (λ p m free. let is : point_at points m.0 ≡ p = get_or_default points m.0 origin p m.1 ∙ m.2 in elim (h.inside m.0 (seen m.1)) [
-      | inl held ↦ absurd (free (subst (IsCovered squares) is held))
+      | inl covered ↦ absurd (free (subst (IsCovered squares) is covered))
       | inr inside ↦ subst (λ p. (e.low ≤ℤ of p) × (of p ≤ℤ e.high)) is inside
     ])
   where

@@ -1,4 +1,4 @@
-pub mod Holding
+pub mod Covering
 pub mod LeftOver
 pub mod Boxes
 pub mod Trees

@@ -49,7 +49,7 @@ leaf_down side depth corner j points rest leaf few four below h =
 
 -- ---- one leaf
 
--- what holds of the first place and the one element holds of each place
+-- what contains of the first index and the one element contains of each index
 only : {X : Type 0} (P : ℕ → X → Type 0) (x : X) → P 0 x → AllNumbered P (x ∷ [])
 only P x h zero d below = h
 only P x h (suc k) d below = absurd (omega arith)
@@ -81,8 +81,8 @@ more_below side depth corner points rest leaves own few four before new = record
     | inl early ↦ subst (IsLeafAt side (suc depth) points rest k) (sym (get_or_append_left leaves own d k early)) (before.each k d early)
     | inr late ↦
         let j = k - length leaves in
-        let is : k ≡ corner * 4 ^ depth + j = place k late in
-        let small : j < length own = small_place k (subst (λ n. k < n) (length-append leaves own) below) late in
+        let is : k ≡ corner * 4 ^ depth + j = index k late in
+        let small : j < length own = small_index k (subst (λ n. k < n) (length-append leaves own) below) late in
         let leaf = new.each j d small in
         subst (IsLeafAt side (suc depth) points rest k) (sym (get_or-append_right leaves own (length leaves) k d refl late))
         (subst (λ n. IsLeafAt side (suc depth) points rest n (get_or own j d)) (sym is) (leaf_up side depth corner j points rest (get_or own j d) few four (subst (λ n. j < n) new.as_many small) leaf))
@@ -92,14 +92,14 @@ more_below side depth corner points rest leaves own few four before new = record
     count : (a b n : ℕ) → a ≡ corner * n → b ≡ n → a + b ≡ (corner + 1) * n
     count a b n e f = omega (arith, e, f)
 
-    place : (k : ℕ) → length leaves ≤ k → k ≡ corner * 4 ^ depth + (k - length leaves)
-    place k late = at (length leaves) (corner * 4 ^ depth) before.as_many late
+    index : (k : ℕ) → length leaves ≤ k → k ≡ corner * 4 ^ depth + (k - length leaves)
+    index k late = at (length leaves) (corner * 4 ^ depth) before.as_many late
       where
         at : (n m : ℕ) → n ≡ m → n ≤ k → k ≡ m + (k - n)
         at n m e l = omega (arith, e, l)
 
-    small_place : (k : ℕ) → k < length leaves + length own → length leaves ≤ k → k - length leaves < length own
-    small_place k below late = omega (arith, below, late)
+    small_index : (k : ℕ) → k < length leaves + length own → length leaves ≤ k → k - length leaves < length own
+    small_index k below late = omega (arith, below, late)
 
 -- all of them
 pub all_below : (side depth : ℕ) (points rest : List PlanePoint) (leaves : List Leaf) → AreBelowFirst side depth 4 points rest leaves → AreLeavesAt side (suc depth) points rest leaves

@@ -8,11 +8,11 @@ use Rattle.corner_squares.specs.declared.square.Square.{Square}
 abbrev pub square_of : Square → model.Square
 square_of s = record { left = s.left; bottom = s.bottom; side = s.side }
 
--- one of the squares holds the point
+-- one of the squares contains the point
 abbrev pub IsCovered : List Square → PlanePoint → Type 0
-IsCovered squares p = Any (λ s. IsTrue (model.holds (square_of s) p)) squares
+IsCovered squares p = Any (λ s. IsTrue (model.contains (square_of s) p)) squares
 
--- the points that none of the squares holds
+-- the points that none of the squares contains
 abbrev pub left_over : List Square → List PlanePoint → List PlanePoint
 left_over [] points = points
 left_over (s ∷ rest) points = left_over rest (model.outside (square_of s) points)

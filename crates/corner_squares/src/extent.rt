@@ -4,16 +4,16 @@ ghost use Rattle.bounds_model.specs.Numbers.{IsWithin};
 ghost use Rattle.bounds_model.specs.Plane.{plane_limit};
 ghost use Rattle.corner_squares.specs.Extents.{Sees};
 
-/// The least and the greatest number, and the places where they stood first.
+/// The least and the greatest number, and the indices where they stood first.
 #[derive(Clone, Copy, Debug, PartialEq, Eq)]
 pub struct Extent {
     /// The least number.
     pub low: i32,
     /// The greatest number.
     pub high: i32,
-    /// The place of the least number.
+    /// The index of the least number.
     pub low_at: u32,
-    /// The place of the greatest number.
+    /// The index of the greatest number.
     pub high_at: u32,
 }
 

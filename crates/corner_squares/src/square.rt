@@ -1,6 +1,6 @@
-//! Closed squares, and the points that they hold.
+//! Closed squares, and the points that they contain.
 ghost use Rattle.std.specs.Prelude.{◌↔◌, pos, ◌+ℤ◌, ◌≤ℤ◌, IsTrue};
-ghost use Rattle.bounds_model.specs.CentresAnswer.{holds};
+ghost use Rattle.bounds_model.specs.CentresAnswer.{contains};
 ghost use Rattle.corner_squares.specs.Squares.{square_of, IsCovered};
 
 use bounded_coords::Point2;
@@ -17,9 +17,9 @@ pub struct Square {
 }
 
 impl Square {
-    /// Whether the square holds the point: its edges are part of it.
-    pub fn holds(&self, p: &Point2) -> bool
-        ensures { IsTrue result ↔ IsTrue (holds (square_of self.now) p.now) }
+    /// Whether the square contains the point: its edges are part of it.
+    pub fn contains(&self, p: &Point2) -> bool
+        ensures { IsTrue result ↔ IsTrue (contains (square_of self.now) p.now) }
     {
         is_from(self.left, self.side, p.x()) && is_from(self.bottom, self.side, p.y())
     }
@@ -32,9 +32,9 @@ fn is_from(low: i32, length: u32, value: i32) -> bool
     low <= value && value.abs_diff(low) <= length
 }
 
-/// Whether one of the squares holds the point.
-pub fn is_held(squares: &[Square], p: &Point2) -> bool
+/// Whether one of the squares contains the point.
+pub fn any_contains(squares: &[Square], p: &Point2) -> bool
     ensures { IsTrue result ↔ IsCovered squares.now p.now }
 {
-    squares.iter().any(|square| square.holds(p))
+    squares.iter().any(|square| square.contains(p))
 }

@@ -87,8 +87,8 @@ balance_of_one dim quadratic v b flag dims within sums level =
 -- and its sums are within the limits
 pub one_within : (dim : ℕ) (quadratic : ℤ) (v : SpacePoint) (m : Moments) → (quadratic ≡ pos 0) ⊎ (quadratic ≡ pos 1) → (dim ≡ 2) ⊎ (dim ≡ 3) → IsDifference dim v → AreMoments (record { weight = pos 1; vector = v } ∷ []) m → AreWithin quadratic dim m
 one_within dim quadratic v m flag dims within sums =
-    balance_within dim quadratic (record { weight = pos 1; vector = v } ∷ []) (record { held = record { items = [] }; moments = m; level = slack_at quadratic m v })
-    (balance_of_one dim quadratic v (record { held = record { items = [] }; moments = m; level = slack_at quadratic m v }) flag dims within sums refl)
+    balance_within dim quadratic (record { weight = pos 1; vector = v } ∷ []) (record { members = record { items = [] }; moments = m; level = slack_at quadratic m v })
+    (balance_of_one dim quadratic v (record { members = record { items = [] }; moments = m; level = slack_at quadratic m v }) flag dims within sums refl)
 
 -- the sums of one vector
 pub sums_of_one : (v : SpacePoint) (none m : Moments) → none.mass ≡ pos 0 → sum_of none.sum ≡ origin → m.mass ≡ pos 1 +ℤ none.mass → sum_of m.sum ≡ plus (times (pos 1) v) (sum_of none.sum) → AreMoments (record { weight = pos 1; vector = v } ∷ []) m

@@ -31,29 +31,29 @@ vectors_are place items (c ∷ cs) are =
     (vectors_are place items cs (All-tail (λ (c : Candidate). vector_of c.vector ≡ item place items c.id) c cs are))
 
 -- those of weighted items are too
-pub held_vectors : {K P : Type 0} (place : P → SpacePoint) (items : Items K P) (held : List WeightedItem) → support_vectors (weighted_items place items held) ≡ map (item place items) (names held)
-held_vectors place items [] = refl
-held_vectors place items (s ∷ held) = ap (λ vs. item place items s.id ∷ vs) (held_vectors place items held)
+pub member_vectors : {K P : Type 0} (place : P → SpacePoint) (items : Items K P) (members : List WeightedItem) → support_vectors (weighted_items place items members) ≡ map (item place items) (names members)
+member_vectors place items [] = refl
+member_vectors place items (s ∷ members) = ap (λ vs. item place items s.id ∷ vs) (member_vectors place items members)
 
 -- weights beside the vectors of the chosen candidates are the weighted items
-pub same_items : {K P : Type 0} (place : P → SpacePoint) (items : Items K P) (held : List WeightedItem) (part : List Candidate) → names held ≡ candidate_names part → AreCandidates place items part
-    → weighted (weights held) (vectors part) ≡ weighted_items place items held
+pub same_items : {K P : Type 0} (place : P → SpacePoint) (items : Items K P) (members : List WeightedItem) (part : List Candidate) → names members ≡ candidate_names part → AreCandidates place items part
+    → weighted (weights members) (vectors part) ≡ weighted_items place items members
 same_items place items [] [] named are = refl
 same_items place items [] (c ∷ part) named are = absurd (cc)
-same_items place items (s ∷ held) [] named are = absurd (cc)
-same_items {K} {P} place items (s ∷ held) (c ∷ part) named are =
+same_items place items (s ∷ members) [] named are = absurd (cc)
+same_items {K} {P} place items (s ∷ members) (c ∷ part) named are =
     let same_name : s.id ≡ c.id = cc in
-    let others : names held ≡ candidate_names part = cc in
+    let others : names members ≡ candidate_names part = cc in
     ap₂ (λ v rest. record { weight = pos s.weight; vector = v } ∷ rest)
     (All-head (λ (c : Candidate). vector_of c.vector ≡ item place items c.id) c part are ∙ ap (item place items) (sym same_name))
-    (same_items place items held part others (All-tail (λ (c : Candidate). vector_of c.vector ≡ item place items c.id) c part are))
+    (same_items place items members part others (All-tail (λ (c : Candidate). vector_of c.vector ≡ item place items c.id) c part are))
 
 -- an exchange: the old supports, a low item, and what the search found among them
 pub record IsExchange {K P : Type 0} (dim : ℕ) (quadratic : ℤ) (place : P → SpacePoint) (xs : Items K P) (old : List WeightedItem) (id : Id) (all part : List Candidate) (b : Balance) : Type 0 where
   pub flag : IsQuadratic quadratic
   pub dims : (dim ≡ 2) ⊎ (dim ≡ 3)
   pub named : IsItem xs id
-  pub held : AreSupportItems dim xs old
+  pub members : AreSupportItems dim xs old
   pub supports : AreSupports quadratic (weighted_items place xs old)
   pub low : IsLow quadratic (weighted_items place xs old) (item place xs id)
   pub all_named : candidate_names all ≡ id ∷ names old
@@ -64,52 +64,52 @@ pub record IsExchange {K P : Type 0} (dim : ℕ) (quadratic : ℤ) (place : P �
 module _ {K P : Type 0} (dim : ℕ) (quadratic : ℤ) (place : P → SpacePoint) (xs : Items K P) (old : List WeightedItem) (id : Id) (all part : List Candidate) (b : Balance)
     (h : IsExchange {K = K} {P = P} dim quadratic place xs old id all part b) where
   -- the new supports are a part of the old ones and the new item
-  pub new_part : IsPart (names b.held.items) (id ∷ names old)
-  new_part = subst (IsPart (names b.held.items)) h.all_named (subst (λ ns. IsPart ns (candidate_names all)) (sym h.found.named) (part_map (λ c. c.id) h.found.is_part))
+  pub new_part : IsPart (names b.members.items) (id ∷ names old)
+  new_part = subst (IsPart (names b.members.items)) h.all_named (subst (λ ns. IsPart ns (candidate_names all)) (sym h.found.named) (part_map (λ c. c.id) h.found.is_part))
 
-  same : weighted (weights b.held.items) (vectors part) ≡ weighted_items place xs b.held.items
-  same = same_items place xs b.held.items part h.found.named (part_all (λ c. vector_of c.vector ≡ item place xs c.id) h.found.is_part h.candidates)
+  same : weighted (weights b.members.items) (vectors part) ≡ weighted_items place xs b.members.items
+  same = same_items place xs b.members.items part h.found.named (part_all (λ c. vector_of c.vector ≡ item place xs c.id) h.found.is_part h.candidates)
 
   all_vectors_are : vectors all ≡ map (item place xs) (id ∷ names old)
   all_vectors_are = vectors_are place xs all h.candidates ∙ ap (map (item place xs)) h.all_named
 
   -- they are in balance
-  pub new_balance : IsBalance dim quadratic (weighted_items place xs b.held.items) b
+  pub new_balance : IsBalance dim quadratic (weighted_items place xs b.members.items) b
   new_balance = subst (λ items. IsBalance dim quadratic items b) same h.found.balance
 
   -- each is an item
-  pub new_held : AreSupportItems dim xs b.held.items
-  new_held =
-      let old_names : All (IsItem xs) (names old) = All-map (IsItem xs) (λ (s : WeightedItem). s.id) old h.held.listed in
+  pub new_members : AreSupportItems dim xs b.members.items
+  new_members =
+      let old_names : All (IsItem xs) (names old) = All-map (IsItem xs) (λ (s : WeightedItem). s.id) old h.members.listed in
       let all_names : All (IsItem xs) (id ∷ names old) = All-cons (IsItem xs) id (names old) h.named old_names in
-      let many = length-map b.held.items (λ (s : WeightedItem). s.id) in
+      let many = length-map b.members.items (λ (s : WeightedItem). s.id) in
       let as_many = ap length h.found.named ∙ length-map part (λ (c : Candidate). c.id) in
-      let vs = ap length (held_vectors place xs b.held.items) ∙ length-map (names b.held.items) (item place xs) in
-      let items = length-map (weighted_items place xs b.held.items) (λ (item : WeightedVector). item.vector) in
+      let vs = ap length (member_vectors place xs b.members.items) ∙ length-map (names b.members.items) (item place xs) in
+      let items = length-map (weighted_items place xs b.members.items) (λ (item : WeightedVector). item.vector) in
       let some = new_balance.supports.some in
       let shorter = part_length h.found.is_part in
       let whole = length-map all (λ (c : Candidate). vector_of c.vector) in
       let few = h.few in
-      let most = independent_are_few dim h.dims (support_vectors (weighted_items place xs b.held.items)) (omega arith) new_balance.differences new_balance.independent in
+      let most = independent_are_few dim h.dims (support_vectors (weighted_items place xs b.members.items)) (omega arith) new_balance.differences new_balance.independent in
       record {
         count = record { at_least = omega arith; at_most = omega arith };
-        listed = all_unmap (IsItem xs) (λ s. s.id) b.held.items (part_all (IsItem xs) new_part all_names);
+        listed = all_unmap (IsItem xs) (λ s. s.id) b.members.items (part_all (IsItem xs) new_part all_names);
       }
 
   -- none of the old ones and the new item is low
-  pub new_none_low : All (λ other. ¬ IsLow quadratic (weighted_items place xs b.held.items) (item place xs other)) (id ∷ names old)
+  pub new_none_low : All (λ other. ¬ IsLow quadratic (weighted_items place xs b.members.items) (item place xs other)) (id ∷ names old)
   new_none_low =
-      all_unmap (λ v. ¬ IsLow quadratic (weighted_items place xs b.held.items) v) (item place xs) (id ∷ names old)
-      (subst (All (λ v. ¬ IsLow quadratic (weighted_items place xs b.held.items) v)) all_vectors_are
+      all_unmap (λ v. ¬ IsLow quadratic (weighted_items place xs b.members.items) v) (item place xs) (id ∷ names old)
+      (subst (All (λ v. ¬ IsLow quadratic (weighted_items place xs b.members.items) v)) all_vectors_are
       (subst (λ items. All (λ v. ¬ IsLow quadratic items v) (vectors all)) same h.found.none_low))
 
   -- the value has risen
-  pub new_value : IsBelow (value quadratic (weighted_items place xs old)) (value quadratic (weighted_items place xs b.held.items))
-  new_value = value_rises quadratic h.flag (weighted_items place xs old) (weighted_items place xs b.held.items) (item place xs id) h.supports h.low (record {
+  pub new_value : IsBelow (value quadratic (weighted_items place xs old)) (value quadratic (weighted_items place xs b.members.items))
+  new_value = value_rises quadratic h.flag (weighted_items place xs old) (weighted_items place xs b.members.items) (item place xs id) h.supports h.low (record {
     supports = new_balance.supports;
     none_low =
-        subst (λ vs. All (λ v. ¬ IsLow quadratic (weighted_items place xs b.held.items) v) (item place xs id ∷ vs)) (sym (held_vectors place xs old))
-        (subst (All (λ v. ¬ IsLow quadratic (weighted_items place xs b.held.items) v)) all_vectors_are
+        subst (λ vs. All (λ v. ¬ IsLow quadratic (weighted_items place xs b.members.items) v) (item place xs id ∷ vs)) (sym (member_vectors place xs old))
+        (subst (All (λ v. ¬ IsLow quadratic (weighted_items place xs b.members.items) v)) all_vectors_are
         (subst (λ items. All (λ v. ¬ IsLow quadratic items v) (vectors all)) same h.found.none_low));
   })
 
@@ -125,11 +125,11 @@ pub exchange_is : {K P : Type 0} (dim : ℕ) (quadratic : ℤ) (place : P → Sp
     → IsQuadratic quadratic → (dim ≡ 2) ⊎ (dim ≡ 3) → IsItem xs id → AreSupportItems dim xs old → IsBalance dim quadratic (weighted_items place xs old) old_balance → IsLow quadratic (weighted_items place xs old) (item place xs id)
     → all ≡ given → candidate_names given ≡ id ∷ names old → AreCandidates place xs given → AreItems quadratic dim (vectors given) → IsFound dim quadratic all part b
     → IsExchange {K = K} {P = P} dim quadratic place xs old id all part b
-exchange_is dim quadratic place xs old id given all part b old_balance flag dims named held balance low same all_named candidates items found = record {
+exchange_is dim quadratic place xs old id given all part b old_balance flag dims named members balance low same all_named candidates items found = record {
   flag = flag;
   dims = dims;
   named = named;
-  held = held;
+  members = members;
   supports = balance.supports;
   low = low;
   all_named = ap candidate_names same ∙ all_named;

@@ -15,17 +15,17 @@ use Rattle.corral.specs.WeightedItems.{names}
 use Rattle.corral.specs.Balances.{vectors, candidate_names, AreCandidates}
 
 -- the candidates for an item and the first supports
-pub record AreFilled {K P : Type 0} (dim : ℕ) (place : P → SpacePoint) (xs : Items K P) (id : Id) (cs : List Candidate) (held : List WeightedItem) (i : ℕ) : Type 0 where
-  pub named : candidate_names cs ≡ id ∷ names (take i held)
+pub record AreFilled {K P : Type 0} (dim : ℕ) (place : P → SpacePoint) (xs : Items K P) (id : Id) (cs : List Candidate) (members : List WeightedItem) (i : ℕ) : Type 0 where
+  pub named : candidate_names cs ≡ id ∷ names (take i members)
   pub candidates : AreCandidates place xs cs
   pub differences : All (IsDifference dim) (vectors cs)
   pub items : All (λ c. IsItem xs c.id) cs
   pub many : length cs ≡ i + 1
 
 -- of the item alone
-pub filled_first : {K P : Type 0} (dim : ℕ) (place : P → SpacePoint) (xs : Items K P) (id : Id) (cs : List Candidate) (c : Candidate) (held : List WeightedItem) → cs ≡ c ∷ [] → c.id ≡ id → vector_of c.vector ≡ item place xs id → IsDifference dim (vector_of c.vector) → IsItem xs id
-    → AreFilled {K = K} dim place xs id cs held 0
-filled_first {K} dim place xs id cs c held e same is difference named = subst (λ ds. AreFilled {K = K} dim place xs id ds held 0) (sym e) (record {
+pub filled_first : {K P : Type 0} (dim : ℕ) (place : P → SpacePoint) (xs : Items K P) (id : Id) (cs : List Candidate) (c : Candidate) (members : List WeightedItem) → cs ≡ c ∷ [] → c.id ≡ id → vector_of c.vector ≡ item place xs id → IsDifference dim (vector_of c.vector) → IsItem xs id
+    → AreFilled {K = K} dim place xs id cs members 0
+filled_first {K} dim place xs id cs c members e same is difference named = subst (λ ds. AreFilled {K = K} dim place xs id ds members 0) (sym e) (record {
   named = ap (λ n. n ∷ []) same;
   candidates = All-push (λ (c : Candidate). vector_of c.vector ≡ item place xs c.id) [] c (λ k d l. absurd (omega arith)) (is ∙ ap (item place xs) (sym same));
   differences = All-push (IsDifference dim) [] (vector_of c.vector) (λ k d l. absurd (omega arith)) difference;
@@ -34,10 +34,10 @@ filled_first {K} dim place xs id cs c held e same is difference named = subst (�
 })
 
 -- with one support more
-pub filled_more : {K P : Type 0} (dim : ℕ) (place : P → SpacePoint) (xs : Items K P) (id : Id) (cs ds : List Candidate) (c : Candidate) (held : List WeightedItem) (i : ℕ) (d : WeightedItem) → AreFilled {K = K} dim place xs id cs held i → i < length held
-    → ds ≡ cs ++ c ∷ [] → c.id ≡ (get_or held i d).id → vector_of c.vector ≡ item place xs (get_or held i d).id → IsDifference dim (vector_of c.vector) → IsItem xs (get_or held i d).id → AreFilled {K = K} dim place xs id ds held (i + 1)
-filled_more {K} dim place xs id cs ds c held i d h within e same is difference named = subst (λ es. AreFilled {K = K} dim place xs id es held (i + 1)) (sym e) (record {
-  named = map-append (λ (c : Candidate). c.id) cs (c ∷ []) ∙ ap₂ (λ ns n. ns ++ n ∷ []) h.named same ∙ ap (λ ns. id ∷ ns) (sym (map_more (λ (s : WeightedItem). s.id) held i d within));
+pub filled_more : {K P : Type 0} (dim : ℕ) (place : P → SpacePoint) (xs : Items K P) (id : Id) (cs ds : List Candidate) (c : Candidate) (members : List WeightedItem) (i : ℕ) (d : WeightedItem) → AreFilled {K = K} dim place xs id cs members i → i < length members
+    → ds ≡ cs ++ c ∷ [] → c.id ≡ (get_or members i d).id → vector_of c.vector ≡ item place xs (get_or members i d).id → IsDifference dim (vector_of c.vector) → IsItem xs (get_or members i d).id → AreFilled {K = K} dim place xs id ds members (i + 1)
+filled_more {K} dim place xs id cs ds c members i d h within e same is difference named = subst (λ es. AreFilled {K = K} dim place xs id es members (i + 1)) (sym e) (record {
+  named = map-append (λ (c : Candidate). c.id) cs (c ∷ []) ∙ ap₂ (λ ns n. ns ++ n ∷ []) h.named same ∙ ap (λ ns. id ∷ ns) (sym (map_more (λ (s : WeightedItem). s.id) members i d within));
   candidates = All-push (λ (c : Candidate). vector_of c.vector ≡ item place xs c.id) cs c h.candidates (is ∙ ap (item place xs) (sym same));
   differences = subst (All (IsDifference dim)) (sym (map-append (λ (c : Candidate). vector_of c.vector) cs (c ∷ []))) (All-push (IsDifference dim) (vectors cs) (vector_of c.vector) h.differences difference);
   items = All-push (λ (c : Candidate). IsItem xs c.id) cs c h.items (subst (IsItem xs) (sym same) named);

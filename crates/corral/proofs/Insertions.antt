@@ -5,7 +5,7 @@ use Rattle.std.proofs.lemmas.Int.{ints}
 use Rattle.std.proofs.lemmas.List.Elements.{All-nil, All-cons, All-head, All-tail}
 use Rattle.integers.specs.Total.{total}
 
--- the last list is the first with x at some place
+-- the last list is the first with x at some index
 pub data IsInserted {A : Type 0} : A → List A → List A → Type 0 where
   first : {x : A} {rest : List A} → IsInserted x rest (x ∷ rest)
   later : {x y : A} {rest whole : List A} → IsInserted x rest whole → IsInserted x (y ∷ rest) (y ∷ whole)

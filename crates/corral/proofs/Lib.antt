@@ -11,7 +11,7 @@ pub mod Ratios
 pub mod Drops
 pub mod Dependent
 pub mod Walk
-pub mod Places
+pub mod InsertedItems
 pub mod SmallSteps
 pub mod SupportedParts
 pub mod Settled

@@ -25,7 +25,7 @@ least_of_one f v e = record { listed = omega arith; reached = e; least = λ j h.
     only : (j : ℕ) → j < 1 → v ≤ℤ f j
     only j h = let zero_is : 0 ≡ j = omega arith in subst (λ k. v ≤ℤ f k) zero_is (omega (arith, ints))
 
--- a number below it takes its place
+-- a number below it replaces it
 pub least_takes : (f : ℕ → ℤ) (i best : ℕ) (value v : ℤ) → IsLeastBelow f i best value → v ≡ f i → lt_z v value ≡ true → IsLeastBelow f (i + 1) i v
 least_takes f i best value v h e test = let less : v <ℤ value = is_less test in record {
   listed = omega arith;
@@ -54,7 +54,7 @@ most_of_one f v e = record { listed = omega arith; reached = e; most = λ j h. o
     only : (j : ℕ) → j < 1 → f j ≤ℤ v
     only j h = let zero_is : 0 ≡ j = omega arith in subst (λ k. f k ≤ℤ v) zero_is (omega (arith, ints))
 
--- a number above it takes its place
+-- a number above it replaces it
 pub most_takes : (f : ℕ → ℤ) (i best : ℕ) (value v : ℤ) → IsMostBelow f i best value → v ≡ f i → lt_z value v ≡ true → IsMostBelow f (i + 1) i v
 most_takes f i best value v h e test = let more : value <ℤ v = is_less test in record {
   listed = omega arith;

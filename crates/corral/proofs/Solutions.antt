@@ -166,7 +166,7 @@ module _ (quadratic : ℤ) (dim : ℕ) (all part : List Candidate) (ws : List �
 
   -- the supports that are found
   pub found : (level : ℤ) (b : Balance) → IsLevel quadratic (weighted ws (vectors part)) level → All (λ v. level ≤ℤ slack_at quadratic m v) (vectors all)
-      → names b.held.items ≡ candidate_names part → weights b.held.items ≡ ws → b.moments ≡ m → b.level ≡ level → IsFound dim quadratic all part b
+      → names b.members.items ≡ candidate_names part → weights b.members.items ≡ ws → b.moments ≡ m → b.level ≡ level → IsFound dim quadratic all part b
   found level b is above named weighed same_sums same_level = record {
     is_part = h.is_part;
     named = named;

@@ -20,7 +20,7 @@ use Rattle.corral.proofs.Greatest.{IsTotalOrder, has_greatest}
 use Rattle.corral.proofs.Supports.{vectors-weighted, all_vectors, supports_from_balanced}
 use Rattle.corral.proofs.Moments.{common_slack, below_common, mass_positive, no_less_trans, greater_trans, not_both}
 use Rattle.corral.proofs.SmallSteps.{scaled_items, vectors-scaled, weights-scaled, has_step}
-use Rattle.corral.proofs.Places.{place}
+use Rattle.corral.proofs.InsertedItems.{insert}
 use Rattle.corral.proofs.Walk.{IsSolvedWith, AreAllSolvedWith, SupportedPart, items_on, mass_of, supported_in_more, walk_with}
 
 -- ---- what a part offers

@@ -43,9 +43,9 @@ IsNear dim place items a b = IsVectorWithin (difference_limit dim) (vector (item
 -- the supports on the chosen candidates, none of all candidates being low under them
 pub record IsFound (dim : ℕ) (quadratic : ℤ) (all chosen : List Candidate) (b : Balance) : Type 0 where
   pub is_part : IsPart chosen all
-  pub named : names b.held.items ≡ candidate_names chosen
-  pub balance : IsBalance dim quadratic (weighted (weights b.held.items) (vectors chosen)) b
-  pub none_low : All (λ v. ¬ IsLow quadratic (weighted (weights b.held.items) (vectors chosen)) v) (vectors all)
+  pub named : names b.members.items ≡ candidate_names chosen
+  pub balance : IsBalance dim quadratic (weighted (weights b.members.items) (vectors chosen)) b
+  pub none_low : All (λ v. ¬ IsLow quadratic (weighted (weights b.members.items) (vectors chosen)) v) (vectors all)
 
 -- each part that begins with the chosen ones and goes on with some of the rest is refuted
 abbrev pub AreRefuted : ℤ → List Candidate → List Candidate → List Candidate → Type 0

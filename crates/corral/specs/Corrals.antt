@@ -12,9 +12,9 @@ abbrev pub all_items : {K T P : Type 0} {g h : _} → Corral K T P g h → Items
 all_items corral = corral.items
 
 -- the supports, in order
-abbrev pub held_in : {K T P : Type 0} {g h : _} → Corral K T P g h → List WeightedItem
-held_in corral = corral.balance.held.items
+abbrev pub members_in : {K T P : Type 0} {g h : _} → Corral K T P g h → List WeightedItem
+members_in corral = corral.balance.members.items
 
 -- the weighted vectors of the supports
 abbrev pub supports_in : {K T P : Type 0} {g h : _} → (P → SpacePoint) → Corral K T P g h → List WeightedVector
-supports_in place corral = weighted_items place corral.items corral.balance.held.items
+supports_in place corral = weighted_items place corral.items corral.balance.members.items

@@ -10,4 +10,4 @@ items_of s = s.items
 
 -- the supports, in order
 abbrev pub supports_of : {K P : Type 0} {g : _} → Support K P g → List WeightedItem
-supports_of s = s.held.items
+supports_of s = s.members.items

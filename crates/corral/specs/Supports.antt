@@ -1,4 +1,4 @@
--- Supports: weighted vectors of equal slack that hold a ball, or the distance of two hulls, in place.
+-- Supports: weighted vectors of equal slack that determine a ball, or the distance of two hulls.
 use Rattle.std.specs.Prelude.{◌≡◌, ◌⊎◌, ◌≤◌, ℤ, pos, ◌≤ℤ◌, ◌<ℤ◌, List, All, length, map}
 use Rattle.integers.specs.Total.{total}
 use Rattle.bounds_model.specs.Space.{SpacePoint}

@@ -43,7 +43,7 @@ impl Default for Candidate {
 /// Items with weights under which they have one slack, and what slacks are computed from.
 #[derive(Drop)]
 pub(crate) struct Balance {
-    pub(crate) held: ArrayVec<WeightedItem, 4>,
+    pub(crate) members: ArrayVec<WeightedItem, 4>,
     pub(crate) moments: Moments,
     /// The slack of each of the items.
     pub(crate) level: i128,
@@ -106,7 +106,7 @@ fn settled<K: Kernel, T: Potential>(
         return None;
     }
     Some(Balance {
-        held: weighted(part, weights),
+        members: weighted(part, weights),
         moments,
         level,
     })
@@ -172,12 +172,12 @@ fn weighted(part: &[Candidate], weights: &[i128]) -> ArrayVec<WeightedItem, 4>
     ensures names { names result.items ≡ candidate_names part.now }
     ensures weights { weights_of result.items ≡ weights.now }
 {
-    let mut held = ArrayVec::new();
+    let mut members = ArrayVec::new();
     for i in 0..part.len() {
-        held.push(WeightedItem {
+        members.push(WeightedItem {
             id: part[i].id,
             weight: weights[i] as u128,
         });
     }
-    held
+    members
 }

@@ -17,7 +17,7 @@ use kernel_laws::{Kernel, Potential};
 pub fn settle<'a, K: Kernel, T: Potential>(kernel: K, items: Items<'a, K>) -> Support<'a, K>
     requires { T.SQUARE ≡ square_of items }
     ensures items { items_of result ≡ items.entry }
-    ensures held { AreSupportItems K.DIM items.entry (supports_of result) }
+    ensures members { AreSupportItems K.DIM items.entry (supports_of result) }
     ensures supports { AreSupports T.SQUARE (weighted_items K.place items.entry (supports_of result)) }
     ensures limit { mass (weighted_items K.place items.entry (supports_of result)) ≤ℤ pos (weight_limit T.SQUARE K.DIM) }
     ensures none_low { (id : _) → IsItem items.entry id

@@ -13,12 +13,12 @@ pub(crate) struct WeightedItem {
     pub(crate) weight: u128,
 }
 
-/// Supports: 1 to DIM + 1 items with weights, which hold a ball, or the distance of two hulls, in place.
+/// Supports: 1 to DIM + 1 items with weights, which determine a ball, or the distance of two hulls.
 #[derive(Drop)]
 pub struct Support<'a, K: Kernel> {
     items: Items<'a, K>,
-    held: ArrayVec<WeightedItem, 4>,
-    ghost are_held: { AreSupportItems K.DIM items held.items } by { AreSupportItems-prop K.DIM items held.items },
+    members: ArrayVec<WeightedItem, 4>,
+    ghost are_members: { AreSupportItems K.DIM items members.items } by { AreSupportItems-prop K.DIM items members.items },
 }
 
 impl<'a, K: Kernel> Support<'a, K> {
@@ -26,12 +26,12 @@ impl<'a, K: Kernel> Support<'a, K> {
     ghost use Rattle.corral.specs.Supported.{items_of, supports_of};
 
     /// Supports among these items.
-    pub(crate) fn new(items: Items<'a, K>, held: ArrayVec<WeightedItem, 4>) -> Self
-        requires { AreSupportItems K.DIM items held.items }
+    pub(crate) fn new(items: Items<'a, K>, members: ArrayVec<WeightedItem, 4>) -> Self
+        requires { AreSupportItems K.DIM items members.items }
         ensures items { items_of result ≡ items.entry }
-        ensures supports { supports_of result ≡ held.items }
+        ensures supports { supports_of result ≡ members.items }
     {
-        Support { items, held }
+        Support { items, members }
     }
 
     /// How many there are.
@@ -40,7 +40,7 @@ impl<'a, K: Kernel> Support<'a, K> {
         ensures some { 1 ≤ result }
         ensures few { result ≤ K.DIM + 1 }
     {
-        self.held.len() as u32
+        self.members.len() as u32
     }
 
     /// The name of support i.
@@ -48,7 +48,7 @@ impl<'a, K: Kernel> Support<'a, K> {
         requires { i < length (supports_of self.now) }
         ensures { slice_get (map (λ s. s.id) (supports_of self.now)) i ≡ Some result }
     {
-        self.held[i as usize].id
+        self.members[i as usize].id
     }
 
     /// The weight of support i.
@@ -56,7 +56,7 @@ impl<'a, K: Kernel> Support<'a, K> {
         requires { i < length (supports_of self.now) }
         ensures { slice_get (map (λ s. s.weight) (supports_of self.now)) i ≡ Some result }
     {
-        self.held[i as usize].weight
+        self.members[i as usize].weight
     }
 
     /// The point of support i, or the point of p where it is a difference.
@@ -64,7 +64,7 @@ impl<'a, K: Kernel> Support<'a, K> {
         requires { i < length (supports_of self.now) }
         ensures { IsSomeAnd (slice_get (supports_of self.now) i) (λ s. slice_get (first_points (items_of self.now)) s.id.first ≡ Some result.now) }
     {
-        self.items.first(self.held[i as usize].id)
+        self.items.first(self.members[i as usize].id)
     }
 
     /// The point of support i, or the point of q where it is a difference.
@@ -72,6 +72,6 @@ impl<'a, K: Kernel> Support<'a, K> {
         requires { i < length (supports_of self.now) }
         ensures { IsSomeAnd (slice_get (supports_of self.now) i) (λ s. slice_get (second_points (items_of self.now)) s.id.second ≡ Some result.now) }
     {
-        self.items.second(self.held[i as usize].id)
+        self.items.second(self.members[i as usize].id)
     }
 }

@@ -28,12 +28,12 @@ pub struct Corral<'a, K: Kernel, T: Potential> {
     balance: Balance,
     slack: PhantomData<T>,
     ghost suited: { T.SQUARE ≡ square_of items },
-    ghost held: { AreSupportItems K.DIM items balance.held.items } by { AreSupportItems-prop K.DIM items balance.held.items },
-    ghost balanced: { IsBalance K.DIM T.SQUARE (weighted_items K.place items balance.held.items) balance },
+    ghost members: { AreSupportItems K.DIM items balance.members.items } by { AreSupportItems-prop K.DIM items balance.members.items },
+    ghost balanced: { IsBalance K.DIM T.SQUARE (weighted_items K.place items balance.members.items) balance },
 }
 
 impl<'a, K: Kernel, T: Potential> Corral<'a, K, T> {
-    ghost use Rattle.corral.specs.Corrals.{all_items, held_in, supports_in};
+    ghost use Rattle.corral.specs.Corrals.{all_items, members_in, supports_in};
     ghost use Rattle.corral.specs.Supported.{items_of, supports_of};
 
     /// The one item with the weight 1.
@@ -42,18 +42,18 @@ impl<'a, K: Kernel, T: Potential> Corral<'a, K, T> {
         requires suited { T.SQUARE ≡ square_of items }
         ensures kernel { result.kernel ≡ kernel }
         ensures items { all_items result ≡ items.entry }
-        ensures support { held_in result ≡ record { id = id; weight = 1 } ∷ [] }
+        ensures support { members_in result ≡ record { id = id; weight = 1 } ∷ [] }
     {
         let vector = items.vector(&kernel, id);
         let moments = Moments::none().with(1, vector);
         let level = moments.slack::<K, T>(&kernel, vector);
-        let mut held = ArrayVec::new();
-        held.push(WeightedItem { id, weight: 1 });
+        let mut members = ArrayVec::new();
+        members.push(WeightedItem { id, weight: 1 });
         Corral {
             kernel,
             items,
             balance: Balance {
-                held,
+                members,
                 moments,
                 level,
             },
@@ -93,9 +93,9 @@ impl<'a, K: Kernel, T: Potential> Corral<'a, K, T> {
         requires low { IsLow T.SQUARE (supports_in K.place self.old) (item K.place (all_items self.old) id) }
         ensures kernel { self.new.kernel ≡ self.old.kernel }
         ensures items { all_items self.new ≡ all_items self.old }
-        ensures part { IsPart (names (held_in self.new)) (id ∷ names (held_in self.old)) }
+        ensures part { IsPart (names (members_in self.new)) (id ∷ names (members_in self.old)) }
         ensures none_low { All (λ other. ¬ IsLow T.SQUARE (supports_in K.place self.new) (item K.place (all_items self.new) other))
-            (id ∷ names (held_in self.old)) }
+            (id ∷ names (members_in self.old)) }
         ensures risen { IsBelow (value T.SQUARE (supports_in K.place self.old)) (value T.SQUARE (supports_in K.place self.new)) }
     {
         let all = self.candidates(id);
@@ -109,13 +109,13 @@ impl<'a, K: Kernel, T: Potential> Corral<'a, K, T> {
     /// The item of this name, and the supports.
     fn candidates(&self, id: Id) -> ArrayVec<Candidate, 5>
         requires { IsItem (all_items self.now) id }
-        ensures names { candidate_names result.items ≡ id ∷ names (held_in self.now) }
+        ensures names { candidate_names result.items ≡ id ∷ names (members_in self.now) }
         ensures vectors { AreCandidates K.place (all_items self.now) result.items }
         ensures items { AreItems T.SQUARE K.DIM (vectors result.items) }
     {
         let mut all = ArrayVec::new();
         all.push(self.candidate(id));
-        'fill: for support in self.balance.held.as_slice() {
+        'fill: for support in self.balance.members.as_slice() {
             all.push(self.candidate(support.id));
         }
         self.near_pairs(all.as_slice());
@@ -163,8 +163,8 @@ impl<'a, K: Kernel, T: Potential> Corral<'a, K, T> {
     /// The supports as they stand.
     pub(crate) fn into_support(self) -> Support<'a, K>
         ensures items { items_of result ≡ all_items self.entry }
-        ensures supports { supports_of result ≡ held_in self.entry }
+        ensures supports { supports_of result ≡ members_in self.entry }
     {
-        Support::new(self.items, self.balance.held)
+        Support::new(self.items, self.balance.members)
     }
 }

@@ -5,7 +5,7 @@ use Rattle.std.proofs.lemmas.Int.{ints}
 use Rattle.bounds_model.specs.Numbers.{IsWithin}
 use Rattle.bounds_model.specs.Plane.{PlanePoint, point_at, dot}
 use Rattle.bounds_model.specs.Strip.{Span, IsInSpan, extent}
-use Rattle.bounds_model.specs.Places.{IsPair, IsSpan}
+use Rattle.bounds_model.specs.Ranges.{IsDirection, IsSpan}
 use Rattle.bounds_model.specs.Fans.{AreExtreme, IsShort, reach}
 use Rattle.bounds_model.specs.StripAnswer.{IsShortSpan}
 use Rattle.directions.proofs.Reading.{reach_parts}
@@ -15,8 +15,8 @@ pub within_more : {m n : ℕ} {z : ℤ} → IsWithin m z → T (leb m n) → IsW
 within_more {m} {n} h t = let l = leb→le m n t in record { low = omega (arith, ints, h.low); high = omega (arith, ints, h.high) }
 
 -- a short direction
-pub short_pair : (d : PlanePoint) → IsShort d → IsPair d
-short_pair d h = record { x = within_more h.x tt; y = within_more h.y tt }
+pub direction_of_short : (d : PlanePoint) → IsShort d → IsDirection d
+direction_of_short d h = record { x = within_more h.x tt; y = within_more h.y tt }
 
 -- short bounds
 pub short_span : (span : Span) → IsShortSpan span → IsSpan span

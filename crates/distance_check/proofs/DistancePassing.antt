@@ -8,7 +8,7 @@ use Rattle.integers.proofs.Identities.{den-ring, read, polys}
 use Rattle.integers.proofs.Order.{nonneg_add, nonneg_difference, le_by}
 use Rattle.bounds_model.specs.Space.{SpacePoint, point_at, vector, dot, SamePlace}
 use Rattle.bounds_model.specs.Fractions.{SameValue}
-use Rattle.bounds_model.specs.Places.{IsFraction, IsSpaceRatio}
+use Rattle.bounds_model.specs.Ranges.{IsFraction, IsSpaceRatio}
 use Rattle.bounds_model.specs.AnnulusAnswer as model
 use Rattle.bounds_model.specs.AnnulusAnswer.{pair_sum}
 use Rattle.bounds_model.specs.DistanceAnswer.{DistanceAnswer, difference, pull, first_product, IsDirectionOf, PassesDistance}
@@ -17,10 +17,10 @@ use Rattle.answers.specs.Answers.{pair_of}
 use Rattle.pair_sums.specs.declared.sums.PairSums.{PairSums}
 use Rattle.pair_sums.specs.Sums.{AreSums, pull_of}
 use Rattle.pair_sums.specs.Means.{mean_of, product_ratio}
-use Rattle.pair_sums.proofs.PairWeights.{in_places}
+use Rattle.pair_sums.proofs.PairWeights.{in_ranges}
 use Rattle.pair_sums.proofs.Products.{pull_is, first_product_is, product_ratio_is, product_nonneg}
 use Rattle.pair_sums.proofs.WeightedMeans.{first_mean_is, second_mean_is}
-use Rattle.distance_check.specs.HeldDistances.{HasPairLimits, ArePairSums, IsShown, AreNumbers}
+use Rattle.distance_check.specs.DeterminedDistances.{HasPairLimits, ArePairSums, IsShown, AreNumbers}
 use Rattle.distance_check.proofs.PairLimits.{no_pair, some_pairs, at_number}
 use Rattle.integers.proofs.Lists.{All-unmap, at_point, clash}
 
@@ -125,13 +125,13 @@ shown_by {ps} {qs} {pairs} {s} {first} {second} a is c =
     let all = subst (λ ps1. IsShownBy ps qs pairs a s first second ↔ IsShown ps qs (record { size = a.size; from = a.from; to = a.to; direction = a.direction; pairs = ps1 })) (sym is) (
       λ h. record {
         same_products = same_products_by c h.level;
-        size_place = h.size.0;
+        size_in_range = h.size.0;
         size = subst (SameValue a.size) (ratio_is c) h.size.1;
-        from_place = h.from.0;
+        from_in_range = h.from.0;
         from = subst (SamePlace a.from) (first_mean_is c.sums) h.from.1;
-        to_place = h.to.0;
+        to_in_range = h.to.0;
         to = subst (SamePlace a.to) (second_mean_is c.sums) h.to.1;
-        direction_place = h.direction.0;
+        direction_in_range = h.direction.0;
         direction = subst (λ v. IsDirectionOf v a.direction) (pull_is c.sums) h.direction.1;
         no_smaller = subst (λ e. All (λ p. All (λ q. e ≤ℤ dot v (vector q p)) qs) ps) (sym (product_is c))
             (no_smaller_by ps qs v first second (subst (λ v. All (λ p. pos 0 ≤ℤ dot v (vector first p)) ps) (pull_is c.sums) h.before) (subst (λ v. All (λ q. pos 0 ≤ℤ dot v (vector q second)) qs) (pull_is c.sums) h.beyond));
@@ -140,10 +140,10 @@ shown_by {ps} {qs} {pairs} {s} {first} {second} a is c =
           let none = subst (λ e. All (λ p. All (λ q. e ≤ℤ dot v (vector q p)) qs) ps) (product_is c) h.no_smaller in
           record {
             level = level_by c h.same_products;
-            size = (h.size_place, subst (SameValue a.size) (sym (ratio_is c)) h.size);
-            from = (h.from_place, subst (SamePlace a.from) (sym (first_mean_is c.sums)) h.from);
-            to = (h.to_place, subst (SamePlace a.to) (sym (second_mean_is c.sums)) h.to);
-            direction = (h.direction_place, subst (λ v. IsDirectionOf v a.direction) (sym (pull_is c.sums)) h.direction);
+            size = (h.size_in_range, subst (SameValue a.size) (sym (ratio_is c)) h.size);
+            from = (h.from_in_range, subst (SamePlace a.from) (sym (first_mean_is c.sums)) h.from);
+            to = (h.to_in_range, subst (SamePlace a.to) (sym (second_mean_is c.sums)) h.to);
+            direction = (h.direction_in_range, subst (λ v. IsDirectionOf v a.direction) (sym (pull_is c.sums)) h.direction);
             before = subst (λ v. All (λ p. pos 0 ≤ℤ dot v (vector first p)) ps) (sym (pull_is c.sums)) (none_before_by ps qs v first second (get_or pairs 0 no_pair).second c.names_second none);
             beyond = subst (λ v. All (λ q. pos 0 ≤ℤ dot v (vector q second)) qs) (sym (pull_is c.sums)) (none_beyond_by ps qs v first second (get_or pairs 0 no_pair).first c.names_first none);
           },
@@ -154,22 +154,22 @@ shown_by {ps} {qs} {pairs} {s} {first} {second} a is c =
 
 -- an answer that passes has pairs within their limits
 pub distance_limits : (ps qs : List SpacePoint) (a : DistanceAnswer) → PassesDistance ps qs a → HasPairLimits (length ps) (length qs) a.pairs
-distance_limits ps qs a p = record { some = p.places.count.at_least; numbers = p.numbers; weights = p.weights; weight_limit = p.weight_limit }
+distance_limits ps qs a p = record { some = p.ranges.count.at_least; numbers = p.numbers; weights = p.weights; weight_limit = p.weight_limit }
 
 -- and where they are, what they show decides
 pub distance_decided : {yes : Bool} (ps qs : List SpacePoint) (a : DistanceAnswer) → length ps ≤ 10000 → length qs ≤ 10000 → length a.pairs ≤ 4 → HasPairLimits (length ps) (length qs) a.pairs
     → (IsTrue yes ↔ IsShown ps qs a) → IsTrue yes ↔ PassesDistance ps qs a
 distance_decided ps qs a few_first few_second four limits test = (
   λ t. let shown = test.0 t in record {
-    places = record {
-      size = shown.size_place;
-      from = shown.from_place;
-      to = shown.to_place;
-      direction_x = shown.direction_place.x;
-      direction_y = shown.direction_place.y;
-      direction_z = shown.direction_place.z;
+    ranges = record {
+      size = shown.size_in_range;
+      from = shown.from_in_range;
+      to = shown.to_in_range;
+      direction_x = shown.direction_in_range.x;
+      direction_y = shown.direction_in_range.y;
+      direction_z = shown.direction_in_range.z;
       count = record { at_least = limits.some; at_most = four };
-      pairs = in_places (length ps) (length qs) a.pairs few_first few_second limits.numbers limits.weights limits.weight_limit;
+      pairs = in_ranges (length ps) (length qs) a.pairs few_first few_second limits.numbers limits.weights limits.weight_limit;
     };
     numbers = limits.numbers;
     weights = limits.weights;
@@ -183,13 +183,13 @@ distance_decided ps qs a few_first few_second four limits test = (
   },
   λ p. test.1 (record {
     same_products = p.same_products;
-    size_place = p.places.size;
+    size_in_range = p.ranges.size;
     size = p.size;
-    from_place = p.places.from;
+    from_in_range = p.ranges.from;
     from = p.from;
-    to_place = p.places.to;
+    to_in_range = p.ranges.to;
     to = p.to;
-    direction_place = record { x = p.places.direction_x; y = p.places.direction_y; z = p.places.direction_z };
+    direction_in_range = record { x = p.ranges.direction_x; y = p.ranges.direction_y; z = p.ranges.direction_z };
     direction = p.direction;
     no_smaller = p.no_smaller;
   }),
@@ -200,7 +200,7 @@ distance_decided ps qs a few_first few_second four limits test = (
 -- the sums of pairs within their limits, and the points that the first of them names
 pub first_by : {m n : ℕ} {ps qs : List SpacePoint} {pairs : List WeightedPair} {s : PairSums} {first second : SpacePoint} → HasPairLimits m n (map pair_of pairs) → ArePairSums ps qs (map pair_of pairs) s
     → slice_get ps (get_or pairs 0 no_pair).first ≡ Some first → slice_get qs (get_or pairs 0 no_pair).second ≡ Some second → AreFirst ps qs pairs s first second
-first_by {pairs = pairs} limits held first second = record { sums = held.sums; some = limits.some; there = some_pairs pairs limits.some; names_first = first; names_second = second }
+first_by {pairs = pairs} limits totals first second = record { sums = totals.sums; some = limits.some; there = some_pairs pairs limits.some; names_first = first; names_second = second }
 
 -- where all differences have one product, it is not below 0
 pub level_nonneg : {ps qs : List SpacePoint} {pairs : List WeightedPair} {s : PairSums} {first second : SpacePoint} → 1 ≤ s.weight → AreFirst ps qs pairs s first second

@@ -13,7 +13,7 @@ use Rattle.bounds_model.specs.AnnulusAnswer.{pair_sum}
 use Rattle.answers.specs.declared.pairs.WeightedPair.{WeightedPair}
 use Rattle.answers.specs.Answers.{pair_of}
 use Rattle.pair_sums.proofs.PairWeights.{weights_of_some}
-use Rattle.distance_check.specs.HeldDistances.{HasPairLimits}
+use Rattle.distance_check.specs.DeterminedDistances.{HasPairLimits}
 use Rattle.integers.proofs.Lists.{All-unmap}
 
 -- what is read past the end of a list of pairs

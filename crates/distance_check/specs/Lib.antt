@@ -1,1 +1,1 @@
-pub mod HeldDistances
+pub mod DeterminedDistances

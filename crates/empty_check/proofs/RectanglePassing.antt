@@ -4,7 +4,7 @@ use Rattle.std.proofs.lemmas.Int.{ints}
 use Rattle.bounds_model.specs.Numbers.{IsWithin}
 use Rattle.bounds_model.specs.Plane.{PlanePoint}
 use Rattle.bounds_model.specs.Fractions.{Fraction, SameValue}
-use Rattle.bounds_model.specs.Places.{IsFraction, IsNumber, point_limit}
+use Rattle.bounds_model.specs.Ranges.{IsFraction, IsNumber, point_limit}
 use Rattle.bounds_model.specs.EmptyRectangle.{Box, IsFrame, area, empty_size}
 use Rattle.bounds_model.specs.EmptyAnswer.{Blocker, EmptyAnswer, IsBlockerBelow, NoneLarger, PassesEmpty, empty_of}
 use Rattle.bounds_model.specs.EmptyAnswer.Blocker.{side, point}
@@ -45,9 +45,9 @@ frame_made frame box built (Some f) is same l l2 r r2 b b2 t t2 decides value =
 
 -- a size in lowest terms is the area where it has its value
 pub area_printed : (a : EmptyAnswer) (m : ℕ) → m < 2 ^ 64 → pos m ≡ area a.box → IsFraction a.size → SameValue a.size (empty_size (empty_of a)) → a.size ≡ record { n = pos m; d = pos 1 }
-area_printed a m below is place same =
+area_printed a m below is range same =
     let whole = whole_fraction m (omega (arith, below)) in
-    fraction_unique a.size (record { n = pos m; d = pos 1 }) place.lowest whole.lowest (subst (λ z. SameValue a.size (record { n = z; d = pos 1 })) (sym is) same)
+    fraction_unique a.size (record { n = pos m; d = pos 1 }) range.lowest whole.lowest (subst (λ z. SameValue a.size (record { n = z; d = pos 1 })) (sym is) same)
 
 -- and has its value where it is the area
 pub area_valued : (a : EmptyAnswer) (m : ℕ) → m < 2 ^ 64 → pos m ≡ area a.box → a.size ≡ record { n = pos m; d = pos 1 } → IsFraction a.size × SameValue a.size (empty_size (empty_of a))
@@ -58,12 +58,12 @@ area_valued a m below is printed = (
 
 -- ---- the conditions
 
--- the number of a point is in its place
-blocker_place : (count : ℕ) (by : Blocker) → count ≤ 10000 → IsBlockerBelow count by → IsBlockerBelow (point_limit + 1) by
-blocker_place count side few below = tt
-blocker_place count (point number) few below = omega (arith, few, below)
+-- the number of a point is in its range
+blocker_in_range : (count : ℕ) (by : Blocker) → count ≤ 10000 → IsBlockerBelow count by → IsBlockerBelow (point_limit + 1) by
+blocker_in_range count side few below = tt
+blocker_in_range count (point number) few below = omega (arith, few, below)
 
--- a coordinate in a frame is in its place
+-- a coordinate in a frame is in its range
 number_in : {z low high : ℤ} → IsWithin 200000 low → IsWithin 200000 high → low ≤ℤ z → z ≤ℤ high → IsNumber z
 number_in {z} {low} {high} h k a b = within_more {m = 200000} (record { low = omega (arith, ints, h.low); high = omega (arith, ints, k.high) }) tt
 
@@ -72,16 +72,16 @@ pub restricted_passes : (frame : Box) (points : List PlanePoint) (a : EmptyAnswe
 restricted_passes frame points a is few r = (
   λ p. p.none_larger,
   λ none. record {
-    places = record {
-      size = r.size_place;
+    ranges = record {
+      size = r.size_in_range;
       box_left = number_in is.left is.right r.inside.in_left (omega (arith, ints, r.inside.wide, r.inside.in_right));
       box_bottom = number_in is.bottom is.top r.inside.in_bottom (omega (arith, ints, r.inside.high, r.inside.in_top));
       box_right = number_in is.left is.right (omega (arith, ints, r.inside.in_left, r.inside.wide)) r.inside.in_right;
       box_top = number_in is.bottom is.top (omega (arith, ints, r.inside.in_bottom, r.inside.high)) r.inside.in_top;
-      left = blocker_place (length points) a.left few r.numbers.left;
-      bottom = blocker_place (length points) a.bottom few r.numbers.bottom;
-      right = blocker_place (length points) a.right few r.numbers.right;
-      top = blocker_place (length points) a.top few r.numbers.top;
+      left = blocker_in_range (length points) a.left few r.numbers.left;
+      bottom = blocker_in_range (length points) a.bottom few r.numbers.bottom;
+      right = blocker_in_range (length points) a.right few r.numbers.right;
+      top = blocker_in_range (length points) a.top few r.numbers.top;
     };
     numbers = r.numbers;
     in_left = r.inside.in_left;
@@ -100,7 +100,7 @@ restricted_passes frame points a is few r = (
 -- one that passes is all right for itself
 pub passing_is_restricted : (frame : Box) (points : List PlanePoint) (a : EmptyAnswer) → PassesEmpty frame points a → IsRestricted frame points a
 passing_is_restricted frame points a p = record {
-  size_place = p.places.size;
+  size_in_range = p.ranges.size;
   inside = record { in_left = p.in_left; wide = p.wide; in_right = p.in_right; in_bottom = p.in_bottom; high = p.high; in_top = p.in_top };
   numbers = p.numbers;
   size = p.size;

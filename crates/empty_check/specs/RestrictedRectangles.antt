@@ -3,9 +3,9 @@ use Rattle.std.specs.Prelude.{◌≡◌, ℕ, pos, ◌≤ℤ◌, ◌<ℤ◌, Lis
 use Rattle.bounds_model.specs.Plane.{PlanePoint}
 use Rattle.bounds_model.specs.Asks.{Sets, plane, bare}
 use Rattle.bounds_model.specs.Fractions.{SameValue}
-use Rattle.bounds_model.specs.Places.{IsFraction}
+use Rattle.bounds_model.specs.Ranges.{IsFraction}
 use Rattle.bounds_model.specs.EmptyRectangle.{Box, empty_size}
-use Rattle.bounds_model.specs.EmptyAnswer.{Blocker, EmptyAnswer, empty_of, NamesBlockers, IsEmpty, BlocksUpright, BlocksLevel, AreBlocked}
+use Rattle.bounds_model.specs.EmptyAnswer.{Blocker, EmptyAnswer, empty_of, NamesBlockers, IsEmpty, BlocksVertical, BlocksLevel, AreBlocked}
 use Rattle.bounded_coords.specs.declared.cloud.Cloud.{Cloud}
 use Rattle.bounded_coords.specs.Clouds.{points_of}
 
@@ -25,7 +25,7 @@ pub record LiesIn (frame box : Box) : Type 0 where
 
 -- the rectangle lies in the frame, is as large as printed, and has no point strictly inside it, and each side rests on what the answer says
 pub record IsRestricted (frame : Box) (points : List PlanePoint) (a : EmptyAnswer) : Type 0 where
-  pub size_place : IsFraction a.size
+  pub size_in_range : IsFraction a.size
   pub inside : LiesIn frame a.box
   pub numbers : NamesBlockers points a
   pub size : SameValue a.size (empty_size (empty_of a))
@@ -37,9 +37,9 @@ abbrev pub IsRestrictedTo : Box → List PlanePoint → EmptyAnswer → ℕ → 
 IsRestrictedTo frame points a size = IsRestricted frame points a × (a.size ≡ record { n = pos size; d = pos 1 })
 
 -- the left side and the right side of the box rest on these
-abbrev pub RestUpright : Box → List PlanePoint → Box → Blocker → Blocker → Type 0
-RestUpright frame points box left right = BlocksUpright points frame.left box.left box.bottom box.top left
-    × BlocksUpright points frame.right box.right box.bottom box.top right
+abbrev pub RestVertical : Box → List PlanePoint → Box → Blocker → Blocker → Type 0
+RestVertical frame points box left right = BlocksVertical points frame.left box.left box.bottom box.top left
+    × BlocksVertical points frame.right box.right box.bottom box.top right
 
 -- the bottom and the top of the box rest on these
 abbrev pub RestLevel : Box → List PlanePoint → Box → Blocker → Blocker → Type 0

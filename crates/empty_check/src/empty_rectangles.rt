@@ -1,14 +1,14 @@
-//! Empty rectangles: an upright rectangle in a frame with no point strictly inside it, than which none is larger.
+//! Empty rectangles: an axis-parallel rectangle in a frame with no point strictly inside it, than which none is larger.
 ghost use Rattle.std.specs.Prelude.{◌≡◌, ◌↔◌, ◌<◌, ◌^◌, pos, ◌-ℤ◌, ◌≤ℤ◌, ◌<ℤ◌, length, IsTrue, IfOk, MatchOption};
 ghost use Rattle.bounds_model.specs.Plane.{point_at};
 ghost use Rattle.bounds_model.specs.EmptyRectangle.{IsStrictlyInside, area};
-ghost use Rattle.bounds_model.specs.EmptyAnswer.{IsBlockerBelow, NamesBlockers, IsEmpty, BlocksUpright, BlocksLevel, AreBlocked};
+ghost use Rattle.bounds_model.specs.EmptyAnswer.{IsBlockerBelow, NamesBlockers, IsEmpty, BlocksVertical, BlocksLevel, AreBlocked};
 ghost use Rattle.bounds_model.specs.Asks.{ask_empty};
 ghost use Rattle.bounds_model.specs.Answers.{Passes, IsBest, empty};
 ghost use Rattle.bounded_coords.specs.Clouds.{points_of};
 ghost use Rattle.answers.specs.Answers.{blocker_of, empty_of};
 ghost use Rattle.empty_rectangle.specs.Points.{points_in};
-ghost use Rattle.empty_check.specs.RestrictedRectangles.{sets_of, LiesIn, IsRestricted, IsRestrictedTo, RestUpright, RestLevel};
+ghost use Rattle.empty_check.specs.RestrictedRectangles.{sets_of, LiesIn, IsRestricted, IsRestrictedTo, RestVertical, RestLevel};
 
 use answers::{Blocker, EmptyAnswer};
 use bounded_coords::{Cloud2, Frame, OutOfMemory, Point2};
@@ -19,7 +19,7 @@ use std::alloc::Global;
 
 /// Whether the rectangle lies in the frame, has no point strictly inside it and the printed area, rests with each side on what
 /// the answer says, and no other one is larger (CGAL manual, Inscribed Areas, `Largest_empty_iso_rectangle_2`). The points show
-/// that: between every two heights no gap from one place to the next has more than the area. Memory is wanted for that test alone,
+/// that: between every two heights no gap from one x to the next has more than the area. Memory is wanted for that test alone,
 /// and want of memory is the only error.
 pub fn check_empty(
     alloc: Global,
@@ -173,7 +173,7 @@ fn is_inside(p: &Point2, rectangle: Frame) -> bool
     is_across(p, rectangle) && is_along(p, rectangle)
 }
 
-/// Whether the point is strictly between the upright sides.
+/// Whether the point is strictly between the vertical sides.
 fn is_across(p: &Point2, rectangle: Frame) -> bool
     ensures { IsTrue result ↔ ((rectangle.left <ℤ p.now.x) × (p.now.x <ℤ rectangle.right)) }
 {
@@ -194,12 +194,12 @@ fn are_blocked(cloud: Option<Cloud2<'_>>, frame: Frame, rectangle: Frame, a: &Em
     requires { NamesBlockers (points_in cloud) (empty_of a.now) }
     ensures { IsTrue result ↔ AreBlocked frame (points_in cloud.entry) (record (empty_of a.now) { box = rectangle }) }
 {
-    rest_upright(cloud, frame, rectangle, a.left, a.right)
+    rest_vertical(cloud, frame, rectangle, a.left, a.right)
         && rest_level(cloud, frame, rectangle, a.bottom, a.top)
 }
 
 /// Whether the left side and the right side rest on these.
-fn rest_upright(
+fn rest_vertical(
     cloud: Option<Cloud2<'_>>,
     frame: Frame,
     rectangle: Frame,
@@ -208,10 +208,10 @@ fn rest_upright(
 ) -> bool
     requires left { IsBlockerBelow (length (points_in cloud)) (blocker_of left) }
     requires right { IsBlockerBelow (length (points_in cloud)) (blocker_of right) }
-    ensures { IsTrue result ↔ RestUpright frame (points_in cloud.entry) rectangle (blocker_of left) (blocker_of right) }
+    ensures { IsTrue result ↔ RestVertical frame (points_in cloud.entry) rectangle (blocker_of left) (blocker_of right) }
 {
-    rests_upright(cloud, left, rectangle.l(), frame.l(), rectangle)
-        && rests_upright(cloud, right, rectangle.r(), frame.r(), rectangle)
+    rests_vertical(cloud, left, rectangle.l(), frame.l(), rectangle)
+        && rests_vertical(cloud, right, rectangle.r(), frame.r(), rectangle)
 }
 
 /// Whether the bottom and the top rest on these.
@@ -230,8 +230,8 @@ fn rest_level(
         && rests_level(cloud, top, rectangle.t(), frame.t(), rectangle)
 }
 
-/// Whether an upright side of the rectangle, at x, is on the frame's, or goes through the point between its ends.
-fn rests_upright(
+/// Whether a vertical side of the rectangle, at x, is on the frame's, or goes through the point between its ends.
+fn rests_vertical(
     cloud: Option<Cloud2<'_>>,
     by: Blocker,
     x: i32,
@@ -239,7 +239,7 @@ fn rests_upright(
     rectangle: Frame,
 ) -> bool
     requires { IsBlockerBelow (length (points_in cloud)) (blocker_of by) }
-    ensures { IsTrue result ↔ BlocksUpright (points_in cloud.entry) frame_x x rectangle.bottom rectangle.top (blocker_of by) }
+    ensures { IsTrue result ↔ BlocksVertical (points_in cloud.entry) frame_x x rectangle.bottom rectangle.top (blocker_of by) }
 {
     match by {
         Blocker::Side => x == frame_x,

@@ -11,7 +11,7 @@ use Rattle.empty_rectangle.specs.declared.obstacles.Obstacle.{Obstacle}
 use Rattle.empty_rectangle.specs.declared.obstacles.Extent.{Extent}
 use Rattle.empty_rectangle.specs.declared.rectangles.Edge.{Edge}
 use Rattle.empty_rectangle.specs.declared.rectangles.Rectangle.{Rectangle}
-use Rattle.empty_rectangle.specs.Rectangles.{IsBetween, IsFree, side, RestsUpright, RestsLevel, IsRestricted}
+use Rattle.empty_rectangle.specs.Rectangles.{IsBetween, IsFree, side, RestsVertical, RestsLevel, IsRestricted}
 use Rattle.empty_rectangle.specs.Seeds.{IsGap, NoneExceeds}
 use Rattle.empty_rectangle.specs.Points.{IsExtentOf, IsObstacleAt, IsObstacleOf, AreObstacles}
 use Rattle.empty_rectangle.specs.Answers.{box_of}
@@ -67,15 +67,15 @@ empty_from_free frame points extent obstacles l b r t of in_right in_top every f
 
 -- ---- none larger
 
--- a place for the left side: the frame's, or the x of an obstacle between the ends of the side
-abbrev LeftPlace : Box → List Obstacle → ℤ → ℤ → ℤ → Type 0
-LeftPlace frame obstacles left bottom top = (left ≡ frame.left) ⊎ ((s : Obstacle) × Contains obstacles s × (left ≡ (frame.left +ℤ pos s.x)) × (bottom <ℤ (frame.bottom +ℤ pos s.y)) × ((frame.bottom +ℤ pos s.y) <ℤ top))
+-- a may_be_left for the left side: the frame's, or the x of an obstacle between the ends of the side
+abbrev MayBeLeft : Box → List Obstacle → ℤ → ℤ → ℤ → Type 0
+MayBeLeft frame obstacles left bottom top = (left ≡ frame.left) ⊎ ((s : Obstacle) × Contains obstacles s × (left ≡ (frame.left +ℤ pos s.x)) × (bottom <ℤ (frame.bottom +ℤ pos s.y)) × ((frame.bottom +ℤ pos s.y) <ℤ top))
 
 -- no box in the frame with such a left side is larger than what no gap exceeds
 box_not_larger : (frame : Box) (points : List PlanePoint) (extent : Extent) (obstacles : List Obstacle) (most : ℕ) → IsExtentOf frame extent → All (IsObstacleOf frame points) obstacles → NoneExceeds obstacles extent most
-    → (left bottom right top : ℤ) → frame.left ≤ℤ left → right ≤ℤ frame.right → frame.bottom ≤ℤ bottom → top ≤ℤ frame.top → bottom <ℤ top → LeftPlace frame obstacles left bottom top
+    → (left bottom right top : ℤ) → frame.left ≤ℤ left → right ≤ℤ frame.right → frame.bottom ≤ℤ bottom → top ≤ℤ frame.top → bottom <ℤ top → MayBeLeft frame obstacles left bottom top
     → IsNotLarger points (record { n = pos most; d = pos 1 }) (record { left = left; bottom = bottom; right = right; top = top })
-box_not_larger frame points extent obstacles most of each none left bottom right top from_left to_right from_bottom to_top high place wide empty =
+box_not_larger frame points extent obstacles most of each none left bottom right top from_left to_right from_bottom to_top high may_be_left wide empty =
     let l = distance frame.left left from_left in
     let b = distance frame.bottom bottom from_bottom in
     let r = distance frame.left right (omega (arith, ints)) in
@@ -94,7 +94,7 @@ box_not_larger frame points extent obstacles most of each none left bottom right
           high = b_t;
           in_top = omega (arith, ints, at_t, to_top, of.height);
           free = free_from_empty frame points obstacles l b r t each (subst (IsEmpty points) same empty);
-          start = elim place [
+          start = elim may_be_left [
             | inl e ↦ inl (omega (arith, ints, e, at_l))
             | inr s ↦ inr (s.0, s.1, omega (arith, ints, s.2, at_l), omega (arith, ints, s.3, at_b), omega (arith, ints, s.4, at_t))
           ];
@@ -111,7 +111,7 @@ each_y frame points P high holds = record {
   inside = λ k d below inside. holds (get_or points k d).y (omega (arith, ints, inside.above_bottom)) (omega (arith, ints, inside.below_top));
 }
 
--- what holds from the left to the right holds of each place
+-- what holds from the left to the right holds of each may_be_left
 each_x : (band : Box) (points : List PlanePoint) (P : ℤ → Type 0) → band.left ≤ℤ band.right → ((x : ℤ) → x ≤ℤ band.right → P x) → EachX band points P
 each_x band points P wide holds = record {
   left = holds band.left wide;
@@ -119,7 +119,7 @@ each_x band points P wide holds = record {
   inside = λ k d below inside. holds (get_or points k d).x (omega (arith, ints, inside.before_right));
 }
 
--- no box between two heights from one place to the next is larger
+-- no box between two heights from one may_be_left to the next is larger
 pub NoneLarger-gaps : (frame : Box) (points : List PlanePoint) (extent : Extent) (obstacles : List Obstacle) (most : ℕ) → IsFrame frame → IsExtentOf frame extent → AreObstacles frame points points obstacles → NoneExceeds obstacles extent most → NoneLarger frame points (record { n = pos most; d = pos 1 })
 NoneLarger-gaps frame points extent obstacles most is of are none =
     each_y frame points (λ bottom. EachY frame points (λ top. bottom <ℤ top → NoneLargerInBand points size (record frame { bottom = bottom; top = top }))) (omega (arith, ints, is.high)) (λ bottom from_bottom _.
@@ -128,22 +128,22 @@ NoneLarger-gaps frame points extent obstacles most is of are none =
     size : Fraction
     size = record { n = pos most; d = pos 1 }
 
-    to_places : (bottom top left : ℤ) → frame.bottom ≤ℤ bottom → top ≤ℤ frame.top → bottom <ℤ top → frame.left ≤ℤ left → LeftPlace frame obstacles left bottom top
+    to_each_left : (bottom top left : ℤ) → frame.bottom ≤ℤ bottom → top ≤ℤ frame.top → bottom <ℤ top → frame.left ≤ℤ left → MayBeLeft frame obstacles left bottom top
         → EachX (record frame { bottom = bottom; top = top }) points (λ right. IsNotLarger points size (record { left = left; bottom = bottom; right = right; top = top }))
-    to_places bottom top left from_bottom to_top high from_left place =
+    to_each_left bottom top left from_bottom to_top high from_left may_be_left =
         each_x (record frame { bottom = bottom; top = top }) points (λ right. IsNotLarger points size (record { left = left; bottom = bottom; right = right; top = top })) (omega (arith, ints, is.wide))
-        (λ right to_right. box_not_larger frame points extent obstacles most of are.each none left bottom right top from_left to_right from_bottom to_top high place)
+        (λ right to_right. box_not_larger frame points extent obstacles most of are.each none left bottom right top from_left to_right from_bottom to_top high may_be_left)
 
     in_band : (bottom top : ℤ) → frame.bottom ≤ℤ bottom → top ≤ℤ frame.top → bottom <ℤ top → NoneLargerInBand points size (record frame { bottom = bottom; top = top })
     in_band bottom top from_bottom to_top high = record {
-      left = to_places bottom top frame.left from_bottom to_top high (≤ℤ_refl frame.left) (inl refl);
+      left = to_each_left bottom top frame.left from_bottom to_top high (≤ℤ_refl frame.left) (inl refl);
       right = each_x (record frame { bottom = bottom; top = top }) points (λ right. IsNotLarger points size (record { left = frame.right; bottom = bottom; right = right; top = top })) (omega (arith, ints, is.wide))
           (λ right to_right wide. absurd (omega (arith, ints, to_right, wide)));
       inside = λ k d below inside.
           let in_frame : IsStrictlyInside frame (get_or points k d) = record { after_left = inside.after_left; before_right = inside.before_right; above_bottom = omega (arith, ints, inside.above_bottom); below_top = omega (arith, ints, inside.below_top) } in
           let s = are.every k d below in_frame in
           let at : IsObstacleAt frame (get_or points k d) s.1 = s.4 in
-          to_places bottom top (get_or points k d).x from_bottom to_top high (omega (arith, ints, inside.after_left)) (inr (s.1, (s.0, s.2, s.3), at.x, omega (arith, ints, inside.above_bottom, at.y), omega (arith, ints, inside.below_top, at.y)));
+          to_each_left bottom top (get_or points k d).x from_bottom to_top high (omega (arith, ints, inside.after_left)) (inr (s.1, (s.0, s.2, s.3), at.x, omega (arith, ints, inside.above_bottom, at.y), omega (arith, ints, inside.below_top, at.y)));
     }
 
 -- ---- a restricted rectangle is not larger than what none exceeds
@@ -156,11 +156,11 @@ height_of frame points obstacles low high e edge P each (inr r) at_side inside =
     let is = All-contains (IsObstacleOf frame points) obstacles r.obstacle each r.listed in
     subst (λ (w : Edge). P (frame.bottom +ℤ pos w.at)) (sym r.is) (subst P is.at.y (inside r.obstacle.number origin is.below is.inside))
 
--- the place of an upright side of a band
-place_of : (frame : Box) (points : List PlanePoint) (obstacles : List Obstacle) (low high e : ℕ) (edge : Edge) (P : ℤ → Type 0) → All (IsObstacleOf frame points) obstacles → (edge ≡ side e) ⊎ RestsUpright obstacles low high edge → P (frame.left +ℤ pos e)
+-- the may_be_left of a vertical side of a band
+x_of : (frame : Box) (points : List PlanePoint) (obstacles : List Obstacle) (low high e : ℕ) (edge : Edge) (P : ℤ → Type 0) → All (IsObstacleOf frame points) obstacles → (edge ≡ side e) ⊎ RestsVertical obstacles low high edge → P (frame.left +ℤ pos e)
     → All (λ p. IsStrictlyInside (record frame { bottom = frame.bottom +ℤ pos low; top = frame.bottom +ℤ pos high }) p → P p.x) points → P (frame.left +ℤ pos edge.at)
-place_of frame points obstacles low high e edge P each (inl is) at_side inside = subst (λ (w : Edge). P (frame.left +ℤ pos w.at)) (sym is) at_side
-place_of frame points obstacles low high e edge P each (inr r) at_side inside =
+x_of frame points obstacles low high e edge P each (inl is) at_side inside = subst (λ (w : Edge). P (frame.left +ℤ pos w.at)) (sym is) at_side
+x_of frame points obstacles low high e edge P each (inr r) at_side inside =
     let is = All-contains (IsObstacleOf frame points) obstacles r.obstacle each r.listed in
     subst (λ (w : Edge). P (frame.left +ℤ pos w.at)) (sym r.is) (subst P is.at.x (inside r.obstacle.number origin is.below (record {
       after_left = is.inside.after_left;
@@ -196,9 +196,9 @@ restricted_not_larger frame points extent obstacles most h of are restricted non
     from_left : EachX (record frame { bottom = frame.bottom +ℤ pos h.bottom.at; top = frame.bottom +ℤ pos h.top.at }) points (λ right. IsNotLarger points size (record (box_of frame h) { right = right }))
     from_left =
         let P = λ (left : ℤ). EachX (record frame { bottom = frame.bottom +ℤ pos h.bottom.at; top = frame.bottom +ℤ pos h.top.at }) points (λ right. IsNotLarger points size (record (box_of frame h) { left = left; right = right })) in
-        place_of frame points obstacles h.bottom.at h.top.at 0 h.left P are.each restricted.left (subst P (plus_none frame.left) in_band.left) in_band.inside
+        x_of frame points obstacles h.bottom.at h.top.at 0 h.left P are.each restricted.left (subst P (plus_none frame.left) in_band.left) in_band.inside
 
     in_box : IsNotLarger points size (box_of frame h)
     in_box =
         let P = λ (right : ℤ). IsNotLarger points size (record (box_of frame h) { right = right }) in
-        place_of frame points obstacles h.bottom.at h.top.at extent.width h.right P are.each restricted.right (subst P of.width from_left.right) from_left.inside
+        x_of frame points obstacles h.bottom.at h.top.at extent.width h.right P are.each restricted.right (subst P of.width from_left.right) from_left.inside

@@ -7,23 +7,23 @@ use Rattle.std.proofs.Math.Nat.{eq-one_of_dvd-one}
 use Rattle.bounds_model.specs.Numbers.{IsWithin}
 use Rattle.bounds_model.specs.Plane.{PlanePoint}
 use Rattle.bounds_model.specs.Fractions.{Fraction}
-use Rattle.bounds_model.specs.Places.{IsFraction}
+use Rattle.bounds_model.specs.Ranges.{IsFraction}
 use Rattle.bounds_model.specs.EmptyRectangle.{Box, IsFrame}
 use Rattle.bounds_model.specs.EmptyAnswer as model
 use Rattle.bounded_coords.specs.declared.cloud.Cloud.{Cloud}
-use Rattle.bounds_model.specs.EmptyAnswer.{EmptyPlaces, IsBlockerBelow, NamesBlockers, BlocksUpright, BlocksLevel, AreBlocked, NoneLarger, PassesEmpty}
+use Rattle.bounds_model.specs.EmptyAnswer.{EmptyRanges, IsBlockerBelow, NamesBlockers, BlocksVertical, BlocksLevel, AreBlocked, NoneLarger, PassesEmpty}
 use Rattle.empty_rectangle.specs.declared.obstacles.Obstacle.{Obstacle}
 use Rattle.empty_rectangle.specs.declared.obstacles.Extent.{Extent}
 use Rattle.empty_rectangle.specs.declared.rectangles.Edge.{Edge}
 use Rattle.empty_rectangle.specs.declared.rectangles.Rectangle.{Rectangle}
-use Rattle.empty_rectangle.specs.Rectangles.{IsExtent, side, RestsUpright, RestsLevel, IsRestricted}
+use Rattle.empty_rectangle.specs.Rectangles.{IsExtent, side, RestsVertical, RestsLevel, IsRestricted}
 use Rattle.empty_rectangle.specs.Seeds.{NoneExceeds}
 use Rattle.empty_rectangle.specs.Points.{points_in, IsExtentOf, IsObstacleOf, AreObstacles}
 use Rattle.answers.specs.Answers.{blocker_of}
 use Rattle.empty_rectangle.specs.Answers.{answer_of}
 use Rattle.empty_rectangle.proofs.Frames.{empty_from_free, area_at, NoneLarger-gaps, restricted_not_larger}
 
--- ---- places
+-- ---- ranges
 
 -- a number within a bound is within a greater one
 pub within_more : {z : ℤ} {m n : ℕ} → IsWithin m z → T (leb m n) → IsWithin n z
@@ -51,23 +51,23 @@ side_within start at is most = within_more {m = 600000} (record { low = omega (a
 
 -- ---- blockers
 
--- the number of an obstacle on which an upright side rests is below a bound
-upright_number : (frame : Box) (points : List PlanePoint) (obstacles : List Obstacle) (low high e bound : ℕ) (edge : Edge) → All (IsObstacleOf frame points) obstacles → length points ≤ bound → (edge ≡ side e) ⊎ RestsUpright obstacles low high edge → IsBlockerBelow bound (blocker_of edge.by)
-upright_number frame points obstacles low high e bound edge each few (inl is) = subst (λ (w : Edge). IsBlockerBelow bound (blocker_of w.by)) (sym is) tt
-upright_number frame points obstacles low high e bound edge each few (inr r) = subst (λ (w : Edge). IsBlockerBelow bound (blocker_of w.by)) (sym r.is) (omega (arith, few, (All-contains (IsObstacleOf frame points) obstacles r.obstacle each r.listed).below))
+-- the number of an obstacle on which a vertical side rests is below a bound
+vertical_number : (frame : Box) (points : List PlanePoint) (obstacles : List Obstacle) (low high e bound : ℕ) (edge : Edge) → All (IsObstacleOf frame points) obstacles → length points ≤ bound → (edge ≡ side e) ⊎ RestsVertical obstacles low high edge → IsBlockerBelow bound (blocker_of edge.by)
+vertical_number frame points obstacles low high e bound edge each few (inl is) = subst (λ (w : Edge). IsBlockerBelow bound (blocker_of w.by)) (sym is) tt
+vertical_number frame points obstacles low high e bound edge each few (inr r) = subst (λ (w : Edge). IsBlockerBelow bound (blocker_of w.by)) (sym r.is) (omega (arith, few, (All-contains (IsObstacleOf frame points) obstacles r.obstacle each r.listed).below))
 
 -- likewise of a level side
 level_number : (frame : Box) (points : List PlanePoint) (obstacles : List Obstacle) (low high e bound : ℕ) (edge : Edge) → All (IsObstacleOf frame points) obstacles → length points ≤ bound → (edge ≡ side e) ⊎ RestsLevel obstacles low high edge → IsBlockerBelow bound (blocker_of edge.by)
 level_number frame points obstacles low high e bound edge each few (inl is) = subst (λ (w : Edge). IsBlockerBelow bound (blocker_of w.by)) (sym is) tt
 level_number frame points obstacles low high e bound edge each few (inr r) = subst (λ (w : Edge). IsBlockerBelow bound (blocker_of w.by)) (sym r.is) (omega (arith, few, (All-contains (IsObstacleOf frame points) obstacles r.obstacle each r.listed).below))
 
--- an upright side rests on the frame's side or on a point
-upright_blocked : (frame : Box) (points : List PlanePoint) (obstacles : List Obstacle) (low high e : ℕ) (frame_x : ℤ) (edge : Edge) → All (IsObstacleOf frame points) obstacles → frame_x ≡ (frame.left +ℤ pos e) → (edge ≡ side e) ⊎ RestsUpright obstacles low high edge
-    → BlocksUpright points frame_x (frame.left +ℤ pos edge.at) (frame.bottom +ℤ pos low) (frame.bottom +ℤ pos high) (blocker_of edge.by)
-upright_blocked frame points obstacles low high e frame_x edge each at_side (inl is) = subst (λ (w : Edge). BlocksUpright points frame_x (frame.left +ℤ pos w.at) (frame.bottom +ℤ pos low) (frame.bottom +ℤ pos high) (blocker_of w.by)) (sym is) (sym at_side)
-upright_blocked frame points obstacles low high e frame_x edge each at_side (inr r) =
+-- a vertical side rests on the frame's side or on a point
+vertical_blocked : (frame : Box) (points : List PlanePoint) (obstacles : List Obstacle) (low high e : ℕ) (frame_x : ℤ) (edge : Edge) → All (IsObstacleOf frame points) obstacles → frame_x ≡ (frame.left +ℤ pos e) → (edge ≡ side e) ⊎ RestsVertical obstacles low high edge
+    → BlocksVertical points frame_x (frame.left +ℤ pos edge.at) (frame.bottom +ℤ pos low) (frame.bottom +ℤ pos high) (blocker_of edge.by)
+vertical_blocked frame points obstacles low high e frame_x edge each at_side (inl is) = subst (λ (w : Edge). BlocksVertical points frame_x (frame.left +ℤ pos w.at) (frame.bottom +ℤ pos low) (frame.bottom +ℤ pos high) (blocker_of w.by)) (sym is) (sym at_side)
+vertical_blocked frame points obstacles low high e frame_x edge each at_side (inr r) =
     let at = (All-contains (IsObstacleOf frame points) obstacles r.obstacle each r.listed).at in
-    subst (λ (w : Edge). BlocksUpright points frame_x (frame.left +ℤ pos w.at) (frame.bottom +ℤ pos low) (frame.bottom +ℤ pos high) (blocker_of w.by)) (sym r.is) (at.x, omega (arith, ints, at.y, r.after), omega (arith, ints, at.y, r.before))
+    subst (λ (w : Edge). BlocksVertical points frame_x (frame.left +ℤ pos w.at) (frame.bottom +ℤ pos low) (frame.bottom +ℤ pos high) (blocker_of w.by)) (sym r.is) (at.x, omega (arith, ints, at.y, r.after), omega (arith, ints, at.y, r.before))
 
 -- and a level one
 level_blocked : (frame : Box) (points : List PlanePoint) (obstacles : List Obstacle) (low high e : ℕ) (frame_y : ℤ) (edge : Edge) → All (IsObstacleOf frame points) obstacles → frame_y ≡ (frame.bottom +ℤ pos e) → (edge ≡ side e) ⊎ RestsLevel obstacles low high edge
@@ -96,21 +96,21 @@ answer_parts frame h size l b r t is is_l is_b is_r is_t = cc
 pub restricted_passes : (frame : Box) (points : List PlanePoint) (extent : Extent) (obstacles : List Obstacle) (h : Rectangle) → IsFrame frame → IsExtent extent → IsExtentOf frame extent → length points ≤ 10000 → AreObstacles frame points points obstacles → IsRestricted obstacles extent h → NoneExceeds obstacles extent h.area
     → PassesEmpty frame points (answer_of frame h)
 restricted_passes frame points extent obstacles h is_frame is of few are restricted none = record {
-  places = record {
+  ranges = record {
     size = whole_fraction h.area (omega (arith, area_below obstacles extent h is restricted));
     box_left = side_within frame.left h.left.at is_frame.left (omega (arith, restricted.wide, restricted.in_right, is.width));
     box_bottom = side_within frame.bottom h.bottom.at is_frame.bottom (omega (arith, restricted.high, restricted.in_top, is.height));
     box_right = side_within frame.left h.right.at is_frame.left (omega (arith, restricted.in_right, is.width));
     box_top = side_within frame.bottom h.top.at is_frame.bottom (omega (arith, restricted.in_top, is.height));
-    left = upright_number frame points obstacles h.bottom.at h.top.at 0 10000 h.left are.each few restricted.left;
+    left = vertical_number frame points obstacles h.bottom.at h.top.at 0 10000 h.left are.each few restricted.left;
     bottom = level_number frame points obstacles h.left.at h.right.at 0 10000 h.bottom are.each few restricted.bottom;
-    right = upright_number frame points obstacles h.bottom.at h.top.at extent.width 10000 h.right are.each few restricted.right;
+    right = vertical_number frame points obstacles h.bottom.at h.top.at extent.width 10000 h.right are.each few restricted.right;
     top = level_number frame points obstacles h.left.at h.right.at extent.height 10000 h.top are.each few restricted.top;
   };
   numbers = record {
-    left = upright_number frame points obstacles h.bottom.at h.top.at 0 (length points) h.left are.each (le_refl (length points)) restricted.left;
+    left = vertical_number frame points obstacles h.bottom.at h.top.at 0 (length points) h.left are.each (le_refl (length points)) restricted.left;
     bottom = level_number frame points obstacles h.left.at h.right.at 0 (length points) h.bottom are.each (le_refl (length points)) restricted.bottom;
-    right = upright_number frame points obstacles h.bottom.at h.top.at extent.width (length points) h.right are.each (le_refl (length points)) restricted.right;
+    right = vertical_number frame points obstacles h.bottom.at h.top.at extent.width (length points) h.right are.each (le_refl (length points)) restricted.right;
     top = level_number frame points obstacles h.left.at h.right.at extent.height (length points) h.top are.each (le_refl (length points)) restricted.top;
   };
   in_left = omega (arith, ints);
@@ -122,9 +122,9 @@ restricted_passes frame points extent obstacles h is_frame is of few are restric
   empty = empty_from_free frame points extent obstacles h.left.at h.bottom.at h.right.at h.top.at of restricted.in_right restricted.in_top are.every restricted.free;
   size = ap (λ z. z *ℤ pos 1) (ap pos restricted.area ∙ sym (area_at frame h.left.at h.bottom.at h.right.at h.top.at (omega (arith, restricted.wide)) (omega (arith, restricted.high))));
   blocked = record {
-    left = upright_blocked frame points obstacles h.bottom.at h.top.at 0 frame.left h.left are.each (plus_none frame.left) restricted.left;
+    left = vertical_blocked frame points obstacles h.bottom.at h.top.at 0 frame.left h.left are.each (plus_none frame.left) restricted.left;
     bottom = level_blocked frame points obstacles h.left.at h.right.at 0 frame.bottom h.bottom are.each (plus_none frame.bottom) restricted.bottom;
-    right = upright_blocked frame points obstacles h.bottom.at h.top.at extent.width frame.right h.right are.each of.width restricted.right;
+    right = vertical_blocked frame points obstacles h.bottom.at h.top.at extent.width frame.right h.right are.each of.width restricted.right;
     top = level_blocked frame points obstacles h.left.at h.right.at extent.height frame.top h.top are.each of.height restricted.top;
   };
   none_larger = NoneLarger-gaps frame points extent obstacles h.area is_frame of are none;

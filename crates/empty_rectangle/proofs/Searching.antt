@@ -15,8 +15,8 @@ use Rattle.empty_rectangle.proofs.Sweeping.{by_order}
 
 -- ---- the obstacle below a rectangle
 
--- an obstacle strictly between two upright sides, no higher than a bottom, and as high as any such obstacle
-pub record IsSupport (obstacles : List Obstacle) (left right bottom : ℕ) (p : Obstacle) : Type 0 where
+-- an obstacle strictly between two vertical sides, no higher than a bottom, and as high as any such obstacle
+pub record IsHighestUnder (obstacles : List Obstacle) (left right bottom : ℕ) (p : Obstacle) : Type 0 where
   pub listed : Contains obstacles p
   pub after : left < p.x
   pub before : p.x < right
@@ -24,14 +24,14 @@ pub record IsSupport (obstacles : List Obstacle) (left right bottom : ℕ) (p : 
   pub highest : All (λ s. left < s.x → s.x < right → s.y ≤ bottom → s.y ≤ p.y) obstacles
 
 -- there is one, or no obstacle between the sides is so low
-abbrev pub Supports : List Obstacle → ℕ → ℕ → ℕ → Type 0
-Supports obstacles left right bottom = ((p : Obstacle) × IsSupport obstacles left right bottom p) ⊎ All (λ s. left < s.x → s.x < right → bottom < s.y) obstacles
+abbrev pub HasHighestUnder : List Obstacle → ℕ → ℕ → ℕ → Type 0
+HasHighestUnder obstacles left right bottom = ((p : Obstacle) × IsHighestUnder obstacles left right bottom p) ⊎ All (λ s. left < s.x → s.x < right → bottom < s.y) obstacles
 
 -- one obstacle more, which is between the sides and so low, or not
-supports_more : (s : Obstacle) (rest : List Obstacle) (left right bottom : ℕ) → Supports rest left right bottom → Supports (s ∷ rest) left right bottom
-supports_more s rest left right bottom found = by_order left s.x (λ after. by_order s.x right (λ before. by_order bottom s.y (λ high. skips (λ _ _. high)) (λ low. takes found after before low)) (λ beyond. skips (λ _ before. absurd (omega arith)))) (λ early. skips (λ after _. absurd (omega arith)))
+highest_more : (s : Obstacle) (rest : List Obstacle) (left right bottom : ℕ) → HasHighestUnder rest left right bottom → HasHighestUnder (s ∷ rest) left right bottom
+highest_more s rest left right bottom found = by_order left s.x (λ after. by_order s.x right (λ before. by_order bottom s.y (λ high. skips (λ _ _. high)) (λ low. takes found after before low)) (λ beyond. skips (λ _ before. absurd (omega arith)))) (λ early. skips (λ after _. absurd (omega arith)))
   where
-    old : (p : Obstacle) → IsSupport rest left right bottom p → (left < s.x → s.x < right → s.y ≤ bottom → s.y ≤ p.y) → IsSupport (s ∷ rest) left right bottom p
+    old : (p : Obstacle) → IsHighestUnder rest left right bottom p → (left < s.x → s.x < right → s.y ≤ bottom → s.y ≤ p.y) → IsHighestUnder (s ∷ rest) left right bottom p
     old p is here = record {
       listed = Contains-append_right (s ∷ []) rest p is.listed;
       after = is.after;
@@ -40,7 +40,7 @@ supports_more s rest left right bottom found = by_order left s.x (λ after. by_o
       highest = All-cons (λ q. left < q.x → q.x < right → q.y ≤ bottom → q.y ≤ p.y) s rest here is.highest;
     }
 
-    new : left < s.x → s.x < right → s.y ≤ bottom → All (λ q. left < q.x → q.x < right → q.y ≤ bottom → q.y ≤ s.y) rest → IsSupport (s ∷ rest) left right bottom s
+    new : left < s.x → s.x < right → s.y ≤ bottom → All (λ q. left < q.x → q.x < right → q.y ≤ bottom → q.y ≤ s.y) rest → IsHighestUnder (s ∷ rest) left right bottom s
     new after before low highest = record {
       listed = (0, omega arith, refl);
       after = after;
@@ -49,24 +49,24 @@ supports_more s rest left right bottom found = by_order left s.x (λ after. by_o
       highest = All-cons (λ q. left < q.x → q.x < right → q.y ≤ bottom → q.y ≤ s.y) s rest (λ _ _ _. le_refl s.y) highest;
     }
 
-    skips : (left < s.x → s.x < right → bottom < s.y) → Supports (s ∷ rest) left right bottom
+    skips : (left < s.x → s.x < right → bottom < s.y) → HasHighestUnder (s ∷ rest) left right bottom
     skips high = elim found [
       | inl p ↦ inl (p.0, old p.0 p.1 (λ after before low. absurd (omega (arith, high after before, low))))
       | inr none ↦ inr (All-cons (λ q. left < q.x → q.x < right → bottom < q.y) s rest high none)
     ]
 
-    takes : Supports rest left right bottom → left < s.x → s.x < right → s.y ≤ bottom → Supports (s ∷ rest) left right bottom
+    takes : HasHighestUnder rest left right bottom → left < s.x → s.x < right → s.y ≤ bottom → HasHighestUnder (s ∷ rest) left right bottom
     takes (inl p) after before low = by_order p.0.y s.y (λ higher. inl (s, new after before low (λ k d lt a b c. omega (arith, higher, p.1.highest k d lt a b c)))) (λ lower. inl (p.0, old p.0 p.1 (λ _ _ _. lower)))
     takes (inr none) after before low = inl (s, new after before low (λ k d lt a b c. absurd (omega (arith, none k d lt a b, c))))
 
-pub supports : (obstacles : List Obstacle) (left right bottom : ℕ) → Supports obstacles left right bottom
-supports [] left right bottom = inr (All-nil (λ s. left < s.x → s.x < right → bottom < s.y))
-supports (s ∷ rest) left right bottom = supports_more s rest left right bottom (supports rest left right bottom)
+pub has_highest_under : (obstacles : List Obstacle) (left right bottom : ℕ) → HasHighestUnder obstacles left right bottom
+has_highest_under [] left right bottom = inr (All-nil (λ s. left < s.x → s.x < right → bottom < s.y))
+has_highest_under (s ∷ rest) left right bottom = highest_more s rest left right bottom (has_highest_under rest left right bottom)
 
 -- ---- each gap grows from a seed
 
 -- the gap reaches down to the obstacle below it
-gap_above : (obstacles : List Obstacle) (extent : Extent) (area left bottom right top : ℕ) → All (λ s. Covers obstacles extent (above s) area) obstacles → IsGap obstacles extent left bottom right top → (p : Obstacle) → IsSupport obstacles left right bottom p → (right - left) * (top - bottom) ≤ area
+gap_above : (obstacles : List Obstacle) (extent : Extent) (area left bottom right top : ℕ) → All (λ s. Covers obstacles extent (above s) area) obstacles → IsGap obstacles extent left bottom right top → (p : Obstacle) → IsHighestUnder obstacles left right bottom p → (right - left) * (top - bottom) ≤ area
 gap_above obstacles extent area left bottom right top covers gap p is =
     let through : IsThrough obstacles extent (above p) left right top = record {
       from_left = omega arith;
@@ -113,7 +113,7 @@ gap_below obstacles extent area left bottom right top at_corner covers gap none 
 
 -- no gap exceeds an area that covers all seeds
 pub NoneExceeds-seeds : (obstacles : List Obstacle) (extent : Extent) (area : ℕ) → Covers obstacles extent corner area → All (λ s. Covers obstacles extent (above s) area) obstacles → All (λ s. Covers obstacles extent (beside s) area) obstacles → NoneExceeds obstacles extent area
-NoneExceeds-seeds obstacles extent area at_corner all_above all_beside left bottom right top gap = elim (supports obstacles left right bottom) [
+NoneExceeds-seeds obstacles extent area at_corner all_above all_beside left bottom right top gap = elim (has_highest_under obstacles left right bottom) [
   | inl p ↦ gap_above obstacles extent area left bottom right top all_above gap p.0 p.1
   | inr none ↦ gap_below obstacles extent area left bottom right top at_corner all_beside gap none
 ]

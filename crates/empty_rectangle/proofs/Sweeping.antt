@@ -12,7 +12,7 @@ use Rattle.empty_rectangle.specs.declared.rectangles.Edge.{Edge}
 use Rattle.empty_rectangle.specs.declared.rectangles.Rectangle.{Rectangle}
 use Rattle.empty_rectangle.specs.declared.rectangles.Window.{Window}
 use Rattle.empty_rectangle.specs.declared.sweep.Seed.{Seed}
-use Rattle.empty_rectangle.specs.Rectangles.{IsInExtent, Enters, NoneEnters, IsBetween, IsFree, side, upright, level, RestsUpright, RestsLevel, IsRestricted, rectangle_in, Larger, Narrows, IsSeed, IsThrough, Covers}
+use Rattle.empty_rectangle.specs.Rectangles.{IsInExtent, Enters, NoneEnters, IsBetween, IsFree, side, vertical, level, RestsVertical, RestsLevel, IsRestricted, rectangle_in, Larger, Narrows, IsSeed, IsThrough, Covers}
 
 -- a number is below another, or not
 pub by_order : {P : Type 0} (a b : ℕ) → (a < b → P) → (b ≤ a → P) → P
@@ -22,11 +22,11 @@ by_order {P} a b less most = decide (ltb a b) refl
     decide true e = less (ltb-true a b e)
     decide false e = most (ltb-false a b e)
 
--- an upright side through an obstacle above the bottom, which is no higher than the least, or the rectangle up to it has at most this area
+-- a vertical side through an obstacle above the bottom, which is no higher than the least, or the rectangle up to it has at most this area
 pub record Narrowed (obstacles : List Obstacle) (bottom least width area : ℕ) (edge : Edge) : Type 0 where
   pub obstacle : Obstacle
   pub listed : Contains obstacles obstacle
-  pub is : edge ≡ upright obstacle
+  pub is : edge ≡ vertical obstacle
   pub after : bottom < obstacle.y
   pub small : (obstacle.y ≤ least) ⊎ (width * (obstacle.y - bottom) ≤ area)
 
@@ -77,7 +77,7 @@ Scanned-on obstacles extent seed start i k window best s none = record {
 -- ---- a rectangle in the window
 
 -- a side that was narrowed rests below the top of a rectangle that has more than the area, and is higher than the least
-rests_below : (obstacles : List Obstacle) (bottom least width area top e : ℕ) (edge : Edge) → (edge ≡ side e) ⊎ Narrowed obstacles bottom least width area edge → least < top → area < width * (top - bottom) → (edge ≡ side e) ⊎ RestsUpright obstacles bottom top edge
+rests_below : (obstacles : List Obstacle) (bottom least width area top e : ℕ) (edge : Edge) → (edge ≡ side e) ⊎ Narrowed obstacles bottom least width area edge → least < top → area < width * (top - bottom) → (edge ≡ side e) ⊎ RestsVertical obstacles bottom top edge
 rests_below obstacles bottom least width area top e edge (inl is) high more = inl is
 rests_below obstacles bottom least width area top e edge (inr n) high more = inr (record { obstacle = n.obstacle; listed = n.listed; is = n.is; after = n.after; before = below n.small })
   where
@@ -200,7 +200,7 @@ still_narrowed obstacles bottom least width area new_width new_area e edge (inr 
 
 -- the side through the obstacle is narrowed
 newly_narrowed : (obstacles : List Obstacle) (seed : Seed) (window : Window) (obstacle : Obstacle) (new_width area : ℕ) → Contains obstacles obstacle → seed.bottom.at < obstacle.y → (seed.least < obstacle.y → (window.right.at - window.left.at) * (obstacle.y - seed.bottom.at) ≤ area)
-    → new_width ≤ (window.right.at - window.left.at) → Narrowed obstacles seed.bottom.at seed.least new_width area (upright obstacle)
+    → new_width ≤ (window.right.at - window.left.at) → Narrowed obstacles seed.bottom.at seed.least new_width area (vertical obstacle)
 newly_narrowed obstacles seed window obstacle new_width area listed above offered less = record {
   obstacle = obstacle;
   listed = listed;
@@ -218,7 +218,7 @@ passed_beside obstacles bottom k left right new_left new_right obstacle passed b
 
 -- the part of the window on the right of the obstacle
 pub Scanned-right : (obstacles : List Obstacle) (extent : Extent) (seed : Seed) (start : Rectangle) (k : ℕ) (window : Window) (old best : Rectangle) (obstacle : Obstacle) → Scanned obstacles extent seed start k window old → Offered obstacles extent seed start window obstacle old best → k < length obstacles → obstacle ≡ get_or obstacles k obstacle
-    → Enters window.left.at seed.bottom.at window.right.at obstacle → 2 * obstacle.x < seed.column → Scanned obstacles extent seed start (k + 1) (record { left = upright obstacle; right = window.right }) best
+    → Enters window.left.at seed.bottom.at window.right.at obstacle → 2 * obstacle.x < seed.column → Scanned obstacles extent seed start (k + 1) (record { left = vertical obstacle; right = window.right }) best
 Scanned-right obstacles extent seed start k window old best obstacle s o below is enters before = record {
   from_left = before;
   to_right = s.to_right;
@@ -236,7 +236,7 @@ Scanned-right obstacles extent seed start k window old best obstacle s o below i
 
 -- the part of the window on the left of the obstacle
 pub Scanned-left : (obstacles : List Obstacle) (extent : Extent) (seed : Seed) (start : Rectangle) (k : ℕ) (window : Window) (old best : Rectangle) (obstacle : Obstacle) → Scanned obstacles extent seed start k window old → Offered obstacles extent seed start window obstacle old best → k < length obstacles → obstacle ≡ get_or obstacles k obstacle
-    → Enters window.left.at seed.bottom.at window.right.at obstacle → seed.column < 2 * obstacle.x → Scanned obstacles extent seed start (k + 1) (record { left = window.left; right = upright obstacle }) best
+    → Enters window.left.at seed.bottom.at window.right.at obstacle → seed.column < 2 * obstacle.x → Scanned obstacles extent seed start (k + 1) (record { left = window.left; right = vertical obstacle }) best
 Scanned-left obstacles extent seed start k window old best obstacle s o below is enters after = record {
   from_left = s.from_left;
   to_right = after;

@@ -24,17 +24,17 @@ pub record IsExtent (extent : Extent) : Type 0 where
   pub width : extent.width ≤ 400000
   pub height : extent.height ≤ 400000
 
--- the obstacle is strictly between two upright sides, and above a bottom
+-- the obstacle is strictly between two vertical sides, and above a bottom
 pub record Enters (left bottom right : ℕ) (s : Obstacle) : Type 0 where
   pub after_left : left < s.x
   pub before_right : s.x < right
   pub above : bottom < s.y
 
--- no obstacle from one place in the order up to another is strictly between the sides and above the bottom
+-- no obstacle from one index in the order up to another is strictly between the sides and above the bottom
 abbrev pub NoneEnters : List Obstacle → ℕ → ℕ → ℕ → ℕ → ℕ → Type 0
 NoneEnters obstacles left bottom right from to = AllWithin (λ s. ¬ Enters left bottom right s) obstacles from to
 
--- the obstacle at k is the first one from a place on that is strictly between the sides and above the bottom
+-- the obstacle at k is the first one from an index on that is strictly between the sides and above the bottom
 pub record IsNextEntering (obstacles : List Obstacle) (left bottom right from k : ℕ) : Type 0 where
   pub after : from ≤ k
   pub below : k < length obstacles
@@ -54,18 +54,18 @@ IsFree obstacles left bottom right top = All (λ s. ¬ IsBetween left bottom rig
 abbrev pub side : ℕ → Edge
 side at = record { at = at; by = Side }
 
--- the upright side through an obstacle, and the level one
-abbrev pub upright : Obstacle → Edge
-upright s = record { at = s.x; by = Point s.number }
+-- the vertical side through an obstacle, and the level one
+abbrev pub vertical : Obstacle → Edge
+vertical s = record { at = s.x; by = Point s.number }
 
 abbrev pub level : Obstacle → Edge
 level s = record { at = s.y; by = Point s.number }
 
--- an upright side rests on an obstacle between its ends
-pub record RestsUpright (obstacles : List Obstacle) (low high : ℕ) (edge : Edge) : Type 0 where
+-- a vertical side rests on an obstacle between its ends
+pub record RestsVertical (obstacles : List Obstacle) (low high : ℕ) (edge : Edge) : Type 0 where
   pub obstacle : Obstacle
   pub listed : Contains obstacles obstacle
-  pub is : edge ≡ upright obstacle
+  pub is : edge ≡ vertical obstacle
   pub after : low < obstacle.y
   pub before : obstacle.y < high
 
@@ -85,9 +85,9 @@ pub record IsRestricted (obstacles : List Obstacle) (extent : Extent) (h : Recta
   pub in_right : h.right.at ≤ extent.width
   pub in_top : h.top.at ≤ extent.height
   pub free : IsFree obstacles h.left.at h.bottom.at h.right.at h.top.at
-  pub left : (h.left ≡ side 0) ⊎ RestsUpright obstacles h.bottom.at h.top.at h.left
+  pub left : (h.left ≡ side 0) ⊎ RestsVertical obstacles h.bottom.at h.top.at h.left
   pub bottom : (h.bottom ≡ side 0) ⊎ RestsLevel obstacles h.left.at h.right.at h.bottom
-  pub right : (h.right ≡ side extent.width) ⊎ RestsUpright obstacles h.bottom.at h.top.at h.right
+  pub right : (h.right ≡ side extent.width) ⊎ RestsVertical obstacles h.bottom.at h.top.at h.right
   pub top : (h.top ≡ side extent.height) ⊎ RestsLevel obstacles h.left.at h.right.at h.top
 
 -- the rectangle in a window from a bottom to a top
@@ -108,8 +108,8 @@ pub record Larger (old other : Rectangle) (least : ℕ) (new : Rectangle) : Type
 
 -- one side of the new window is the old one, and the other goes through the obstacle, so that the column is still inside
 pub record Narrows (old : Window) (obstacle : Obstacle) (column : ℕ) (new : Window) : Type 0 where
-  pub to_right : 2 * obstacle.x < column → new ≡ record { left = upright obstacle; right = old.right }
-  pub to_left : column ≤ 2 * obstacle.x → new ≡ record { left = old.left; right = upright obstacle }
+  pub to_right : 2 * obstacle.x < column → new ≡ record { left = vertical obstacle; right = old.right }
+  pub to_left : column ≤ 2 * obstacle.x → new ≡ record { left = old.left; right = vertical obstacle }
 
 -- rectangles can grow from the seed: its column is inside the frame, its left side and its bottom rest on the frame's sides or on
 -- obstacles, and the obstacles before `from` are not above it
@@ -120,7 +120,7 @@ pub record IsSeed (obstacles : List Obstacle) (extent : Extent) (from : ℕ) (se
   pub below_top : seed.least < extent.height
   pub after_left : 2 * seed.left.at < seed.column
   pub before_right : seed.column < 2 * extent.width
-  pub left : (seed.left ≡ side 0) ⊎ RestsUpright obstacles seed.bottom.at (seed.least + 1) seed.left
+  pub left : (seed.left ≡ side 0) ⊎ RestsVertical obstacles seed.bottom.at (seed.least + 1) seed.left
   pub bottom : (seed.bottom ≡ side 0) ⊎ ((s : Obstacle) × Contains obstacles s × (seed.bottom ≡ level s) × (2 * s.x ≡ seed.column))
 
 -- a rectangle on the seed's bottom, with no obstacle strictly inside it, that meets the column and exceeds the least height

@@ -3,7 +3,7 @@ use Rattle.std.specs.Prelude.{◌≡◌, ◌⊎◌, ℕ, ◌+◌, ◌-◌, ◌*�
 use Rattle.empty_rectangle.specs.declared.obstacles.Obstacle.{Obstacle}
 use Rattle.empty_rectangle.specs.declared.obstacles.Extent.{Extent}
 use Rattle.empty_rectangle.specs.declared.sweep.Seed.{Seed}
-use Rattle.empty_rectangle.specs.Rectangles.{IsFree, side, upright, level}
+use Rattle.empty_rectangle.specs.Rectangles.{IsFree, side, vertical, level}
 
 -- the seed in the lower left corner of the frame
 abbrev pub corner : Seed
@@ -15,7 +15,7 @@ above s = record { left = side 0; column = 2 * s.x; bottom = level s; least = s.
 
 -- the seed of the rectangles on the bottom of the frame whose left side rests on the obstacle
 abbrev pub beside : Obstacle → Seed
-beside s = record { left = upright s; column = 2 * s.x + 1; bottom = side 0; least = s.y }
+beside s = record { left = vertical s; column = 2 * s.x + 1; bottom = side 0; least = s.y }
 
 -- a rectangle in the frame with no obstacle strictly inside it, whose left side is on the frame's, or goes through an obstacle between its ends
 pub record IsGap (obstacles : List Obstacle) (extent : Extent) (left bottom right top : ℕ) : Type 0 where

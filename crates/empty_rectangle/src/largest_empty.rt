@@ -32,7 +32,7 @@ pub fn largest(
 /// Whether no rectangle in the frame with no point strictly inside it has more than this area, in squared units. It ends soon after
 /// the first larger one is found. The only error is that memory is wanting.
 ///
-/// The clause asks what a checker asks: of rectangles between two heights, from one place in their band to the next.
+/// The clause asks what a checker asks: of rectangles between two heights, from one x in their band to the next.
 pub fn is_none_larger(
     alloc: Global,
     cloud: Option<Cloud2<'_>>,

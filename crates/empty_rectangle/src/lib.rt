@@ -1,4 +1,4 @@
-//! The largest empty rectangle: the upright rectangle of greatest area in a frame with no point strictly inside it.
+//! The largest empty rectangle: the axis-parallel rectangle of greatest area in a frame with no point strictly inside it.
 //!
 //! - `largest_empty`: the answer, and the check that no rectangle is larger
 //! - `search`: the largest rectangle over all seeds

@@ -2,7 +2,7 @@
 ghost use Rattle.std.specs.Prelude.{◌≡◌, ◌↔◌, [], IsSome, IfSome, IfOk, OnOk};
 ghost use Rattle.bounds_model.specs.EmptyRectangle.{IsFrame, IsStrictlyInside};
 ghost use Rattle.bounded_coords.specs.Clouds.{points_of};
-ghost use Rattle.empty_rectangle.specs.Rectangles.{upright, level, IsExtent};
+ghost use Rattle.empty_rectangle.specs.Rectangles.{vertical, level, IsExtent};
 ghost use Rattle.empty_rectangle.specs.Points.{points_in, IsExtentOf, IsObstacleAt, AreObstacles, ListsObstacles};
 
 use crate::rectangles::Edge;
@@ -20,9 +20,9 @@ pub(crate) struct Obstacle {
 }
 
 impl Obstacle {
-    /// The upright side through the obstacle.
-    pub(crate) fn upright(self) -> Edge
-        ensures { result ≡ upright self }
+    /// The vertical side through the obstacle.
+    pub(crate) fn vertical(self) -> Edge
+        ensures { result ≡ vertical self }
     {
         Edge {
             at: self.x,

@@ -63,7 +63,7 @@ impl Rectangle {
     }
 }
 
-/// The two upright sides between which rectangles grow.
+/// The two vertical sides between which rectangles grow.
 #[derive(Clone, Copy)]
 pub(crate) struct Window {
     pub(crate) left: Edge,
@@ -106,13 +106,13 @@ impl Window {
         let Window { left, right } = self;
         if 2 * obstacle.x < column {
             return Window {
-                left: obstacle.upright(),
+                left: obstacle.vertical(),
                 right,
             };
         }
         Window {
             left,
-            right: obstacle.upright(),
+            right: obstacle.vertical(),
         }
     }
 }

@@ -7,7 +7,7 @@ ghost use Rattle.empty_rectangle.specs.Seeds.{corner, above, beside};
 use crate::obstacles::{Extent, Obstacle};
 use crate::rectangles::{Edge, Rectangle, Window};
 
-/// Where rectangles start to grow: their left side, twice the place of a column that they all meet, their bottom, and a
+/// Where rectangles start to grow: their left side, twice the x of a column that they all meet, their bottom, and a
 /// height that they all exceed.
 #[derive(Clone, Copy)]
 pub(crate) struct Seed {
@@ -50,7 +50,7 @@ impl Seed {
         ensures { result ≡ beside obstacle }
     {
         Seed {
-            left: obstacle.upright(),
+            left: obstacle.vertical(),
             column: 2 * obstacle.x + 1,
             bottom: Edge::side(0),
             least: obstacle.y,
@@ -104,7 +104,7 @@ pub(crate) fn sweep_up(
     best.or(window.rectangle(seed.bottom, ceiling), seed.least)
 }
 
-/// The place in the order of the first obstacle from `from` on that is in the window, above `bottom`. Nearly all steps of a search
+/// The index in the order of the first obstacle from `from` on that is in the window, above `bottom`. Nearly all steps of a search
 /// are made here, so that this loop holds nothing but what it compares.
 fn next_entering(obstacles: &[Obstacle], from: usize, window: Window, bottom: u32) -> Option<usize>
     requires { window.left.at < window.right.at }

@@ -13,7 +13,7 @@ use Rattle.integers.proofs.Sizes.{size_between, below_size, above_size}
 use Rattle.integers.proofs.Divisors.{gcd, gcd_is, gcd-dvd_left, gcd-dvd_right, one_from_IsGcd, gcd_all, gcd_all-scale, one_from_gcd_all}
 use Rattle.integers.proofs.LowestTerms.{IsLowestTerms-div, lowest_value}
 use Rattle.bounds_model.specs.Fractions.{SameValue, HaveNoCommonFactor}
-use Rattle.bounds_model.specs.Places.{IsFraction, IsNumber, IsPlaneRatio, IsSpaceRatio}
+use Rattle.bounds_model.specs.Ranges.{IsFraction, IsNumber, IsPlaneRatio, IsSpaceRatio}
 use Rattle.bounds_model.specs.Space.{SamePlace}
 use Rattle.exact_fractions.specs.Divisors.{IsDivisorOf}
 use Rattle.exact_fractions.proofs.Quotients.{divisor_positive}

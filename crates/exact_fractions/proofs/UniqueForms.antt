@@ -13,7 +13,7 @@ use Rattle.integers.proofs.LowestTerms.{lowest_unique_ℤ, lowest_list_unique}
 use Rattle.bounds_model.specs.Plane.{PlaneRatio}
 use Rattle.bounds_model.specs.Space.{SpaceRatio, SamePlace, flat_ratio}
 use Rattle.bounds_model.specs.Fractions.{Fraction, SameValue, IsLowest, HaveNoCommonFactor}
-use Rattle.bounds_model.specs.Places.{IsFraction, IsPlaneRatio, IsSpaceRatio}
+use Rattle.bounds_model.specs.Ranges.{IsFraction, IsPlaneRatio, IsSpaceRatio}
 
 -- ---- equal numbers
 

@@ -1,7 +1,7 @@
 //! The greatest common divisor, by halving and subtracting, and exact quotients.
 ghost use Rattle.std.specs.Prelude.{◌≡◌, ◌*◌, ◌%◌, ◌^◌, ◌<◌, ◌*ℤ◌, pos};
 ghost use Rattle.std.specs.Int.{IsGcd, trailing_zeros, w64, w128};
-ghost use Rattle.bounds_model.specs.Places.{IsNumber};
+ghost use Rattle.bounds_model.specs.Ranges.{IsNumber};
 ghost use Rattle.exact_fractions.specs.Divisors.{IsDivisorOf};
 
 /// The greatest common divisor of two numbers. That of 0 and 0 is 0.

@@ -1,7 +1,7 @@
 //! Fractions that are not below 0.
 ghost use Rattle.std.specs.Prelude.{◌≡◌, ◌^◌, ◌<◌, ◌≤◌, ◌*ℤ◌, ◌≤ℤ◌, ◌<ℤ◌, ◌↔◌, pos, IsTrue};
 ghost use Rattle.bounds_model.specs.Fractions.{Fraction, SameValue};
-ghost use Rattle.bounds_model.specs.Places.{IsFraction};
+ghost use Rattle.bounds_model.specs.Ranges.{IsFraction};
 ghost use Rattle.exact_fractions.specs.Order.{IsBelow};
 
 use crate::gcd;
@@ -18,7 +18,7 @@ pub struct Frac {
 impl Model for Frac {
     ghost use Rattle.std.specs.Prelude.{pos, nat_abs};
     ghost use Rattle.bounds_model.specs.Fractions.{Fraction};
-    ghost use Rattle.bounds_model.specs.Places.{IsFraction};
+    ghost use Rattle.bounds_model.specs.Ranges.{IsFraction};
 
     ghost Value = { Fraction };
 

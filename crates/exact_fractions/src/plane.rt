@@ -1,7 +1,7 @@
 //! Points of the plane whose coordinates are fractions over one denominator.
 ghost use Rattle.std.specs.Prelude.{◌≡◌, ◌↔◌, ◌≤ℤ◌, pos, IsTrue};
 ghost use Rattle.bounds_model.specs.Space.{SamePlace, flat_ratio};
-ghost use Rattle.bounds_model.specs.Places.{IsNumber, IsPlaneRatio};
+ghost use Rattle.bounds_model.specs.Ranges.{IsNumber, IsPlaneRatio};
 
 use crate::divisors::{gcd, quotient};
 use std::marker::Model;
@@ -16,7 +16,7 @@ pub struct Homog2 {
 
 impl Model for Homog2 {
     ghost use Rattle.bounds_model.specs.Plane.{PlaneRatio};
-    ghost use Rattle.bounds_model.specs.Places.{IsPlaneRatio};
+    ghost use Rattle.bounds_model.specs.Ranges.{IsPlaneRatio};
 
     ghost Value = { PlaneRatio };
 

@@ -1,7 +1,7 @@
 //! Points of space whose coordinates are fractions over one denominator.
 ghost use Rattle.std.specs.Prelude.{◌≡◌, ◌≤ℤ◌, pos, ◌↔◌, IsTrue};
 ghost use Rattle.bounds_model.specs.Space.{SamePlace};
-ghost use Rattle.bounds_model.specs.Places.{IsNumber, IsSpaceRatio};
+ghost use Rattle.bounds_model.specs.Ranges.{IsNumber, IsSpaceRatio};
 
 use crate::divisors::{gcd, quotient};
 use std::marker::Model;
@@ -17,7 +17,7 @@ pub struct Homog3 {
 
 impl Model for Homog3 {
     ghost use Rattle.bounds_model.specs.Space.{SpaceRatio};
-    ghost use Rattle.bounds_model.specs.Places.{IsSpaceRatio};
+    ghost use Rattle.bounds_model.specs.Ranges.{IsSpaceRatio};
 
     ghost Value = { SpaceRatio };
 

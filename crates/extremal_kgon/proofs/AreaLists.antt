@@ -14,7 +14,7 @@ pairs_next n = ap pairs_below (up n)
     up : (n : ℕ) → n + 1 ≡ suc n
     up n = omega arith
 
--- the pairs with one place end before those with a later one
+-- the pairs with one index end before those with a later one
 pub pairs_within : (k n : ℕ) → k < n → pairs_below k + k ≤ pairs_below n
 pairs_within k zero low = absurd (omega (arith, low))
 pairs_within k (suc n) low = elim (below_or_at k n (subst (λ m. k < m) (up n) low)) [
@@ -31,7 +31,7 @@ pairs_within k (suc n) low = elim (below_or_at k n (subst (λ m. k < m) (up n) l
     itself : (x : ℕ) → x ≤ x
     itself x = omega arith
 
--- there are no more than for 128 places
+-- there are no more than for 128 indices
 pub pairs_limit : (k n : ℕ) → k < n → n ≤ 128 → pairs_below k + k ≤ 8128
 pairs_limit k n low few = pairs_within k 128 (under low few)
   where

@@ -35,7 +35,7 @@ corners_pass points [] h = absurd h
 corners_pass points (a ∷ []) h = record {
   from_least = record { listed = h.listed; least = All-weaker (λ p. p ≡ a) (IsBefore a) (before_same a) points h.only };
   once = λ k d low. absurd (none low);
-  hold = h.only;
+  surround = h.only;
 }
   where
     none : {k : ℕ} → k < 0 → ⊥
@@ -43,12 +43,12 @@ corners_pass points (a ∷ []) h = record {
 corners_pass points (a ∷ b ∷ []) h = record {
   from_least = h.from_least;
   once = All-cons (λ c. c ≢ a) b [] (λ e. h.distinct (sym e)) (All-nil (λ c. c ≢ a));
-  hold = record { to_greatest = h.to_greatest; on_line = h.on_line };
+  surround = record { to_greatest = h.to_greatest; on_line = h.on_line };
 }
 corners_pass points (a ∷ b ∷ c ∷ rest) h = record {
   from_least = h.from_least;
   once = first_once a (b ∷ c ∷ rest) h.distinct;
-  hold = record {
+  surround = record {
     left_turns = λ i low. subst (λ z. pos 0 <ℤ z) (turn_along (around (a ∷ b ∷ c ∷ rest) i) (around (a ∷ b ∷ c ∷ rest) (i + 1)) (around (a ∷ b ∷ c ∷ rest) (i + 2))) (h.left_turns i low);
     all_left = h.inside;
   };

@@ -1,4 +1,4 @@
-pub mod Places
+pub mod PotentialIndices
 pub mod WayAreas
 pub mod TableSteps
 pub mod Bests

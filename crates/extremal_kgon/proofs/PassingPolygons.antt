@@ -10,11 +10,11 @@ use Rattle.integers.specs.Size.{Size}
 use Rattle.integers.proofs.Sizes.{below_size}
 use Rattle.bounds_model.specs.Plane.{PlanePoint, point_at, turn}
 use Rattle.bounds_model.specs.Fractions.{Fraction, SameValue}
-use Rattle.bounds_model.specs.Places.{IsFraction, IsNatural}
+use Rattle.bounds_model.specs.Ranges.{IsFraction, IsNatural}
 use Rattle.bounds_model.specs.Hull.{AreCorners}
 use Rattle.bounds_model.specs.KgonAnswer.{PassesKgon, pairs_before}
 use Rattle.extremal_kgon.specs.declared.table.Best.{Best}
-use Rattle.extremal_kgon.specs.Tables.{held, IsTable}
+use Rattle.extremal_kgon.specs.Tables.{potential_or_zero, IsTable}
 use Rattle.extremal_kgon.specs.Choices.{IsChoice}
 use Rattle.extremal_kgon.proofs.HullCorners.{corners_pass}
 
@@ -42,7 +42,7 @@ pub answer_passes : (k : ℕ) (points : List PlanePoint) (numbers chosen us : Li
     → IsTable (map (point_at points) numbers) layers (length (map (point_at points) numbers)) (map pos us) best → IsChoice (map (point_at points) numbers) layers best.area chosen
     → IsFraction size → size.n *ℤ pos 2 ≡ best.area *ℤ size.d → PassesKgon k points (record { size = size; corners = numbers; chosen = chosen; layers = layers; potentials = map pos us })
 answer_passes k points numbers chosen us layers best size three twelve many few some listed corners layers_is t choice fraction half_is = record {
-  places = record {
+  ranges = record {
     size = fraction;
     corner_count = record { at_least = some; at_most = few };
     corners = All-weaker (λ n. n < length points) (λ n. n ≤ 9999) (λ n h. omega arith) numbers listed;
@@ -59,7 +59,7 @@ answer_passes k points numbers chosen us layers best size three twelve many few 
   layers = layers_is;
   grows = λ c low_c b low_b a low_a layer low_layer.
       let p = t.potentials a layer c (omega (arith, same)) low_layer (omega arith) (omega (arith, same)) in
-      subst (λ n. (held n layers (map pos us) a layer b +ℤ turn (point_at (map (point_at points) numbers) a) (point_at (map (point_at points) numbers) b) (point_at (map (point_at points) numbers) c)) ≤ℤ held n layers (map pos us) a (layer + 1) c) same (p.grows b low_a low_b);
+      subst (λ n. (potential_or_zero n layers (map pos us) a layer b +ℤ turn (point_at (map (point_at points) numbers) a) (point_at (map (point_at points) numbers) b) (point_at (map (point_at points) numbers) c)) ≤ℤ potential_or_zero n layers (map pos us) a (layer + 1) c) same (p.grows b low_a low_b);
   under_size = All-weaker (λ u. u ≤ℤ best.area) (λ u. (u *ℤ size.d) ≤ℤ (pos 2 *ℤ size.n)) (λ u h. subst (λ z. (u *ℤ size.d) ≤ℤ z) (half size.n size.d best.area half_is) (times u h)) (map pos us) t.greatest.above;
 }
   where

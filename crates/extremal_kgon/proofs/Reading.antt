@@ -1,4 +1,4 @@
--- Numbers and points at places of lists.
+-- Numbers and points at indices of lists.
 use Rattle.std.proofs.Common.{◌≡◌, refl, sym, subst, ap, ℕ, zero, suc, ◌+◌, ◌<◌, ◌⊎◌, inl, inr, arith, List, [], ◌∷◌, ◌++◌, length, map}
 use Rattle.std.specs.Prelude.{slice_index_or}
 use Rattle.std.proofs.Common.{◌^◌, ℤ, to_z, of_z, to_z-of_z, w64}

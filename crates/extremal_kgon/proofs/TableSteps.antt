@@ -16,9 +16,9 @@ use Rattle.extremal_kgon.specs.declared.ways.Way.{Way}
 use Rattle.extremal_kgon.specs.declared.table.Best.{Best}
 use Rattle.extremal_kgon.specs.Ways.{vector_of, AreWays}
 use Rattle.extremal_kgon.specs.Rows.{at, area_at, IsBestSum, IsNextRow}
-use Rattle.extremal_kgon.specs.Tables.{place, ending, held, IsPotential, StandsAt, IsBestOf, IsFoundAt, IsTable, TakesBest}
+use Rattle.extremal_kgon.specs.Tables.{index, ending, potential_or_zero, IsPotential, StandsAt, IsBestOf, IsFoundAt, IsTable, TakesBest}
 use Rattle.extremal_kgon.proofs.Reading.{below_or_at}
-use Rattle.extremal_kgon.proofs.Places.{pairs-next, layer-next, layers-below, held-next, held-more, held-row}
+use Rattle.extremal_kgon.proofs.PotentialIndices.{pairs-next, layer-next, layers-below, potential_or_zero-next, potential_or_zero-more, potential_or_zero-row}
 use Rattle.extremal_kgon.proofs.WayAreas.{area-turn, area-limit}
 
 -- the potentials up to a layer of a first corner, the last row of which is also apart
@@ -28,20 +28,20 @@ pub record IsPartTable (corners : List PlanePoint) (layers first layer : ℕ) (u
   pub potentials : (a l last : ℕ) → a < first → l < layers → a < last → last < length corners → IsPotential corners layers us a l last
   pub here : (l last : ℕ) → l < layer → first < last → last < length corners → IsPotential corners layers us first l last
   pub row_length : first + 1 + length row ≡ length corners
-  pub in_row : (last : ℕ) → first < last → last < length corners → at row (last - first - 1) ≡ held (length corners) layers us first layer last
+  pub in_row : (last : ℕ) → first < last → last < length corners → at row (last - first - 1) ≡ potential_or_zero (length corners) layers us first layer last
   pub low : All (λ u. pos 0 ≤ℤ u) row
   pub high : All (λ u. u ≤ℤ pos (layer * 549755813888)) row
   pub greatest : IsBestOf (length corners) layers us best
 
 -- where the list holds the same in two layers, a potential is one
 potential-by : (corners : List PlanePoint) (layers : ℕ) (us vs : List ℤ) (first layer last : ℕ)
-    → ((middle : ℕ) → first < middle → middle < last → held (length corners) layers vs first layer middle ≡ held (length corners) layers us first layer middle)
-    → held (length corners) layers vs first (layer + 1) last ≡ held (length corners) layers us first (layer + 1) last
+    → ((middle : ℕ) → first < middle → middle < last → potential_or_zero (length corners) layers vs first layer middle ≡ potential_or_zero (length corners) layers us first layer middle)
+    → potential_or_zero (length corners) layers vs first (layer + 1) last ≡ potential_or_zero (length corners) layers us first (layer + 1) last
     → IsPotential corners layers us first layer last → IsPotential corners layers vs first layer last
 potential-by corners layers us vs first layer last below here p =
     let area = λ (m : ℕ). turn (point_at corners first) (point_at corners m) (point_at corners last) in
     record {
-      grows = λ m h k. subst (λ z. z ≤ℤ held (length corners) layers vs first (layer + 1) last) (ap (λ z. z +ℤ area m) (sym (below m h k))) (subst (λ z. (held (length corners) layers us first layer m +ℤ area m) ≤ℤ z) (sym here) (p.grows m h k));
+      grows = λ m h k. subst (λ z. z ≤ℤ potential_or_zero (length corners) layers vs first (layer + 1) last) (ap (λ z. z +ℤ area m) (sym (below m h k))) (subst (λ z. (potential_or_zero (length corners) layers us first layer m +ℤ area m) ≤ℤ z) (sym here) (p.grows m h k));
       reached = elim p.reached [
         | inl none ↦ inl (here ∙ none)
         | inr some ↦ inr (some.0, record { after = some.1.after; before = some.1.before; sum = here ∙ some.1.sum ∙ ap (λ z. z +ℤ area some.0) (sym (below some.0 some.1.after some.1.before)) })
@@ -52,8 +52,8 @@ potential-by corners layers us vs first layer last below here p =
 potential-more : (corners : List PlanePoint) (layers : ℕ) (us vs : List ℤ) (first layer last : ℕ) → first < last → last < length corners → ending (length corners) layers first (layer + 1) ≤ length us → IsPotential corners layers us first layer last → IsPotential corners layers (us ++ vs) first layer last
 potential-more corners layers us vs first layer last h k within p =
     potential-by corners layers us (us ++ vs) first layer last
-    (λ m l n. held-more (length corners) layers us vs first layer m l (under n k) (shorter _ _ _ _ (layer-next layer (length corners - 1 - first)) within))
-    (held-more (length corners) layers us vs first (layer + 1) last h k within) p
+    (λ m l n. potential_or_zero-more (length corners) layers us vs first layer m l (under n k) (shorter _ _ _ _ (layer-next layer (length corners - 1 - first)) within))
+    (potential_or_zero-more (length corners) layers us vs first (layer + 1) last h k within) p
   where
     under : {m n : ℕ} → m < last → last < n → m < n
     under h k = omega arith
@@ -63,10 +63,10 @@ potential-more corners layers us vs first layer last h k within p =
 
 -- the new row's numbers are potentials
 potential-new : (corners : List PlanePoint) (layers : ℕ) (us row : List ℤ) (first layer : ℕ) (before : List ℤ) (ways : List Way) → length us ≡ ending (length corners) layers first layer
-    → ((last : ℕ) → first < last → last < length corners → at before (last - first - 1) ≡ held (length corners) layers us first layer last)
+    → ((last : ℕ) → first < last → last < length corners → at before (last - first - 1) ≡ potential_or_zero (length corners) layers us first layer last)
     → AreWays corners first ways → IsNextRow (map vector_of ways) before row → length row ≡ length ways → (last : ℕ) → first < last → last < length corners → IsPotential corners layers (us ++ row) first layer last
 potential-new corners layers us row first layer before ways as_many in_row w next same last h k = record {
-  grows = λ m l n. subst (λ z. z ≤ℤ held (length corners) layers (us ++ row) first (layer + 1) last) (sym (sum_is m l n)) (subst (λ z. (at before (m - first - 1) +ℤ area_at (map vector_of ways) (last - first - 1) (m - first - 1)) ≤ℤ z) (sym here) (best_sum.grows (m - first - 1) (earlier l n)));
+  grows = λ m l n. subst (λ z. z ≤ℤ potential_or_zero (length corners) layers (us ++ row) first (layer + 1) last) (sym (sum_is m l n)) (subst (λ z. (at before (m - first - 1) +ℤ area_at (map vector_of ways) (last - first - 1) (m - first - 1)) ≤ℤ z) (sym here) (best_sum.grows (m - first - 1) (earlier l n)));
   reached = elim best_sum.reached [
     | inl none ↦ inl (here ∙ none)
     | inr some ↦ inr (
@@ -86,8 +86,8 @@ potential-new corners layers us row first layer before ways as_many in_row w nex
     best_sum : IsBestSum (area_at (map vector_of ways) (last - first - 1)) before (last - first - 1) (at row (last - first - 1))
     best_sum = next.each (last - first - 1) (subst (λ n. last - first - 1 < n) (sym same) (in_ways h k))
 
-    here : held (length corners) layers (us ++ row) first (layer + 1) last ≡ at row (last - first - 1)
-    here = held-row (length corners) layers us row first layer last h as_many
+    here : potential_or_zero (length corners) layers (us ++ row) first (layer + 1) last ≡ at row (last - first - 1)
+    here = potential_or_zero-row (length corners) layers us row first layer last h as_many
 
     under : {m n : ℕ} → m < last → last < n → m < n
     under h k = omega arith
@@ -111,8 +111,8 @@ potential-new corners layers us row first layer before ways as_many in_row w nex
     area_is m l n =
         area-turn corners first ways w (last - first - 1) (m - first - 1) (in_ways h k) (in_ways l (under n k)) ∙ ap₂ (λ p q. turn (point_at corners first) (point_at corners p) (point_at corners q)) (again l) (again h)
 
-    sum_is : (m : ℕ) → first < m → m < last → (held (length corners) layers (us ++ row) first layer m +ℤ turn (point_at corners first) (point_at corners m) (point_at corners last)) ≡ (at before (m - first - 1) +ℤ area_at (map vector_of ways) (last - first - 1) (m - first - 1))
-    sum_is m l n = ap₂ (λ p q. p +ℤ q) (held-more (length corners) layers us row first layer m l (under n k) (subst (λ n. ending (length corners) layers first layer ≤ n) (sym as_many) (least (ending (length corners) layers first layer))) ∙ sym (in_row m l (under n k))) (sym (area_is m l n))
+    sum_is : (m : ℕ) → first < m → m < last → (potential_or_zero (length corners) layers (us ++ row) first layer m +ℤ turn (point_at corners first) (point_at corners m) (point_at corners last)) ≡ (at before (m - first - 1) +ℤ area_at (map vector_of ways) (last - first - 1) (m - first - 1))
+    sum_is m l n = ap₂ (λ p q. p +ℤ q) (potential_or_zero-more (length corners) layers us row first layer m l (under n k) (subst (λ n. ending (length corners) layers first layer ≤ n) (sym as_many) (least (ending (length corners) layers first layer))) ∙ sym (in_row m l (under n k))) (sym (area_is m l n))
       where
         least : (n : ℕ) → n ≤ n
         least n = omega arith
@@ -124,8 +124,8 @@ stands-more count layers us vs best s = record {
   last = s.last;
   some = s.some;
   layer = s.layer;
-  within = subst (λ n. place count layers best.first (best.layer - 1) best.last < n) (sym (length-append us vs)) (longer _ s.within);
-  is = same (us ++ vs) ∙ get_or_append_left us vs (pos 0) (place count layers best.first (best.layer - 1) best.last) s.within ∙ sym (same us) ∙ s.is;
+  within = subst (λ n. index count layers best.first (best.layer - 1) best.last < n) (sym (length-append us vs)) (longer _ s.within);
+  is = same (us ++ vs) ∙ get_or_append_left us vs (pos 0) (index count layers best.first (best.layer - 1) best.last) s.within ∙ sym (same us) ∙ s.is;
 }
   where
     longer : {p n : ℕ} (m : ℕ) → p < n → p < n + m
@@ -134,8 +134,8 @@ stands-more count layers us vs best s = record {
     again : 1 ≤ best.layer → best.layer ≡ best.layer - 1 + 1
     again h = omega arith
 
-    same : (xs : List ℤ) → held count layers xs best.first best.layer best.last ≡ at xs (place count layers best.first (best.layer - 1) best.last)
-    same xs = ap (λ m. held count layers xs best.first m best.last) (again s.some) ∙ held-next count layers xs best.first (best.layer - 1) best.last
+    same : (xs : List ℤ) → potential_or_zero count layers xs best.first best.layer best.last ≡ at xs (index count layers best.first (best.layer - 1) best.last)
+    same xs = ap (λ m. potential_or_zero count layers xs best.first m best.last) (again s.some) ∙ potential_or_zero-next count layers xs best.first (best.layer - 1) best.last
 
 -- what was found in a new row stands in the list
 found-stands : (count layers : ℕ) (us row : List ℤ) (first layer : ℕ) (best : Best) (i : ℕ) → length us ≡ ending count layers first layer → first + 1 + length row ≡ count → layer < layers → IsFoundAt row first (layer + 1) best i → StandsAt count layers (us ++ row) best
@@ -144,8 +144,8 @@ found-stands count layers us row first layer best i as_many width below f = reco
   last = subst (λ n. n < count) (sym f.to) (omega (arith, f.below));
   some = subst (λ n. 1 ≤ n) (sym f.in_layer) (omega arith);
   layer = subst (λ n. n ≤ layers) (sym f.in_layer) (omega arith);
-  within = subst (λ n. place count layers best.first (best.layer - 1) best.last < n) (sym (length-append us row)) (subst (λ p. p < length us + length row) (sym place_is) (more (length us) f.below));
-  is = ap₂ (λ a l. held count layers (us ++ row) a l best.last) f.from f.in_layer ∙ ap (λ b. held count layers (us ++ row) first (layer + 1) b) f.to ∙ held-row count layers us row first layer (first + 1 + i) (after first i) as_many ∙ ap (at row) (back first i) ∙ sym f.area;
+  within = subst (λ n. index count layers best.first (best.layer - 1) best.last < n) (sym (length-append us row)) (subst (λ p. p < length us + length row) (sym index_is) (more (length us) f.below));
+  is = ap₂ (λ a l. potential_or_zero count layers (us ++ row) a l best.last) f.from f.in_layer ∙ ap (λ b. potential_or_zero count layers (us ++ row) first (layer + 1) b) f.to ∙ potential_or_zero-row count layers us row first layer (first + 1 + i) (after first i) as_many ∙ ap (at row) (back first i) ∙ sym f.area;
 }
   where
     after : (a j : ℕ) → a < a + 1 + j
@@ -160,9 +160,9 @@ found-stands count layers us row first layer best i as_many width below f = reco
     more : (n : ℕ) {j m : ℕ} → j < m → n + j < n + m
     more n h = omega arith
 
-    place_is : place count layers best.first (best.layer - 1) best.last ≡ length us + i
-    place_is =
-        ap₂ (λ a l. place count layers a (l - 1) best.last) f.from f.in_layer ∙ ap₂ (λ l b. place count layers first l b) (one_less layer) f.to
+    index_is : index count layers best.first (best.layer - 1) best.last ≡ length us + i
+    index_is =
+        ap₂ (λ a l. index count layers a (l - 1) best.last) f.from f.in_layer ∙ ap₂ (λ l b. index count layers first l b) (one_less layer) f.to
         ∙ ap₂ (λ n j. n + j) (sym as_many) (back first i)
 
 -- the greatest number with a new row
@@ -219,7 +219,7 @@ row-added corners layers first layer us vs before row old new ways is_first belo
     | inr at_it ↦ subst (λ m. IsPotential corners layers (us ++ row) first m last) (sym at_it) (potential-new corners layers us row first layer before ways t.as_many t.in_row w next same last j k)
   ];
   row_length = omega (arith, same, w.as_many);
-  in_row = λ last j k. sym (held-row (length corners) layers us row first layer last j t.as_many);
+  in_row = λ last j k. sym (potential_or_zero-row (length corners) layers us row first layer last j t.as_many);
   low = row-low ways before row next;
   high = row-high corners first ways before row layer w (omega (arith, t.row_length, w.as_many)) next same t.high;
   greatest = best-more (length corners) layers us row first layer old new t.as_many (omega (arith, same, w.as_many)) below t.greatest takes;

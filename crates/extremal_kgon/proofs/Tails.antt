@@ -9,9 +9,9 @@ use Rattle.bounds_model.specs.Plane.{PlanePoint, point_at}
 use Rattle.bounds_model.specs.Kgon.{triangulated_area}
 use Rattle.extremal_kgon.specs.declared.table.Best.{Best}
 use Rattle.extremal_kgon.specs.Rows.{at}
-use Rattle.extremal_kgon.specs.Tables.{place, ending, held, IsTriangleMore, StandsAt, IsTable}
+use Rattle.extremal_kgon.specs.Tables.{index, ending, potential_or_zero, IsTriangleMore, StandsAt, IsTable}
 use Rattle.extremal_kgon.specs.Choices.{IsChoice}
-use Rattle.extremal_kgon.proofs.Places.{held-next}
+use Rattle.extremal_kgon.proofs.PotentialIndices.{potential_or_zero-next}
 
 -- the chosen positions from one on: a potential there and the triangles from there on come to the area
 pub record IsTail (corners : List PlanePoint) (layers : ℕ) (us : List ℤ) (first layer last : ℕ) (positions : List ℕ) (area : ℤ) : Type 0 where
@@ -21,7 +21,7 @@ pub record IsTail (corners : List PlanePoint) (layers : ℕ) (us : List ℤ) (fi
   pub some : 1 ≤ layers
   pub few : length positions + layer ≤ layers + 1
   pub begins : (rest : List ℕ) × (positions ≡ last ∷ rest)
-  pub sum : (held (length corners) layers us first layer last +ℤ triangulated_area (point_at corners first) (map (point_at corners) positions)) ≡ area
+  pub sum : (potential_or_zero (length corners) layers us first layer last +ℤ triangulated_area (point_at corners first) (map (point_at corners) positions)) ≡ area
   pub rising : IsStrictlyIncreasing positions
   pub in_range : All (λ i. i < length corners) positions
 
@@ -43,7 +43,7 @@ rising-one a k below = absurd (none below)
     none h = omega arith
 
 -- a potential above 0 is in a layer
-pub in_layer : (count layers : ℕ) (us : List ℤ) (first layer last : ℕ) → pos 0 <ℤ held count layers us first layer last → 1 ≤ layer
+pub in_layer : (count layers : ℕ) (us : List ℤ) (first layer last : ℕ) → pos 0 <ℤ potential_or_zero count layers us first layer last → 1 ≤ layer
 in_layer count layers us first zero last h = absurd (nothing h)
   where
     nothing : pos 0 <ℤ pos 0 → ⊥
@@ -83,9 +83,9 @@ tail-more corners layers us first layer last middle positions more area t in_one
   some = t.some;
   few = omega (arith, t.few, in_one);
   begins = (positions, refl);
-  sum = ap (λ ps. held (length corners) layers us first (layer - 1) middle +ℤ triangulated_area (point_at corners first) (map (point_at corners) (middle ∷ ps))) t.begins.1
-      ∙ regroup _ _ _ _ (ap (λ l. held (length corners) layers us first l last) (sym (again in_one)) ∙ m.sum)
-      ∙ ap (λ ps. held (length corners) layers us first layer last +ℤ triangulated_area (point_at corners first) (map (point_at corners) ps)) (sym t.begins.1) ∙ t.sum;
+  sum = ap (λ ps. potential_or_zero (length corners) layers us first (layer - 1) middle +ℤ triangulated_area (point_at corners first) (map (point_at corners) (middle ∷ ps))) t.begins.1
+      ∙ regroup _ _ _ _ (ap (λ l. potential_or_zero (length corners) layers us first l last) (sym (again in_one)) ∙ m.sum)
+      ∙ ap (λ ps. potential_or_zero (length corners) layers us first layer last +ℤ triangulated_area (point_at corners first) (map (point_at corners) ps)) (sym t.begins.1) ∙ t.sum;
   rising = subst (λ ps. IsStrictlyIncreasing (middle ∷ ps)) (sym t.begins.1) (rising-cons middle last t.begins.0 m.before (subst IsStrictlyIncreasing t.begins.1 t.rising));
   in_range = All-cons (λ i. i < length corners) middle positions (omega (arith, m.before, t.below)) t.in_range;
 })
@@ -97,7 +97,7 @@ tail-more corners layers us first layer last middle positions more area t in_one
     regroup u t f v e = omega (arith, ints)
 
 -- all corners, with the first one
-pub tail-ends : (corners : List PlanePoint) (layers : ℕ) (us : List ℤ) (first layer last : ℕ) (positions all : List ℕ) (area : ℤ) → first < length corners → IsTail corners layers us first layer last positions area → held (length corners) layers us first layer last ≡ pos 0 → all ≡ first ∷ positions → IsChoice corners layers area all
+pub tail-ends : (corners : List PlanePoint) (layers : ℕ) (us : List ℤ) (first layer last : ℕ) (positions all : List ℕ) (area : ℤ) → first < length corners → IsTail corners layers us first layer last positions area → potential_or_zero (length corners) layers us first layer last ≡ pos 0 → all ≡ first ∷ positions → IsChoice corners layers area all
 tail-ends corners layers us first layer last positions all area is_first t none is = subst (IsChoice corners layers area) (sym is) (record {
   some = omega arith;
   few = omega (arith, t.few);
@@ -122,9 +122,9 @@ one_alone corners layers area all some none is = subst (IsChoice corners layers 
 })
 
 -- no potential is below 0
-pub held-low : (count layers : ℕ) (us : List ℕ) (first layer last : ℕ) → pos 0 ≤ℤ held count layers (map pos us) first layer last
-held-low count layers us first zero last = omega (arith, ints)
-held-low count layers us first (suc layer) last = subst (λ m. pos 0 ≤ℤ held count layers (map pos us) first m last) (up layer) (subst (λ z. pos 0 ≤ℤ z) (sym (held-next count layers (map pos us) first layer last)) (low us (place count layers first layer last)))
+pub potential_or_zero-low : (count layers : ℕ) (us : List ℕ) (first layer last : ℕ) → pos 0 ≤ℤ potential_or_zero count layers (map pos us) first layer last
+potential_or_zero-low count layers us first zero last = omega (arith, ints)
+potential_or_zero-low count layers us first (suc layer) last = subst (λ m. pos 0 ≤ℤ potential_or_zero count layers (map pos us) first m last) (up layer) (subst (λ z. pos 0 ≤ℤ z) (sym (potential_or_zero-next count layers (map pos us) first layer last)) (low us (index count layers first layer last)))
   where
     up : (k : ℕ) → k + 1 ≡ suc k
     up k = omega arith

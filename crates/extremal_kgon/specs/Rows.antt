@@ -8,11 +8,11 @@ use Rattle.bounds_model.specs.Plane.{PlanePoint, point_at, cross}
 abbrev pub area_at : List PlanePoint → ℕ → ℕ → ℤ
 area_at ways i j = cross (point_at ways j) (point_at ways i)
 
--- the number at this place of a row
+-- the number at this index of a row
 abbrev pub at : List ℤ → ℕ → ℤ
 at row i = slice_index_or row i (pos 0)
 
--- how many pairs of places below a number there are
+-- how many pairs of indices below a number there are
 abbrev pub pairs_below : ℕ → ℕ
 pairs_below zero = 0
 pairs_below (suc n) = pairs_below n + n

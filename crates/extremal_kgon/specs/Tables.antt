@@ -7,27 +7,27 @@ use Rattle.extremal_kgon.specs.declared.table.Best.{Best}
 use Rattle.extremal_kgon.specs.Rows.{at}
 
 -- where the potential of a first and a last corner stands in a layer, the first of which is 0
-abbrev pub place : ℕ → ℕ → ℕ → ℕ → ℕ → ℕ
-place count layers first layer last = layers * pairs_before count first + layer * (count - 1 - first) + (last - first - 1)
+abbrev pub index : ℕ → ℕ → ℕ → ℕ → ℕ → ℕ
+index count layers first layer last = layers * pairs_before count first + layer * (count - 1 - first) + (last - first - 1)
 
 -- where the layers before this one end
 abbrev pub ending : ℕ → ℕ → ℕ → ℕ → ℕ
 ending count layers first layer = layers * pairs_before count first + layer * (count - 1 - first)
 
 -- the potential with so many triangles at most, which is 0 with none
-abbrev pub held : ℕ → ℕ → List ℤ → ℕ → ℕ → ℕ → ℤ
-held count layers us first layer last = if nat_lt 0 layer then at us (place count layers first (layer - 1) last) else pos 0
+abbrev pub potential_or_zero : ℕ → ℕ → List ℤ → ℕ → ℕ → ℕ → ℤ
+potential_or_zero count layers us first layer last = if nat_lt 0 layer then at us (index count layers first (layer - 1) last) else pos 0
 
 -- a potential is another one with a triangle less, and the triangle
 pub record IsTriangleMore (corners : List PlanePoint) (layers : ℕ) (us : List ℤ) (first layer last middle : ℕ) : Type 0 where
   pub after : first < middle
   pub before : middle < last
-  pub sum : held (length corners) layers us first (layer + 1) last ≡ (held (length corners) layers us first layer middle +ℤ turn (point_at corners first) (point_at corners middle) (point_at corners last))
+  pub sum : potential_or_zero (length corners) layers us first (layer + 1) last ≡ (potential_or_zero (length corners) layers us first layer middle +ℤ turn (point_at corners first) (point_at corners middle) (point_at corners last))
 
 -- a potential is the greatest of 0 and what triangles make of the layer before
 pub record IsPotential (corners : List PlanePoint) (layers : ℕ) (us : List ℤ) (first layer last : ℕ) : Type 0 where
-  pub grows : (middle : ℕ) → first < middle → middle < last → (held (length corners) layers us first layer middle +ℤ turn (point_at corners first) (point_at corners middle) (point_at corners last)) ≤ℤ held (length corners) layers us first (layer + 1) last
-  pub reached : (held (length corners) layers us first (layer + 1) last ≡ pos 0) ⊎ ((middle : ℕ) × IsTriangleMore corners layers us first layer last middle)
+  pub grows : (middle : ℕ) → first < middle → middle < last → (potential_or_zero (length corners) layers us first layer middle +ℤ turn (point_at corners first) (point_at corners middle) (point_at corners last)) ≤ℤ potential_or_zero (length corners) layers us first (layer + 1) last
+  pub reached : (potential_or_zero (length corners) layers us first (layer + 1) last ≡ pos 0) ⊎ ((middle : ℕ) × IsTriangleMore corners layers us first layer last middle)
 
 -- the number stands in the list, after layers that are potentials
 pub record StandsAt (count layers : ℕ) (us : List ℤ) (best : Best) : Type 0 where
@@ -35,8 +35,8 @@ pub record StandsAt (count layers : ℕ) (us : List ℤ) (best : Best) : Type 0 
   pub last : best.last < count
   pub some : 1 ≤ best.layer
   pub layer : best.layer ≤ layers
-  pub within : place count layers best.first (best.layer - 1) best.last < length us
-  pub is : held count layers us best.first best.layer best.last ≡ best.area
+  pub within : index count layers best.first (best.layer - 1) best.last < length us
+  pub is : potential_or_zero count layers us best.first best.layer best.last ≡ best.area
 
 -- the greatest number of the list, if it is not 0
 pub record IsBestOf (count layers : ℕ) (us : List ℤ) (best : Best) : Type 0 where
@@ -45,7 +45,7 @@ pub record IsBestOf (count layers : ℕ) (us : List ℤ) (best : Best) : Type 0 
   pub above : All (λ u. u ≤ℤ best.area) us
   pub stands : (best.area ≡ pos 0) ⊎ StandsAt count layers us best
 
--- the number stands at a place of a row
+-- the number stands at an index of a row
 pub record IsFoundAt (row : List ℤ) (first layer : ℕ) (best : Best) (i : ℕ) : Type 0 where
   pub below : i < length row
   pub positive : pos 0 <ℤ best.area

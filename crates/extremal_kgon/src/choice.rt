@@ -2,7 +2,7 @@
 ghost use Rattle.std.specs.Prelude.{◌≡◌, ◌+◌, ◌^◌, ◌<◌, ◌≤◌, ◌<ℤ◌, length, map, All, pos};
 ghost use Rattle.integers.specs.Size.{Size};
 ghost use Rattle.bounds_model.specs.Plane.{point_at, turn};
-ghost use Rattle.extremal_kgon.specs.Tables.{held, ending, IsPotential, IsTriangleMore, IsTable};
+ghost use Rattle.extremal_kgon.specs.Tables.{potential_or_zero, ending, IsPotential, IsTriangleMore, IsTable};
 ghost use Rattle.extremal_kgon.specs.Choices.{IsChoice};
 
 use crate::table::Best;
@@ -39,7 +39,7 @@ fn potential(
     requires last { last < count }
     requires within { ending count layers first layer ≤ length potentials.now }
     requires small { All (λ u. u ≤ 2 ^ 43) potentials.now }
-    ensures potential { result ≡ held count layers (map pos potentials.now) first layer last }
+    ensures potential { result ≡ potential_or_zero count layers (map pos potentials.now) first layer last }
     ensures small { Size (2 ^ 43) result }
 {
     if layer == 0 {
@@ -66,7 +66,7 @@ fn step_back(
     requires last { last < length corners.now }
     requires within { ending (length corners.now) layers first (layer + 1) ≤ length potentials.now }
     requires small { All (λ u. u ≤ 2 ^ 43) potentials.now }
-    requires some { pos 0 <ℤ held (length corners.now) layers (map pos potentials.now) first (layer + 1) last }
+    requires some { pos 0 <ℤ potential_or_zero (length corners.now) layers (map pos potentials.now) first (layer + 1) last }
     requires potential { IsPotential corners.now layers (map pos potentials.now) first layer last }
     ensures { IsTriangleMore corners.now layers (map pos potentials.now) first layer last result }
 {

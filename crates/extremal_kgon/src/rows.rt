@@ -22,11 +22,11 @@ pub(crate) fn zero_row(count: usize) -> Row
     row
 }
 
-/// The greatest of 0 and of what each earlier corner's potential and the triangle that it makes with the one at this place come to. The
+/// The greatest of 0 and of what each earlier corner's potential and the triangle that it makes with the one at this index come to. The
 /// areas of those triangles begin at `start`.
 fn best_sum(areas: &[i64], start: usize, before: &[i64], i: usize) -> i64
     requires end { start + i ≤ length areas.now }
-    requires place { i ≤ length before.now }
+    requires index { i ≤ length before.now }
     requires areas { All (Size (2 ^ 39)) areas.now }
     requires before { All (Size (2 ^ 43)) before.now }
     ensures { IsBestSum (λ j. at areas.now (start + j)) before.now i result }

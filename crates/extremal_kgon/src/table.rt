@@ -24,7 +24,7 @@ pub(crate) struct Best {
 impl Best {
     /// With a row of potentials.
     fn with_row(self, row: &[i64], first: usize, layer: usize) -> Best
-        requires place { first + layer + length row.now ≤ 1000 }
+        requires index { first + layer + length row.now ≤ 1000 }
         requires not_negative { pos 0 ≤ℤ self.area }
         requires small { Size (2 ^ 43) self.area }
         requires sizes { All (Size (2 ^ 43)) row.now }

@@ -24,9 +24,9 @@ fn area(from: Way, to: Way) -> i64
     from.x * to.y - from.y * to.x
 }
 
-/// Adds the areas over each earlier vector and the one at this place.
+/// Adds the areas over each earlier vector and the one at this index.
 fn push_areas(areas: &mut Areas, ways: &[Way], i: usize)
-    requires place { i < length ways.now }
+    requires index { i < length ways.now }
     requires room { length areas.old.items + i ≤ 8128 }
     requires short { All IsShort ways.now }
     ensures { AddsAreas (area_at (map vector_of ways.now) i) i areas.old.items areas.new.items }
@@ -37,7 +37,7 @@ fn push_areas(areas: &mut Areas, ways: &[Way], i: usize)
     }
 }
 
-/// Keeps the areas over each two of the vectors, in the place of others.
+/// Keeps the areas over each two of the vectors, over others.
 pub(crate) fn set_areas(areas: &mut Areas, ways: &[Way])
     requires few { length ways.now ≤ 128 }
     requires short { All IsShort ways.now }

@@ -1,6 +1,6 @@
 pub mod FanLoops
 pub mod Widths
-pub mod FanPlaces
+pub mod FanRanges
 pub mod StripPassing
 pub mod RectanglePassing
 pub mod AcrossParts

@@ -6,24 +6,24 @@ use Rattle.std.proofs.lemmas.List.{length-map, length-append}
 use Rattle.bounds_model.specs.Numbers.{AllNumbered}
 use Rattle.bounds_model.specs.Plane.{PlanePoint, point_at, dot, cross}
 use Rattle.bounds_model.specs.Fractions.{SameValue}
-use Rattle.bounds_model.specs.Places.{IsFraction}
+use Rattle.bounds_model.specs.Ranges.{IsFraction}
 use Rattle.bounds_model.specs.Strip.{IsInSpan}
 use Rattle.bounds_model.specs.Parallelogram.{parallelogram_size}
 use Rattle.bounds_model.specs.Fans.{HalfFan, HoldsHalf, half_directions, IsShort}
 use Rattle.bounds_model.specs.StripAnswer.{IsShortSpan}
-use Rattle.bounds_model.specs.ParallelogramAnswer.{Chord, ParallelogramAnswer, parallelogram_of, ChordPlaces, NamesEnds, IsShortChord, IsAcross, IsNotSmallerAt, PassesParallelogram}
-use Rattle.directions.proofs.SpanBounds.{within_more, short_pair, short_span}
+use Rattle.bounds_model.specs.ParallelogramAnswer.{Chord, ParallelogramAnswer, parallelogram_of, ChordRanges, NamesEnds, IsShortChord, IsAcross, IsNotSmallerAt, PassesParallelogram}
+use Rattle.directions.proofs.SpanBounds.{within_more, direction_of_short, short_span}
 use Rattle.fan_checks.specs.Limits.{HasHalfLimits, HasChordLimits}
-use Rattle.fan_checks.proofs.FanPlaces.{half_places}
+use Rattle.fan_checks.proofs.FanRanges.{half_ranges}
 
 -- the weights of a chord are not below 0
 pub record HasNaturalWeights (chord : Chord) : Type 0 where
   pub beta : pos 0 ≤ℤ chord.beta
   pub gamma : pos 0 ≤ℤ chord.gamma
 
--- a chord within the limits has its numbers in their places
-chord_places : (points : List PlanePoint) (chord : Chord) → length points ≤ 10000 → NamesEnds points chord → IsShortChord chord → HasNaturalWeights chord → ChordPlaces chord
-chord_places points chord few names short natural = record {
+-- a chord within the limits has its numbers in their ranges
+chord_ranges : (points : List PlanePoint) (chord : Chord) → length points ≤ 10000 → NamesEnds points chord → IsShortChord chord → HasNaturalWeights chord → ChordRanges chord
+chord_ranges points chord few names short natural = record {
   a = omega (arith, few, names.0);
   b = omega (arith, few, names.1);
   c = omega (arith, few, names.2);
@@ -47,15 +47,15 @@ pub parallelogram_passes : (points : List PlanePoint) (a : ParallelogramAnswer) 
     → AllNumbered (λ i chord. IsAcross points (point_at (half_directions a.fan) i) chord) a.chords → AllNumbered (λ i cone. IsNotSmallerAt points a i cone × IsNotSmallerAt points a (i + 1) cone) a.fan.cones
     → All (λ p. IsInSpan a.first_bounds (dot a.first p)) points → All (λ p. IsInSpan a.second_bounds (dot a.second p)) points → PassesParallelogram points a
 parallelogram_passes points a few lowest fan first second first_bounds second_bounds chords natural normals size holds across not_smaller inside_first inside_second = record {
-  places = record {
+  ranges = record {
     size = lowest;
-    first = short_pair a.first first;
+    first = direction_of_short a.first first;
     first_bounds = short_span a.first_bounds first_bounds;
-    second = short_pair a.second second;
+    second = direction_of_short a.second second;
     second_bounds = short_span a.second_bounds second_bounds;
-    fan = half_places points a.fan few fan;
+    fan = half_ranges points a.fan few fan;
     chord_for_each = chords.as_many ∙ sym (length_directions a.fan);
-    chords = λ i d l. chord_places points (slice_index_or a.chords i d) few (chords.names i d l) (chords.short i d l) (natural i d l);
+    chords = λ i d l. chord_ranges points (slice_index_or a.chords i d) few (chords.names i d l) (chords.short i d l) (natural i d l);
   };
   chord_numbers = chords.names;
   short_directions = fan.short;

@@ -3,19 +3,19 @@ use Rattle.std.proofs.Common.{◌≤◌, length, All}
 use Rattle.std.specs.Prelude.{List}
 use Rattle.bounds_model.specs.Plane.{PlanePoint, dot}
 use Rattle.bounds_model.specs.Fractions.{SameValue}
-use Rattle.bounds_model.specs.Places.{IsFraction}
+use Rattle.bounds_model.specs.Ranges.{IsFraction}
 use Rattle.bounds_model.specs.Strip.{IsInSpan, strip_size}
 use Rattle.bounds_model.specs.Fans.{HoldsHalf, half_directions, AtBothEnds}
 use Rattle.bounds_model.specs.StripAnswer.{StripAnswer, strip_of, IsNotThinner, PassesStrip}
 use Rattle.fan_checks.specs.Limits.{HasHalfLimits, HasNormalLimits}
-use Rattle.directions.proofs.SpanBounds.{short_pair, short_span}
-use Rattle.fan_checks.proofs.FanPlaces.{half_places}
+use Rattle.directions.proofs.SpanBounds.{direction_of_short, short_span}
+use Rattle.fan_checks.proofs.FanRanges.{half_ranges}
 
 pub strip_passes : (points : List PlanePoint) (a : StripAnswer) → length points ≤ 10000 → IsFraction a.size → HasHalfLimits points a.fan → HasNormalLimits a.direction a.bounds
     → SameValue a.size (strip_size (strip_of a)) → HoldsHalf points a.fan → AtBothEnds (half_directions a.fan) (IsNotThinner points a.size) a.fan.cones
     → All (λ p. IsInSpan a.bounds (dot a.direction p)) points → PassesStrip points a
 strip_passes points a few lowest fan normal size holds not_thinner inside = record {
-  places = record { size = lowest; direction = short_pair a.direction normal.short; bounds = short_span a.bounds normal.bounds; fan = half_places points a.fan few fan };
+  ranges = record { size = lowest; direction = direction_of_short a.direction normal.short; bounds = short_span a.bounds normal.bounds; fan = half_ranges points a.fan few fan };
   short_directions = fan.short;
   short_direction = normal.short;
   short_bounds = normal.bounds;

@@ -3,7 +3,7 @@ use Rattle.std.specs.Prelude.{◌≡◌, ◌≢◌, ℕ, ◌-◌, ◌<◌, List,
 use Rattle.bounds_model.specs.Numbers.{HasCount}
 use Rattle.bounds_model.specs.Plane.{PlanePoint, origin}
 use Rattle.bounds_model.specs.Strip.{Span}
-use Rattle.bounds_model.specs.Places.{fan_limit}
+use Rattle.bounds_model.specs.Ranges.{fan_limit}
 use Rattle.bounds_model.specs.Fans.{HalfFan, QuarterFan, QuarterCone, half_directions, quarter_directions, IsShort, NamesPoints, NamesAllPoints}
 use Rattle.bounds_model.specs.StripAnswer.{IsShortSpan}
 use Rattle.bounds_model.specs.ParallelogramAnswer.{Chord, NamesEnds, IsShortChord}

@@ -3,7 +3,7 @@ ghost use Rattle.std.specs.Prelude.{◌≡◌, ◌≢◌, ◌↔◌, ◌+◌, �
 ghost use Rattle.bounds_model.specs.Numbers.{AllNumbered};
 ghost use Rattle.bounds_model.specs.Plane.{cross};
 ghost use Rattle.bounds_model.specs.Fractions.{SameValue};
-ghost use Rattle.bounds_model.specs.Places.{IsFraction};
+ghost use Rattle.bounds_model.specs.Ranges.{IsFraction};
 ghost use Rattle.bounds_model.specs.Parallelogram.{parallelogram_size};
 ghost use Rattle.bounds_model.specs.Fans.{IsShort, HoldsHalf, IsHalfExtreme};
 ghost use Rattle.bounds_model.specs.StripAnswer.{IsShortSpan};

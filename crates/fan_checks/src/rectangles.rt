@@ -1,7 +1,7 @@
 //! Rectangles, and fans which show that none is smaller.
 ghost use Rattle.std.specs.Prelude.{◌↔◌, ◌^◌, ◌<◌, ◌≤ℤ◌, pos, length, IsTrue};
 ghost use Rattle.bounds_model.specs.Fractions.{SameValue};
-ghost use Rattle.bounds_model.specs.Places.{IsFraction};
+ghost use Rattle.bounds_model.specs.Ranges.{IsFraction};
 ghost use Rattle.bounds_model.specs.Rectangle.{rectangle_size};
 ghost use Rattle.bounds_model.specs.StripAnswer.{IsShortSpan};
 ghost use Rattle.bounds_model.specs.RectangleAnswer as model;

@@ -1,7 +1,7 @@
 //! Normals, their bounds, and points inside them.
 ghost use Rattle.std.specs.Prelude.{◌≡◌, ◌↔◌, ◌≢◌, ◌^◌, ◌≤◌, ◌*ℤ◌, ◌≤ℤ◌, pos, IsTrue, All};
 ghost use Rattle.bounds_model.specs.Fractions.{SameValue};
-ghost use Rattle.bounds_model.specs.Places.{IsFraction};
+ghost use Rattle.bounds_model.specs.Ranges.{IsFraction};
 ghost use Rattle.bounds_model.specs.Plane.{origin, dot};
 ghost use Rattle.integers.specs.Size.{Size};
 ghost use Rattle.bounds_model.specs.Strip.{IsInSpan, extent as extent_of};

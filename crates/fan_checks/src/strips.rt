@@ -1,7 +1,7 @@
 //! Strips, and fans which show that none is narrower.
 ghost use Rattle.std.specs.Prelude.{◌↔◌, ◌^◌, ◌<◌, ◌≤ℤ◌, pos, length, IsTrue};
 ghost use Rattle.bounds_model.specs.Fractions.{SameValue};
-ghost use Rattle.bounds_model.specs.Places.{IsFraction};
+ghost use Rattle.bounds_model.specs.Ranges.{IsFraction};
 ghost use Rattle.bounds_model.specs.Strip.{strip_size};
 ghost use Rattle.bounds_model.specs.StripAnswer as model;
 ghost use Rattle.bounds_model.specs.StripAnswer.{IsNotThinner};

@@ -167,7 +167,7 @@ fn arc_end<C: Chain>(chain: &C, from: u32) -> Option<u32>
     ensures none { IsNone result → ¬ AreEdges (C.directions chain.now) (C.points chain.now) from (C.cones chain.now) }
 {
     let first = chain.direction(from);
-    let upright = first.turned();
+    let normal = first.turned();
     let end = chain.len();
     let mut before = first.dot(chain.point(from));
     'edges: for to in from + 1..end {
@@ -175,7 +175,7 @@ fn arc_end<C: Chain>(chain: &C, from: u32) -> Option<u32>
         if first.cross(next) <= 0 {
             return Some(to);
         }
-        if upright.cross(next) > 0 {
+        if normal.cross(next) > 0 {
             return Some(to);
         }
         let after = first.dot(chain.point(to));

@@ -8,9 +8,9 @@ use std::alloc::Global;
 use std::test::Fail;
 
 // The points, those out of bounds left out.
-fn cloud_of(alloc: Global, places: &[(i64, i64)]) -> Points2 {
+fn cloud_of(alloc: Global, indices: &[(i64, i64)]) -> Points2 {
     let mut points = Points2::new(alloc);
-    for (x, y) in places {
+    for (x, y) in indices {
         if let Some(p) = Point2::new(*x, *y) {
             let _ = points.push(p);
         }
@@ -94,7 +94,7 @@ const TRIANGLE: &'static [(i64, i64)] = &[(0, 0), (4, 0), (0, 3)];
 
 const WEST: (i128, i128) = (-1, 0);
 
-// A rounded corner around the point 8. Its points stand in no order, so that the search for their places goes back and forth.
+// A rounded corner around the point 8. Its points stand in no order, so that the search for their indices goes back and forth.
 const ROUNDED: &'static [(i128, i128, u32, u32)] = &[
     (1, 0, 1, 8),
     (7, 1, 3, 8),

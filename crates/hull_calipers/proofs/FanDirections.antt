@@ -10,13 +10,13 @@ use Rattle.integers.proofs.Identities.{den-ring, read, polys}
 use Rattle.bounds_model.specs.Plane.{PlanePoint, dot, cross}
 use Rattle.bounds_model.specs.Fractions.{HaveNoCommonFactor}
 use Rattle.bounds_model.specs.Fans.{IsShort, east, west, north}
-use Rattle.bounds_model.specs.PlainFans.{edge, IsUpright, IsUprightOrAlong}
+use Rattle.bounds_model.specs.PlainFans.{edge, IsNormal, IsNormalOrParallel}
 use Rattle.hull_calipers.specs.declared.sides.Side.{Side}
 use Rattle.hull_calipers.specs.declared.sides.Side.TheVariants.{Right, Top, Left, Bottom}
 use Rattle.hull_calipers.specs.declared.directions.Direction.{Direction}
 use Rattle.hull_calipers.specs.declared.pairs.AntipodalPair.{AntipodalPair}
 use Rattle.hull_calipers.specs.Vectors.{direction_of}
-use Rattle.hull_calipers.specs.Supports.{aligned, turned, next_side, IsUpper}
+use Rattle.hull_calipers.specs.ExtremeCorners.{aligned, turned, next_side, IsUpper}
 use Rattle.hull_calipers.specs.CaliperMoves.{IsLimited}
 use Rattle.hull_calipers.specs.Fans.{IsHalfDirection, IsQuarterDirection}
 use Rattle.hull_calipers.proofs.SeenVectors.{dot-turned, opposite_dot}
@@ -58,27 +58,27 @@ up_is_north n x y = ap₂ (λ x y. let r : PlanePoint = record { x = pos x; y = 
 dot-comm : (a b : PlanePoint) → dot a b ≡ dot b a
 dot-comm a b = read (a.x ∷ a.y ∷ b.x ∷ b.y ∷ []) (λ xs a b c d. simp (a, b, c, d, polys) (den-ring xs _ _ tt))
 
-pub upright_same : (side : Side) (n e : PlanePoint) → dot n (aligned side e) ≡ pos 0 → dot e (turned side n) ≡ pos 0
-upright_same side n e h = dot-comm e (turned side n) ∙ dot-turned side n e ∙ h
+pub normal_same : (side : Side) (n e : PlanePoint) → dot n (aligned side e) ≡ pos 0 → dot e (turned side n) ≡ pos 0
+normal_same side n e h = dot-comm e (turned side n) ∙ dot-turned side n e ∙ h
 
-pub upright_opposite : (side : Side) (n e : PlanePoint) → dot n (aligned (next_side (next_side side)) e) ≡ pos 0 → dot e (turned side n) ≡ pos 0
-upright_opposite side n e h = zero_of (dot e (turned side n)) (dot (turned side n) e) (dot (turned (next_side (next_side side)) n) e) (dot-comm e (turned side n)) (opposite_dot side n e) (dot-turned (next_side (next_side side)) n e ∙ h)
+pub normal_opposite : (side : Side) (n e : PlanePoint) → dot n (aligned (next_side (next_side side)) e) ≡ pos 0 → dot e (turned side n) ≡ pos 0
+normal_opposite side n e h = zero_of (dot e (turned side n)) (dot (turned side n) e) (dot (turned (next_side (next_side side)) n) e) (dot-comm e (turned side n)) (opposite_dot side n e) (dot-turned (next_side (next_side side)) n e ∙ h)
   where
     zero_of : (a b c : ℤ) → a ≡ b → c ≡ neg_ℤ b → c ≡ pos 0 → a ≡ pos 0
     zero_of a b c e f g = omega (arith, ints)
 
 -- at right angles to an edge of one of the corners
-pub pair_upright : (points corners : List PlanePoint) (side : Side) (high_at low_at : ℕ) (d n : Direction) (pair : AntipodalPair) → 1 ≤ length corners → IsTurningPair points corners side high_at low_at d pair → MeetsOne n pair
-    → SomeIndex corners (λ i. IsUpright (edge corners i) (turned side (direction_of n)))
-pair_upright points corners side high_at low_at d n pair some t (inl met) =
+pub pair_normal : (points corners : List PlanePoint) (side : Side) (high_at low_at : ℕ) (d n : Direction) (pair : AntipodalPair) → 1 ≤ length corners → IsTurningPair points corners side high_at low_at d pair → MeetsOne n pair
+    → SomeIndex corners (λ i. IsNormal (edge corners i) (turned side (direction_of n)))
+pair_normal points corners side high_at low_at d n pair some t (inl met) =
     let found = meets_edge corners pair.high n some t.high.caliper met in
-    (found.0, found.1, record { long = found.2.0; right_angle = upright_same side (direction_of n) (edge corners found.0) (subst (λ s. dot (direction_of n) (aligned s (edge corners found.0)) ≡ pos 0) t.high.side_is found.2.1) })
-pair_upright points corners side high_at low_at d n pair some t (inr met) =
+    (found.0, found.1, record { long = found.2.0; right_angle = normal_same side (direction_of n) (edge corners found.0) (subst (λ s. dot (direction_of n) (aligned s (edge corners found.0)) ≡ pos 0) t.high.side_is found.2.1) })
+pair_normal points corners side high_at low_at d n pair some t (inr met) =
     let found = meets_edge corners pair.low n some t.low.caliper met in
-    (found.0, found.1, record { long = found.2.0; right_angle = upright_opposite side (direction_of n) (edge corners found.0) (subst (λ s. dot (direction_of n) (aligned s (edge corners found.0)) ≡ pos 0) t.low.side_is found.2.1) })
+    (found.0, found.1, record { long = found.2.0; right_angle = normal_opposite side (direction_of n) (edge corners found.0) (subst (λ s. dot (direction_of n) (aligned s (edge corners found.0)) ≡ pos 0) t.low.side_is found.2.1) })
 
 -- the next direction of a half fan
-pub half_direction : (corners : List PlanePoint) (side : Side) (d n : Direction) → IsUpper side → IsNext d n → (0 < n.x → SomeIndex corners (λ i. IsUpright (edge corners i) (turned side (direction_of n)))) → IsHalfDirection corners (turned side (direction_of n))
+pub half_direction : (corners : List PlanePoint) (side : Side) (d n : Direction) → IsUpper side → IsNext d n → (0 < n.x → SomeIndex corners (λ i. IsNormal (edge corners i) (turned side (direction_of n)))) → IsHalfDirection corners (turned side (direction_of n))
 half_direction corners side d n upper next met = record {
   lowest = lowest_turned side n next.lowest;
   short = short_turned side n next.limited;
@@ -88,7 +88,7 @@ half_direction corners side d n upper next met = record {
   ];
 }
   where
-    at_end : (side : Side) → IsUpper side → direction_of n ≡ north → (turned side (direction_of n) ≡ east) ⊎ ((turned side (direction_of n) ≡ west) ⊎ ((pos 0 <ℤ (turned side (direction_of n)).y) × ((turned side (direction_of n) ≡ north) ⊎ SomeIndex corners (λ i. IsUpright (edge corners i) (turned side (direction_of n))))))
+    at_end : (side : Side) → IsUpper side → direction_of n ≡ north → (turned side (direction_of n) ≡ east) ⊎ ((turned side (direction_of n) ≡ west) ⊎ ((pos 0 <ℤ (turned side (direction_of n)).y) × ((turned side (direction_of n) ≡ north) ⊎ SomeIndex corners (λ i. IsNormal (edge corners i) (turned side (direction_of n))))))
     at_end Right upper is = inr (inr (subst (λ v. pos 0 <ℤ v.y) (sym is) (omega (arith, ints)), inl is))
     at_end Top upper is = inr (inl (ap (turned Top) is))
     at_end Left upper is = absurd upper
@@ -110,26 +110,26 @@ half_direction_east corners = record {
 
 -- ---- a quarter turn
 
-pub upright_or_along : (side : Side) (n e : PlanePoint) → dot n (aligned side e) ≡ pos 0 → (dot e n ≡ pos 0) ⊎ (cross e n ≡ pos 0)
-upright_or_along Right n e h = inl (upright_same Right n e h)
-upright_or_along Left n e h = inl (upright_opposite Right n e h)
-upright_or_along Top n e h = inr (zero_of (cross e n) (dot n (aligned Top e)) (read (n.x ∷ n.y ∷ e.x ∷ e.y ∷ []) (λ xs a b c d. simp (a, b, c, d, polys) (den-ring xs _ _ tt))) h)
+pub normal_or_parallel : (side : Side) (n e : PlanePoint) → dot n (aligned side e) ≡ pos 0 → (dot e n ≡ pos 0) ⊎ (cross e n ≡ pos 0)
+normal_or_parallel Right n e h = inl (normal_same Right n e h)
+normal_or_parallel Left n e h = inl (normal_opposite Right n e h)
+normal_or_parallel Top n e h = inr (zero_of (cross e n) (dot n (aligned Top e)) (read (n.x ∷ n.y ∷ e.x ∷ e.y ∷ []) (λ xs a b c d. simp (a, b, c, d, polys) (den-ring xs _ _ tt))) h)
   where
     zero_of : (a b : ℤ) → a ≡ neg_ℤ b → b ≡ pos 0 → a ≡ pos 0
     zero_of a b e f = omega (arith, ints)
-upright_or_along Bottom n e h = inr (read (n.x ∷ n.y ∷ e.x ∷ e.y ∷ []) (λ xs a b c d. simp (a, b, c, d, polys) (den-ring xs _ _ tt)) ∙ h)
+normal_or_parallel Bottom n e h = inr (read (n.x ∷ n.y ∷ e.x ∷ e.y ∷ []) (λ xs a b c d. simp (a, b, c, d, polys) (den-ring xs _ _ tt)) ∙ h)
 
-pub pair_upright_or_along : (points corners : List PlanePoint) (side : Side) (high_at low_at : ℕ) (d n : Direction) (pair : AntipodalPair) → 1 ≤ length corners → IsTurningPair points corners side high_at low_at d pair → MeetsOne n pair
-    → SomeIndex corners (λ i. IsUprightOrAlong (edge corners i) (direction_of n))
-pair_upright_or_along points corners side high_at low_at d n pair some t (inl met) =
+pub pair_normal_or_parallel : (points corners : List PlanePoint) (side : Side) (high_at low_at : ℕ) (d n : Direction) (pair : AntipodalPair) → 1 ≤ length corners → IsTurningPair points corners side high_at low_at d pair → MeetsOne n pair
+    → SomeIndex corners (λ i. IsNormalOrParallel (edge corners i) (direction_of n))
+pair_normal_or_parallel points corners side high_at low_at d n pair some t (inl met) =
     let found = meets_edge corners pair.high n some t.high.caliper met in
-    (found.0, found.1, record { long = found.2.0; upright = upright_or_along pair.high.side (direction_of n) (edge corners found.0) found.2.1 })
-pair_upright_or_along points corners side high_at low_at d n pair some t (inr met) =
+    (found.0, found.1, record { long = found.2.0; normal_or_parallel = normal_or_parallel pair.high.side (direction_of n) (edge corners found.0) found.2.1 })
+pair_normal_or_parallel points corners side high_at low_at d n pair some t (inr met) =
     let found = meets_edge corners pair.low n some t.low.caliper met in
-    (found.0, found.1, record { long = found.2.0; upright = upright_or_along pair.low.side (direction_of n) (edge corners found.0) found.2.1 })
+    (found.0, found.1, record { long = found.2.0; normal_or_parallel = normal_or_parallel pair.low.side (direction_of n) (edge corners found.0) found.2.1 })
 
 -- the next direction of a quarter fan
-pub quarter_direction : (corners : List PlanePoint) (d n : Direction) → IsNext d n → (0 < n.x → SomeIndex corners (λ i. IsUprightOrAlong (edge corners i) (direction_of n))) → IsQuarterDirection corners (direction_of n)
+pub quarter_direction : (corners : List PlanePoint) (d n : Direction) → IsNext d n → (0 < n.x → SomeIndex corners (λ i. IsNormalOrParallel (edge corners i) (direction_of n))) → IsQuarterDirection corners (direction_of n)
 quarter_direction corners d n next met = record {
   lowest = lowest_turned Right n next.lowest;
   short = short_turned Right n next.limited;

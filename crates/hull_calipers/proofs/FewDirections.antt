@@ -11,7 +11,7 @@ use Rattle.integers.proofs.Identities.{den-ring, read, polys}
 use Rattle.integers.proofs.Order.{positive_mul, positive_add, nonneg_from_positive, same_of_mul}
 use Rattle.bounds_model.specs.Plane.{PlanePoint, point_at, origin, dot, cross}
 use Rattle.bounds_model.specs.Fans.{TurnLeft, east, west, north}
-use Rattle.bounds_model.specs.PlainFans.{edge, IsUpright, IsUprightOrAlong, IsPlainHalf, IsPlainQuarter}
+use Rattle.bounds_model.specs.PlainFans.{edge, IsNormal, IsNormalOrParallel, IsPlainHalf, IsPlainQuarter}
 use Rattle.hull_calipers.proofs.Turns.{positive_of_mul}
 use Rattle.hull_calipers.proofs.Counts.{not_equal, listed_below}
 
@@ -81,8 +81,8 @@ two_zeros : (v a b p q : ℤ) → v ≡ a *ℤ p +ℤ b *ℤ q → p ≡ pos 0 �
 two_zeros v a b p q e hp hq = e ∙ ap₂ (λ p q. a *ℤ p +ℤ b *ℤ q) hp hq ∙ (let z : a *ℤ pos 0 +ℤ b *ℤ pos 0 ≡ pos 0 = omega (arith, ints) in z)
 
 -- two directions, one to the left of the other, are not both at right angles to an edge
-upright_once : (e d t : PlanePoint) → e ≢ origin → pos 0 <ℤ cross d t → dot e d ≡ pos 0 → dot e t ≡ pos 0 → ⊥
-upright_once e d t long turns p q = long (no_edge e (cross d t) turns
+normal_once : (e d t : PlanePoint) → e ≢ origin → pos 0 <ℤ cross d t → dot e d ≡ pos 0 → dot e t ≡ pos 0 → ⊥
+normal_once e d t long turns p q = long (no_edge e (cross d t) turns
     (two_zeros (cross d t *ℤ e.x) t.y (neg_ℤ d.y) (dot e d) (dot e t) (read (e.x ∷ e.y ∷ d.x ∷ d.y ∷ t.x ∷ t.y ∷ []) (λ xs a b c d e f. simp (a, b, c, d, e, f, polys) (den-ring xs _ _ tt))) p q)
     (two_zeros (cross d t *ℤ e.y) (neg_ℤ t.x) d.x (dot e d) (dot e t) (read (e.x ∷ e.y ∷ d.x ∷ d.y ∷ t.x ∷ t.y ∷ []) (λ xs a b c d e f. simp (a, b, c, d, e, f, polys) (den-ring xs _ _ tt))) p q))
 
@@ -105,11 +105,11 @@ inner_turns last ds n turns count i below = subst (λ j. pos 0 <ℤ cross (point
 
 -- an inner direction and an edge at right angles to it; the upward direction has a number of its own
 abbrev InHalf : List PlanePoint → List PlanePoint → ℕ → ℕ → Type 0
-InHalf corners ds i j = ((j ≡ length corners) × (point_at ds (i + 1) ≡ north)) ⊎ ((j < length corners) × IsUpright (edge corners j) (point_at ds (i + 1)))
+InHalf corners ds i j = ((j ≡ length corners) × (point_at ds (i + 1) ≡ north)) ⊎ ((j < length corners) × IsNormal (edge corners j) (point_at ds (i + 1)))
 
 -- an inner direction and an edge at right angles to it or along it
 abbrev InQuarter : List PlanePoint → List PlanePoint → ℕ → ℕ → Type 0
-InQuarter corners ds i j = IsUprightOrAlong (edge corners j) (point_at ds (i + 1))
+InQuarter corners ds i j = IsNormalOrParallel (edge corners j) (point_at ds (i + 1))
 
 -- a plain fan over half a turn has at most three directions more than there are corners
 pub few_half : (corners ds : List PlanePoint) → IsPlainHalf corners ds → length ds ≤ length corners + 3
@@ -126,7 +126,7 @@ few_half corners ds plain = elim (cases_order (length ds) 1) [
     hole : (i : ℕ) → i < length ds - 2 → (j : ℕ) × (j < length corners + 1) × InHalf corners ds i j
     hole i l = elim (plain.no_others (i + 1) (omega arith) (omega arith)) [
       | inl is ↦ (length corners, omega arith, inl (refl, is))
-      | inr (j, below, upright) ↦ (j, omega arith, inr (below, upright))
+      | inr (j, below, right_angle) ↦ (j, omega arith, inr (below, right_angle))
     ]
 
     apart : (i k j : ℕ) → i < k → k < length ds - 2 → 2 ≤ length ds → InHalf corners ds i j → InHalf corners ds k j → ⊥
@@ -137,7 +137,7 @@ few_half corners ds plain = elim (cases_order (length ds) 1) [
       ]
       | inr first ↦ elim b [
         | inl second ↦ let e = second.0 in let s = first.0 in omega (arith, e, s)
-        | inr second ↦ upright_once (edge corners j) (point_at ds (i + 1)) (point_at ds (k + 1)) first.1.long left first.1.right_angle second.1.right_angle
+        | inr second ↦ normal_once (edge corners j) (point_at ds (i + 1)) (point_at ds (k + 1)) first.1.long left first.1.right_angle second.1.right_angle
       ]
     ]
       where
@@ -160,12 +160,12 @@ few_quarter corners ds plain = elim (cases_order (length ds) 1) [
 ]
   where
     apart : (i k j : ℕ) → i < k → k < length ds - 2 → 2 ≤ length ds → InQuarter corners ds i j → InQuarter corners ds k j → ⊥
-    apart i k j less l two a b = elim a.upright [
-      | inl p ↦ elim b.upright [
-        | inl q ↦ upright_once (edge corners j) (point_at ds (i + 1)) (point_at ds (k + 1)) a.long left p q
+    apart i k j less l two a b = elim a.normal_or_parallel [
+      | inl p ↦ elim b.normal_or_parallel [
+        | inl q ↦ normal_once (edge corners j) (point_at ds (i + 1)) (point_at ds (k + 1)) a.long left p q
         | inr q ↦ not_across (edge corners j) (point_at ds (i + 1)) (point_at ds (k + 1)) a.long (sharp (point_at ds (i + 1)) (point_at ds (k + 1)) (inner i (omega arith)) (inner k l)) p q
       ]
-      | inr p ↦ elim b.upright [
+      | inr p ↦ elim b.normal_or_parallel [
         | inl q ↦ not_across (edge corners j) (point_at ds (k + 1)) (point_at ds (i + 1)) a.long (sharp (point_at ds (k + 1)) (point_at ds (i + 1)) (inner k l) (inner i (omega arith))) q p
         | inr q ↦ along_once (edge corners j) (point_at ds (i + 1)) (point_at ds (k + 1)) a.long left p q
       ]

@@ -4,8 +4,8 @@ use Rattle.std.specs.Prelude.{All, SomeIndex}
 use Rattle.std.proofs.lemmas.Int.{ints}
 use Rattle.bounds_model.specs.Plane.{PlanePoint, point_at, cross}
 use Rattle.bounds_model.specs.Fans.{IsShort, HalfCone, HalfFan, QuarterCone, QuarterFan, half_directions, quarter_directions, NamesPoints, NamesAllPoints, HoldsHalf, HoldsQuarter, east, west, north}
-use Rattle.bounds_model.specs.PlainFans.{edge, IsUpright, IsUprightOrAlong, EachInner, AreLowest}
-use Rattle.hull_calipers.specs.Fans.{path, IsHalfPath, IsHalfSupport, IsHalfDirection, IsQuarterPath, IsQuarterSupport, IsQuarterDirection}
+use Rattle.bounds_model.specs.PlainFans.{edge, IsNormal, IsNormalOrParallel, EachInner, AreLowest}
+use Rattle.hull_calipers.specs.Fans.{path, IsHalfPath, IsExtremeHalfCone, IsHalfDirection, IsQuarterPath, IsExtremeQuarterCone, IsQuarterDirection}
 use Rattle.hull_calipers.proofs.Paths.{length_path, path_turns, path_each}
 
 cross-east : (p : PlanePoint) → pos 0 ≤ℤ p.y → pos 0 <ℤ cross p east → ⊥
@@ -29,7 +29,7 @@ above_half corners d h = elim h.kind [
 ]
 
 between_half : (corners : List PlanePoint) (p d n : PlanePoint) → IsHalfDirection corners p → IsHalfDirection corners d → IsHalfDirection corners n → pos 0 <ℤ cross p d → pos 0 <ℤ cross d n
-    → (pos 0 <ℤ d.y) × ((d ≡ north) ⊎ SomeIndex corners (λ i. IsUpright (edge corners i) d))
+    → (pos 0 <ℤ d.y) × ((d ≡ north) ⊎ SomeIndex corners (λ i. IsNormal (edge corners i) d))
 between_half corners p d n hp hd hn pd dn = elim hd.kind [
   | inl is ↦ absurd (cross-east p (above_half corners p hp) (subst (λ v. pos 0 <ℤ cross p v) is pd))
   | inr rest ↦ elim rest [
@@ -39,14 +39,14 @@ between_half corners p d n hp hd hn pd dn = elim hd.kind [
 ]
 
 pub inner_half : (points corners : List PlanePoint) (cones : List HalfCone) (last : PlanePoint) → IsHalfPath points corners cones last
-    → EachInner (path (λ c. c.direction) cones last) (λ d. (pos 0 <ℤ d.y) × ((d ≡ north) ⊎ SomeIndex corners (λ i. IsUpright (edge corners i) d)))
+    → EachInner (path (λ c. c.direction) cones last) (λ d. (pos 0 <ℤ d.y) × ((d ≡ north) ⊎ SomeIndex corners (λ i. IsNormal (edge corners i) d)))
 inner_half points corners cones last h = λ i some below.
     let count : length (path (λ c. c.direction) cones last) ≡ length cones + 1 = length_path (λ c. c.direction) cones last in
     let back : i - 1 + 1 ≡ i = omega arith in
     between_half corners (point_at (path (λ c. c.direction) cones last) (i - 1)) (point_at (path (λ c. c.direction) cones last) i) (point_at (path (λ c. c.direction) cones last) (i + 1))
-    (path_each (λ c. c.direction) (IsHalfSupport points) (IsHalfDirection corners) cones last (i - 1) h (omega arith))
-    (path_each (λ c. c.direction) (IsHalfSupport points) (IsHalfDirection corners) cones last i h (omega arith))
-    (path_each (λ c. c.direction) (IsHalfSupport points) (IsHalfDirection corners) cones last (i + 1) h below)
+    (path_each (λ c. c.direction) (IsExtremeHalfCone points) (IsHalfDirection corners) cones last (i - 1) h (omega arith))
+    (path_each (λ c. c.direction) (IsExtremeHalfCone points) (IsHalfDirection corners) cones last i h (omega arith))
+    (path_each (λ c. c.direction) (IsExtremeHalfCone points) (IsHalfDirection corners) cones last (i + 1) h below)
     (subst (λ j. pos 0 <ℤ cross (point_at (path (λ c. c.direction) cones last) (i - 1)) (point_at (path (λ c. c.direction) cones last) j)) back (h.turns (i - 1) (omega (arith, count))))
     (h.turns i (omega (arith, count)))
 
@@ -58,7 +58,7 @@ half_names points corners fan h = λ i c l. let s = (h.extremes i c l).0 in (s.h
 pub half_holds : (points corners : List PlanePoint) (fan : HalfFan) → IsHalfPath points corners fan.cones fan.last → fan.last ≡ west → HoldsHalf points fan
 half_holds points corners fan h is = record {
   numbers = half_names points corners fan h;
-  directions = path_turns (λ c. c.direction) (IsHalfSupport points) (IsHalfDirection corners) fan.cones fan.last west h is;
+  directions = path_turns (λ c. c.direction) (IsExtremeHalfCone points) (IsHalfDirection corners) fan.cones fan.last west h is;
   extremes = λ i c l. ((h.extremes i c l).0.extreme, (h.extremes i c l).1.extreme);
 }
 
@@ -77,7 +77,7 @@ above_quarter corners d h = elim h.kind [
 ]
 
 between_quarter : (corners : List PlanePoint) (p d n : PlanePoint) → IsQuarterDirection corners p → IsQuarterDirection corners d → IsQuarterDirection corners n → pos 0 <ℤ cross p d → pos 0 <ℤ cross d n
-    → ((pos 0 <ℤ d.x) × (pos 0 <ℤ d.y)) × SomeIndex corners (λ i. IsUprightOrAlong (edge corners i) d)
+    → ((pos 0 <ℤ d.x) × (pos 0 <ℤ d.y)) × SomeIndex corners (λ i. IsNormalOrParallel (edge corners i) d)
 between_quarter corners p d n hp hd hn pd dn = elim hd.kind [
   | inl is ↦ absurd (cross-east p (above_quarter corners p hp).1 (subst (λ v. pos 0 <ℤ cross p v) is pd))
   | inr rest ↦ elim rest [
@@ -87,14 +87,14 @@ between_quarter corners p d n hp hd hn pd dn = elim hd.kind [
 ]
 
 pub inner_quarter : (points corners : List PlanePoint) (cones : List QuarterCone) (last : PlanePoint) → IsQuarterPath points corners cones last
-    → EachInner (path (λ c. c.direction) cones last) (λ d. ((pos 0 <ℤ d.x) × (pos 0 <ℤ d.y)) × SomeIndex corners (λ i. IsUprightOrAlong (edge corners i) d))
+    → EachInner (path (λ c. c.direction) cones last) (λ d. ((pos 0 <ℤ d.x) × (pos 0 <ℤ d.y)) × SomeIndex corners (λ i. IsNormalOrParallel (edge corners i) d))
 inner_quarter points corners cones last h = λ i some below.
     let count : length (path (λ c. c.direction) cones last) ≡ length cones + 1 = length_path (λ c. c.direction) cones last in
     let back : i - 1 + 1 ≡ i = omega arith in
     between_quarter corners (point_at (path (λ c. c.direction) cones last) (i - 1)) (point_at (path (λ c. c.direction) cones last) i) (point_at (path (λ c. c.direction) cones last) (i + 1))
-    (path_each (λ c. c.direction) (IsQuarterSupport points) (IsQuarterDirection corners) cones last (i - 1) h (omega arith))
-    (path_each (λ c. c.direction) (IsQuarterSupport points) (IsQuarterDirection corners) cones last i h (omega arith))
-    (path_each (λ c. c.direction) (IsQuarterSupport points) (IsQuarterDirection corners) cones last (i + 1) h below)
+    (path_each (λ c. c.direction) (IsExtremeQuarterCone points) (IsQuarterDirection corners) cones last (i - 1) h (omega arith))
+    (path_each (λ c. c.direction) (IsExtremeQuarterCone points) (IsQuarterDirection corners) cones last i h (omega arith))
+    (path_each (λ c. c.direction) (IsExtremeQuarterCone points) (IsQuarterDirection corners) cones last (i + 1) h below)
     (subst (λ j. pos 0 <ℤ cross (point_at (path (λ c. c.direction) cones last) (i - 1)) (point_at (path (λ c. c.direction) cones last) j)) back (h.turns (i - 1) (omega (arith, count))))
     (h.turns i (omega (arith, count)))
 
@@ -106,7 +106,7 @@ quarter_names points corners fan h = λ i c l. let s = (h.extremes i c l).0 in (
 pub quarter_holds : (points corners : List PlanePoint) (fan : QuarterFan) → IsQuarterPath points corners fan.cones fan.last → fan.last ≡ north → HoldsQuarter points fan
 quarter_holds points corners fan h is = record {
   numbers = quarter_names points corners fan h;
-  directions = path_turns (λ c. c.direction) (IsQuarterSupport points) (IsQuarterDirection corners) fan.cones fan.last north h is;
+  directions = path_turns (λ c. c.direction) (IsExtremeQuarterCone points) (IsQuarterDirection corners) fan.cones fan.last north h is;
   extremes = λ i c l. ((h.extremes i c l).0.extreme, (h.extremes i c l).1.extreme);
 }
 

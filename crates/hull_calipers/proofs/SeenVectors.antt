@@ -4,7 +4,7 @@ use Rattle.integers.proofs.Identities.{den-ring, read, polys}
 use Rattle.bounds_model.specs.Plane.{PlanePoint, vector, dot, cross, turn}
 use Rattle.hull_calipers.specs.declared.sides.Side.{Side}
 use Rattle.hull_calipers.specs.declared.sides.Side.TheVariants.{Right, Top, Left, Bottom}
-use Rattle.hull_calipers.specs.Supports.{aligned, turned, next_side, normal}
+use Rattle.hull_calipers.specs.ExtremeCorners.{aligned, turned, next_side, normal}
 
 pub dot-turned : (side : Side) (d e : PlanePoint) → dot (turned side d) e ≡ dot d (aligned side e)
 dot-turned Right d e = refl

@@ -1,10 +1,10 @@
 //! Fans over half a turn.
 ghost use Rattle.std.specs.Prelude.{◌≡◌, ◌+◌, ◌*◌, ◌<◌, ◌≤◌, length, map, All, Contains, IfOk, OnOk};
-ghost use Rattle.bounds_model.specs.Fans.{HoldsHalf, HalfPlaces, half_directions, east, north, IsShort};
+ghost use Rattle.bounds_model.specs.Fans.{HoldsHalf, HalfRanges, half_directions, east, north, IsShort};
 ghost use Rattle.bounds_model.specs.PlainFans.{IsPlainHalf};
 ghost use Rattle.answers.specs.Answers.{half_cone_of, half_fan_of};
 ghost use Rattle.hull_calipers.specs.CornerLists.{corners_in, points_in};
-ghost use Rattle.hull_calipers.specs.Supports.{turned, next_side, StartsAt, IsUpper};
+ghost use Rattle.hull_calipers.specs.ExtremeCorners.{turned, next_side, StartsAt, IsUpper};
 ghost use Rattle.hull_calipers.specs.Fans.{path, IsHalfPath};
 
 use crate::calipers::start;
@@ -44,8 +44,8 @@ fn add_cones<L: Ledger>(
     'directions: while direction.x > 0 {
         let cone = HalfCone {
             dir: dir_from(side, direction),
-            hi: number_at(corners, pair.high.position),
-            lo: number_at(corners, pair.low.position),
+            hi: number_at(corners, pair.high.advance),
+            lo: number_at(corners, pair.low.advance),
         };
         cones.push(cone)?;
         direction = pair.next().lowest();
@@ -66,7 +66,7 @@ pub fn half_fan<L: Ledger>(
     ensures plain { IfOk result (λ fan. IsPlainHalf (corners_in corners.now) (half_directions (half_fan_of fan))) }
     ensures few { IfOk result (λ fan. length (half_directions (half_fan_of fan)) ≤ length (corners_in corners.now) + 3) }
     ensures short { IfOk result (λ fan. All IsShort (half_directions (half_fan_of fan))) }
-    ensures places { IfOk result (λ fan. HalfPlaces (half_fan_of fan)) }
+    ensures ranges { IfOk result (λ fan. HalfRanges (half_fan_of fan)) }
     ensures steps { steps.new ≤ steps.old + 16 * length (corners_in corners.now) + 64 }
 {
     let bottom = start(corners, Side::Left, 0, steps);

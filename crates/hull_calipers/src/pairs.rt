@@ -1,7 +1,7 @@
 //! Two calipers at opposite sides.
 ghost use Rattle.std.specs.Prelude.{◌≡◌, ◌+◌, ◌*◌, ◌<◌};
 ghost use Rattle.hull_calipers.specs.CornerLists.{corners_in};
-ghost use Rattle.hull_calipers.specs.Supports.{next_side};
+ghost use Rattle.hull_calipers.specs.ExtremeCorners.{next_side};
 ghost use Rattle.hull_calipers.specs.CaliperMoves.{IsLimited, ArePair, PairFollows};
 ghost use Rattle.hull_calipers.specs.NextDirections.{IsFirstOf};
 
@@ -20,7 +20,7 @@ pub(crate) struct AntipodalPair {
 }
 
 impl AntipodalPair {
-    /// At a side, the calipers at these positions.
+    /// At a side, the calipers at these advances.
     pub(crate) fn at<L: Ledger>(
         corners: &Corners<'_>,
         side: Side,
@@ -32,8 +32,8 @@ impl AntipodalPair {
         requires low_at { low_at < 1000000 }
         ensures high_side { result.high.side ≡ side }
         ensures low_side { result.low.side ≡ next_side (next_side side) }
-        ensures high_at { result.high.position ≡ high_at }
-        ensures low_at { result.low.position ≡ low_at }
+        ensures high_at { result.high.advance ≡ high_at }
+        ensures low_at { result.low.advance ≡ low_at }
         ensures pair { ArePair (corners_in corners.now) result }
         ensures steps { steps.new ≡ steps.old + 4 }
     {
@@ -59,12 +59,12 @@ impl AntipodalPair {
         steps: &mut Steps<L>,
     ) -> AntipodalPair
         requires pair { ArePair (corners_in corners.now) self }
-        requires high { self.high.position < 900000 }
-        requires low { self.low.position < 900000 }
+        requires high { self.high.advance < 900000 }
+        requires low { self.low.advance < 900000 }
         requires direction { IsLimited direction }
         ensures pair { ArePair (corners_in corners.now) result }
         ensures follows { PairFollows self direction result }
-        ensures steps { steps.new + 2 * (self.high.position + self.low.position) ≡ steps.old + 2 * (result.high.position + result.low.position) }
+        ensures steps { steps.new + 2 * (self.high.advance + self.low.advance) ≡ steps.old + 2 * (result.high.advance + result.low.advance) }
     {
         let high = self.high.follow(corners, direction, steps);
         let low = self.low.follow(corners, direction, steps);

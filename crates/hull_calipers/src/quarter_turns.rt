@@ -1,10 +1,10 @@
 //! Fans over a quarter turn.
 ghost use Rattle.std.specs.Prelude.{◌≡◌, ◌+◌, ◌*◌, ◌<◌, ◌≤◌, length, map, All, IfOk};
-ghost use Rattle.bounds_model.specs.Fans.{HoldsQuarter, QuarterPlaces, quarter_directions, IsShort, north};
+ghost use Rattle.bounds_model.specs.Fans.{HoldsQuarter, QuarterRanges, quarter_directions, IsShort, north};
 ghost use Rattle.bounds_model.specs.PlainFans.{IsPlainQuarter};
 ghost use Rattle.answers.specs.Answers.{quarter_cone_of, quarter_fan_of};
 ghost use Rattle.hull_calipers.specs.CornerLists.{corners_in, points_in};
-ghost use Rattle.hull_calipers.specs.Supports.{StartsAt};
+ghost use Rattle.hull_calipers.specs.ExtremeCorners.{StartsAt};
 ghost use Rattle.hull_calipers.specs.Fans.{IsQuarterPath};
 ghost use Rattle.hull_calipers.specs.declared.sides.Side.TheVariants.{Right, Top, Left, Bottom};
 
@@ -44,10 +44,10 @@ fn cones_of_turn<L: Ledger>(
     'directions: while direction.x > 0 {
         let cone = QuarterCone {
             dir: dir_from(Side::Right, direction),
-            hi: number_at(corners, along.high.position),
-            lo: number_at(corners, along.low.position),
-            over: number_at(corners, across.high.position),
-            under: number_at(corners, across.low.position),
+            hi: number_at(corners, along.high.advance),
+            lo: number_at(corners, along.low.advance),
+            over: number_at(corners, across.high.advance),
+            under: number_at(corners, across.low.advance),
         };
         cones.push(cone)?;
         direction = along.next().first(across.next()).lowest();
@@ -69,7 +69,7 @@ pub fn quarter_fan<L: Ledger>(
     ensures plain { IfOk result (λ fan. IsPlainQuarter (corners_in corners.now) (quarter_directions (quarter_fan_of fan))) }
     ensures few { IfOk result (λ fan. length (quarter_directions (quarter_fan_of fan)) ≤ length (corners_in corners.now) + 2) }
     ensures short { IfOk result (λ fan. All IsShort (quarter_directions (quarter_fan_of fan))) }
-    ensures places { IfOk result (λ fan. QuarterPlaces (quarter_fan_of fan)) }
+    ensures ranges { IfOk result (λ fan. QuarterRanges (quarter_fan_of fan)) }
     ensures steps { steps.new ≤ steps.old + 16 * length (corners_in corners.now) + 64 }
 {
     let bottom = start(corners, Side::Left, 0, steps);

@@ -55,7 +55,7 @@ pub den-ring : (xs : List ℤ) (e f : Expr) → Same e f → den xs e ≡ den xs
 unfolding den
 den-ring xs e f t = ring xs e f t
 
--- `f` at any list, with each number of vs as the variable of its place
+-- `f` at any list, with each number of vs as the variable of its number_at_index
 abbrev pub Read : List ℤ → ℕ → List ℤ → Type 0 → Type 0
 Read [] i xs P = P
 Read (v ∷ vs) i xs P = v ≡ den xs (var i) → Read vs (suc i) xs P

@@ -168,7 +168,7 @@ fits {ns} xs h w e t =
 
 -- ---- the inputs
 
--- `f` at any list, with each number of vs as the input of its place
+-- `f` at any list, with each number of vs as the input of its number_at_index
 abbrev pub Inputs : List ℤ → ℕ → List ℤ → Type 0 → Type 0
 Inputs [] i xs P = P
 Inputs (v ∷ vs) i xs P = v ≡ res xs (input i) → Inputs vs (suc i) xs P

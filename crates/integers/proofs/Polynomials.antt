@@ -9,7 +9,7 @@ use Rattle.integers.proofs.RingLaws.{*ℤ-+ℤ, +ℤ-*ℤ, *ℤ_assoc, neg_ℤ-*
 
 -- ---- expressions
 
--- a variable by its place in the list of numbers, a numeral, a sum, a product or a negative
+-- a variable by its number_at_index in the list of numbers, a numeral, a sum, a product or a negative
 pub data Expr : Type 0 where
   var : ℕ → Expr
   lit : ℕ → Expr
@@ -23,7 +23,7 @@ infixl 7 ◌⊗◌
 abbrev pub ◌⊖◌ : Expr → Expr → Expr
 e ⊖ f = e ⊕ neg f
 
--- the number at a place
+-- the number at a number_at_index
 abbrev pub nth : List ℤ → ℕ → ℤ
 nth [] i = pos 0
 nth (x ∷ xs) zero = x
@@ -39,7 +39,7 @@ eval xs (neg e) = neg_ℤ (eval xs e)
 
 -- ---- normal forms: the monomials in falling order, each a sorted list of variables, with its coefficient
 
--- a product of variables, by their places in rising order
+-- a product of variables, by their indices in rising order
 pub data Mon : Type 0 where
   unit : Mon
   by : ℕ → Mon → Mon

@@ -21,15 +21,15 @@ pub data Count : Type 0 where
   times : Count → Count → Count
   minus : Count → Count → Count
 
--- the number at a place
-abbrev pub place : List ℕ → ℕ → ℕ
-place [] i = 0
-place (x ∷ xs) zero = x
-place (x ∷ xs) (suc i) = place xs i
+-- the number at a number_at_index
+abbrev pub number_at_index : List ℕ → ℕ → ℕ
+number_at_index [] i = 0
+number_at_index (x ∷ xs) zero = x
+number_at_index (x ∷ xs) (suc i) = number_at_index xs i
 
 -- what the code computes at the inputs xs
 abbrev pub count_of : List ℕ → Count → ℕ
-count_of xs (input i) = place xs i
+count_of xs (input i) = number_at_index xs i
 count_of xs (numeral n) = n
 count_of xs (plus e f) = count_of xs e + count_of xs f
 count_of xs (times e f) = count_of xs e * count_of xs f
@@ -45,7 +45,7 @@ most ns (minus e f) = most ns e
 
 -- each input is within its limit
 pub record Limits (ns xs : List ℕ) : Type 0 where
-  pub each : (i : ℕ) → place xs i ≤ bound_at ns i
+  pub each : (i : ℕ) → number_at_index xs i ≤ bound_at ns i
 
 count_le_most : (ns xs : List ℕ) → Limits ns xs → (e : Count) → count_of xs e ≤ most ns e
 count_le_most ns xs h (input i) = h.each i
@@ -98,14 +98,14 @@ amount_within {ns} xs h {n} e t = le_trans (count_le_most ns xs h e) (leb→le (
 
 -- ---- the inputs
 
--- `f` at any list, with each number of vs as the input of its place
+-- `f` at any list, with each number of vs as the input of its number_at_index
 abbrev pub Amounts : List ℕ → ℕ → List ℕ → Type 0 → Type 0
 Amounts [] i xs P = P
 Amounts (v ∷ vs) i xs P = v ≡ amount xs (input i) → Amounts vs (suc i) xs P
 
 abbrev at : List ℕ → ℕ → List ℕ → Type 0
 at [] i xs = Unit {0}
-at (v ∷ vs) i xs = (v ≡ place xs i) × at vs (suc i) xs
+at (v ∷ vs) i xs = (v ≡ number_at_index xs i) × at vs (suc i) xs
 
 at-more : (v : ℕ) (us xs : List ℕ) (i : ℕ) → at us i xs → at us (suc i) (v ∷ xs)
 at-more v [] xs i h = tt
@@ -148,7 +148,7 @@ abbrev pub limits_of : List Limited → List ℕ
 limits_of [] = []
 limits_of (g ∷ gs) = g.limit ∷ limits_of gs
 
-within_at : (gs : List Limited) (i : ℕ) → place (amounts_of gs) i ≤ bound_at (limits_of gs) i
+within_at : (gs : List Limited) (i : ℕ) → number_at_index (amounts_of gs) i ≤ bound_at (limits_of gs) i
 within_at [] i = zero-le
 within_at (g ∷ gs) zero = g.within
 within_at (g ∷ gs) (suc i) = within_at gs i

@@ -6,6 +6,6 @@ use Rattle.integers.specs.declared.examples.Weighted.{Weighted}
 abbrev pub weight_of : Weighted → ℤ
 weight_of p = pos p.weight
 
--- its place on the line
+-- its number_at_index on the line
 abbrev pub x_of : Weighted → ℤ
 x_of p = p.x

@@ -69,23 +69,23 @@ pub any_within : (dim : ℕ) (v : SpacePoint) → (dim ≡ 2) ⊎ (dim ≡ 3) �
 any_within dim v (inl e) h = subst (λ d. IsVectorWithin (difference_limit d) v) e h.within
 any_within dim v (inr e) h = more_within (omega arith) (subst (λ d. IsVectorWithin (difference_limit d) v) e h.within)
 
--- the element at place 0
+-- the element at index 0
 pub at_0 : (P : SpacePoint → Type 0) (a : SpacePoint) (vs : List SpacePoint) → All P (a ∷ vs) → P a
 at_0 P a vs h = All-head P a vs h
 
--- at place 1
+-- at index 1
 pub at_1 : (P : SpacePoint → Type 0) (a b : SpacePoint) (vs : List SpacePoint) → All P (a ∷ b ∷ vs) → P b
 at_1 P a b vs h = at_0 P b vs (All-tail P a (b ∷ vs) h)
 
--- at place 2
+-- at index 2
 pub at_2 : (P : SpacePoint → Type 0) (a b c : SpacePoint) (vs : List SpacePoint) → All P (a ∷ b ∷ c ∷ vs) → P c
 at_2 P a b c vs h = at_1 P b c vs (All-tail P a (b ∷ c ∷ vs) h)
 
--- at place 3
+-- at index 3
 pub at_3 : (P : SpacePoint → Type 0) (a b c d : SpacePoint) (vs : List SpacePoint) → All P (a ∷ b ∷ c ∷ d ∷ vs) → P d
 at_3 P a b c d vs h = at_2 P b c d vs (All-tail P a (b ∷ c ∷ d ∷ vs) h)
 
--- at place 4
+-- at index 4
 pub at_4 : (P : SpacePoint → Type 0) (a b c d e : SpacePoint) (vs : List SpacePoint) → All P (a ∷ b ∷ c ∷ d ∷ e ∷ vs) → P e
 at_4 P a b c d e vs h = at_3 P b c d e vs (All-tail P a (b ∷ c ∷ d ∷ e ∷ vs) h)
 

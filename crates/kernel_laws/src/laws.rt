@@ -8,7 +8,7 @@ pub fn turn_begins_anywhere()
     ensures { (a b c : PlanePoint) → sign_of (turn b c a) ≡ sign_of (turn a b c) }
 {}
 
-/// Two points that change places turn the sign of the orientation.
+/// Two points that are exchanged turn the sign of the orientation.
 pub fn swap_turns_sign()
     ensures { (a b c : PlanePoint) → sign_of (turn a c b) ≡ opposite (sign_of (turn a b c)) }
 {}

@@ -11,8 +11,8 @@ use Rattle.bounds_model.specs.Numbers.{IsWithin}
 use Rattle.bounds_model.specs.Plane.{PlanePoint, PlaneRatio, point_at, origin, squared_length}
 use Rattle.bounds_model.specs.Space.{SamePlace, flat_ratio}
 use Rattle.bounds_model.specs.Fractions.{Fraction, SameValue}
-use Rattle.bounds_model.specs.Places.{IsFraction, IsPlaneRatio, number_limit, point_limit}
-use Rattle.bounds_model.specs.AnnulusAnswer.{WeightedPair, AnnulusAnswer, PassesAnnulus, IsPairPlace, power, squared_radius_at, pair_sum, weighted_differences}
+use Rattle.bounds_model.specs.Ranges.{IsFraction, IsPlaneRatio, number_limit, point_limit}
+use Rattle.bounds_model.specs.AnnulusAnswer.{WeightedPair, AnnulusAnswer, PassesAnnulus, IsPairInRange, power, squared_radius_at, pair_sum, weighted_differences}
 use Rattle.min_annulus.specs.declared.linear_forms.LinearForm.{LinearForm}
 use Rattle.min_annulus.specs.declared.extremes.Extremes.{Extremes}
 use Rattle.min_annulus.specs.LinearForms.{IsLinearForm, level, centre_of, squared_radius_of}
@@ -114,9 +114,9 @@ radius_is f c p r same some value =
 within : (n : ℕ) (z : ℤ) → nat_abs z ≤ n → IsWithin n z
 within n z h = record { low = omega (arith, ints); high = omega (arith, ints) }
 
-in_places : (points : List PlanePoint) (pairs : List WeightedPair) → length points ≤ 10000 → All (λ pair. (pair.first < length points) × (pair.second < length points)) pairs
-    → All (λ pair. (pos 1 ≤ℤ pair.weight) × (pair.weight ≤ℤ pos (2 ^ 42))) pairs → All IsPairPlace pairs
-in_places points pairs few numbers weights = λ k d below.
+in_ranges : (points : List PlanePoint) (pairs : List WeightedPair) → length points ≤ 10000 → All (λ pair. (pair.first < length points) × (pair.second < length points)) pairs
+    → All (λ pair. (pos 1 ≤ℤ pair.weight) × (pair.weight ≤ℤ pos (2 ^ 42))) pairs → All IsPairInRange pairs
+in_ranges points pairs few numbers weights = λ k d below.
     let n = numbers k d below in
     let w = weights k d below in
     (number few n.0, number few n.1, record { low = not_negative w.0; high = light w.1 })
@@ -140,13 +140,13 @@ pub annulus_passes : (points : List PlanePoint) (f : LinearForm) (e : Extremes) 
     → SameValue a.outer (squared_radius_of f (point_at points e.far)) → IsFraction a.outer
     → PassesAnnulus points a
 annulus_passes points f e a few form some extremes show size size_lowest same lowest inner inner_lowest outer outer_lowest = record {
-  places = record {
+  ranges = record {
     size = size_lowest;
     centre = lowest;
     inner = inner_lowest;
     outer = outer_lowest;
     count = show.count;
-    pairs = in_places points a.pairs few show.numbers show.weights;
+    pairs = in_ranges points a.pairs few show.numbers show.weights;
   };
   numbers = show.numbers;
   w_limit = w_within f.w (denominator_le a.centre (centre_of f) lowest same (twice some)) form.w.abs;

@@ -5,7 +5,7 @@ use Rattle.bounds_model.specs.Space.{SamePlace, flat_ratio}
 use Rattle.min_annulus.specs.DifferenceVectors.{difference_of, cross}
 use Rattle.min_annulus.specs.LinearForms.{centre_of, middle_form}
 
--- a point's place in the order by x, then y
+-- a point's rank in the order by x, then y
 abbrev pub rank : PlanePoint → ℤ
 rank p = pos (2 ^ 19) *ℤ p.x +ℤ p.y
 

@@ -22,7 +22,7 @@ pub record IsTriangle (points : List PlanePoint) (t : Triangle) : Type 0 where
   pub c : IsPair points t.c
   pub around : IsAround t.a.difference t.b.difference t.c.difference
 
--- a pair has taken the place of one of the three
+-- a pair has replaced one of the three
 abbrev pub IsExchange : Triangle → Pair → Triangle → Type 0
 IsExchange t d new =
     (new ≡ record { a = t.a; b = t.b; c = d }) ⊎ ((new ≡ record { a = d; b = t.b; c = t.c }) ⊎ (new ≡ record { a = t.a; b = d; c = t.c }))

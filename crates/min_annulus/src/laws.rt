@@ -11,7 +11,7 @@ pub fn triangle_has_origin()
     ensures { HasOrigin }
 {}
 
-/// Another difference can take the place of a corner, so that the target stays inside.
+/// Another difference can replace a corner, so that the target stays inside.
 pub fn some_corner_leaves()
     ensures { SomeCornerLeaves }
 {}

@@ -3,7 +3,7 @@ ghost use Rattle.std.specs.Prelude.{◌≡◌, ◌^◌, ◌+ℤ◌, ◌*ℤ◌, 
 ghost use Rattle.integers.specs.Size.{Size};
 ghost use Rattle.bounds_model.specs.Fractions.{SameValue};
 ghost use Rattle.bounds_model.specs.Plane.{IsInPlane};
-ghost use Rattle.bounds_model.specs.Places.{IsFraction, IsPlaneRatio};
+ghost use Rattle.bounds_model.specs.Ranges.{IsFraction, IsPlaneRatio};
 ghost use Rattle.bounds_model.specs.Space.{SamePlace, flat_ratio};
 ghost use Rattle.min_annulus.specs.DifferenceVectors.{IsDifference};
 ghost use Rattle.min_annulus.specs.LinearForms.{IsLinearForm, level, rise, form_through, centre_of, squared_radius_of, order_form, across_form, middle_form};

@@ -1,5 +1,5 @@
 pub mod SupportSums
 pub mod Listing
 pub mod SeenFromFirst
-pub mod HeldBalls
+pub mod DeterminedBalls
 pub mod Passing

@@ -11,22 +11,22 @@ use Rattle.min_ball.specs.Balls.{weighted_point}
 use Rattle.min_ball.proofs.SupportSums.{past_the_end}
 
 -- a support as it is listed: its number and its weight
-pub listed_at : (held : List WeightedItem) (i : ℕ) (id : Id) (w : ℕ) (d : Weighted) → slice_get (map (λ s. s.id) held) i ≡ Some id → slice_get (map (λ s. s.weight) held) i ≡ Some w
-    → get_or (map weighted_point held) i d ≡ record { point = id.first; weight = pos w }
+pub listed_at : (members : List WeightedItem) (i : ℕ) (id : Id) (w : ℕ) (d : Weighted) → slice_get (map (λ s. s.id) members) i ≡ Some id → slice_get (map (λ s. s.weight) members) i ≡ Some w
+    → get_or (map weighted_point members) i d ≡ record { point = id.first; weight = pos w }
 listed_at [] i id w d h k = cc
-listed_at (s ∷ held) zero id w d h k =
+listed_at (s ∷ members) zero id w d h k =
     let same_id : s.id ≡ id = cc in
     let same_weight : s.weight ≡ w = cc in
     ap₂ (λ a b. record { point = a.first; weight = pos b }) same_id same_weight
-listed_at (s ∷ held) (suc i) id w d h k = listed_at held i id w d h k
+listed_at (s ∷ members) (suc i) id w d h k = listed_at members i id w d h k
 
 -- the list with the next support
-pub listed_more : (held : List WeightedItem) (i : ℕ) (id : Id) (w : ℕ) (done now : List format.Weighted) → i < length held
-    → slice_get (map (λ s. s.id) held) i ≡ Some id → slice_get (map (λ s. s.weight) held) i ≡ Some w
-    → map weighted_of done ≡ take i (map weighted_point held) → now ≡ done ++ record { point = id.first; weight = w } ∷ [] → map weighted_of now ≡ take (i + 1) (map weighted_point held)
-listed_more held i id w done now below h k so_far e =
-    let as_many = length-map held weighted_point in
+pub listed_more : (members : List WeightedItem) (i : ℕ) (id : Id) (w : ℕ) (done now : List format.Weighted) → i < length members
+    → slice_get (map (λ s. s.id) members) i ≡ Some id → slice_get (map (λ s. s.weight) members) i ≡ Some w
+    → map weighted_of done ≡ take i (map weighted_point members) → now ≡ done ++ record { point = id.first; weight = w } ∷ [] → map weighted_of now ≡ take (i + 1) (map weighted_point members)
+listed_more members i id w done now below h k so_far e =
+    let as_many = length-map members weighted_point in
     ap (map weighted_of) e
     ∙ map_push weighted_of done (record { point = id.first; weight = w })
-    ∙ ap₂ (λ xs x. xs ++ x ∷ []) so_far (sym (listed_at held i id w past_the_end h k))
-    ∙ sym (take_more (map weighted_point held) i past_the_end (omega arith))
+    ∙ ap₂ (λ xs x. xs ++ x ∷ []) so_far (sym (listed_at members i id w past_the_end h k))
+    ∙ sym (take_more (map weighted_point members) i past_the_end (omega arith))

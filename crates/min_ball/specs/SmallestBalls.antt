@@ -6,7 +6,7 @@ use Rattle.corral.specs.Items.{first_points}
 use Rattle.corral.specs.Supported.{items_of}
 use Rattle.min_ball.specs.declared.ball.Ball.{Ball}
 
--- the supports that hold it in place
+-- the supports that determine it
 abbrev pub support_of : {K P : Type 0} {g : _} → Ball K P g → Support K P g
 support_of ball = ball.support
 

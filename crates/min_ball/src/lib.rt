@@ -1,7 +1,7 @@
 //! The smallest circle around points of the plane, and the smallest sphere around points of space.
 //!
 //! - `enclosing`: the two calls
-//! - `ball`: a ball with the supports that hold it in place
+//! - `ball`: a ball with the supports that determine it
 //! - `ball_answers`: the ball as an answer
 //! - `sums`: the sums that its size and its centre come from
 #![tactic(auto)]

@@ -6,12 +6,12 @@ use Rattle.integers.proofs.Order.{positive_from_one}
 use Rattle.integers.proofs.Fractions.{fraction_equal, fraction_le_trans}
 use Rattle.bounds_model.specs.Plane.{PlanePoint, point_at, squared_length, quarter_turn}
 use Rattle.bounds_model.specs.Fractions.{Fraction, SameValue}
-use Rattle.bounds_model.specs.Places.{IsFraction}
+use Rattle.bounds_model.specs.Ranges.{IsFraction}
 use Rattle.bounds_model.specs.Strip.{Span, extent}
 use Rattle.bounds_model.specs.Fans.{QuarterFan, QuarterCone, quarter_directions}
 use Rattle.bounds_model.specs.RectangleAnswer.{PassesRectangle, IsNotSmaller, reached_area}
 use Rattle.directions.proofs.Reaches.{long_some}
-use Rattle.directions.proofs.SpanBounds.{short_pair, short_span, AreBounds, bounds_hold, extent_is}
+use Rattle.directions.proofs.SpanBounds.{direction_of_short, short_span, AreBounds, bounds_hold, extent_is}
 use Rattle.min_rectangle.specs.PlainFan.{IsPlainFan, cone_at}
 use Rattle.min_rectangle.specs.Areas.{IsArea, IsNotLarger}
 use Rattle.min_rectangle.specs.declared.smallest.Area.{Area}
@@ -59,12 +59,12 @@ rectangle_passes points fan best size along across h is_best seen fraction same 
     let d = cone.direction in
     let own = is_cone points fan h best.direction is_best.listed in
     record {
-      places = record {
+      ranges = record {
         size = fraction;
-        direction = short_pair d own.short;
+        direction = direction_of_short d own.short;
         along = short_span along bounds.short;
         across = short_span across bounds_across.short;
-        fan = h.places;
+        fan = h.ranges;
       };
       short_directions = h.short;
       short_direction = own.short;

@@ -1,14 +1,14 @@
 -- What a fan has to have for rectangles.
 use Rattle.std.specs.Prelude.{ℕ, List, All, slice_index_or}
 use Rattle.bounds_model.specs.Plane.{PlanePoint, origin}
-use Rattle.bounds_model.specs.Fans.{QuarterFan, QuarterCone, quarter_directions, HoldsQuarter, QuarterPlaces, IsShort}
+use Rattle.bounds_model.specs.Fans.{QuarterFan, QuarterCone, quarter_directions, HoldsQuarter, QuarterRanges, IsShort}
 use Rattle.bounds_model.specs.PlainFans.{AreLowest}
 
 -- a fan over a quarter turn that holds for the points, whose directions are in lowest terms
 pub record IsPlainFan (points : List PlanePoint) (fan : QuarterFan) : Type 0 where
   pub holds : HoldsQuarter points fan
   pub lowest : AreLowest (quarter_directions fan)
-  pub places : QuarterPlaces fan
+  pub ranges : QuarterRanges fan
   pub short : All IsShort (quarter_directions fan)
 
 -- any cone, for reading past the end of a list

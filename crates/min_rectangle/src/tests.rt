@@ -46,7 +46,7 @@ fn points_from(alloc: Global, places: &[(i64, i64)]) -> Option<Points2> {
 #[test]
 fn few_points(rt: HostRuntime) -> Result<(), Fail> {
     let table = [
-        // a right triangle: upright and along the long side the areas are equal, and the first stays
+        // a right triangle: along the axes and along the long side the areas are equal, and the first stays
         Row {
             points: &[(0, 0), (4, 0), (0, 3)],
             size: (12, 1),

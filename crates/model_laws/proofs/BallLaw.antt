@@ -73,7 +73,7 @@ spread k W S T Cx Cy Cz x y z h e =
     combine2 W (neg_ℤ (k *ℤ k)) h e
     (read (k ∷ W ∷ S ∷ T ∷ Cx ∷ Cy ∷ Cz ∷ x ∷ y ∷ z ∷ []) (λ xs a b c d e f g h i j. simp (a, b, c, d, e, f, g, h, i, j, polys, lits xs) (den-ring xs _ _ tt)))
 
--- the size is at most the squared radius n/d of a ball around y/k that holds the supports
+-- the size is at most the squared radius n/d of a ball around y/k that contains the supports
 best_law : (N D W S T Cx Cy Cz x y z k n d : ℤ) → pos 1 ≤ℤ W → pos 1 ≤ℤ D → pos 1 ≤ℤ k → pos 1 ≤ℤ d
     → T ≡ k *ℤ k *ℤ S -ℤ pos 2 *ℤ (k *ℤ (x *ℤ Cx +ℤ y *ℤ Cy +ℤ z *ℤ Cz)) +ℤ W *ℤ (x *ℤ x +ℤ y *ℤ y +ℤ z *ℤ z)
     → pos 2 *ℤ (Cx *ℤ Cx +ℤ Cy *ℤ Cy +ℤ Cz *ℤ Cz) ≡ W *ℤ S
@@ -97,7 +97,7 @@ best_law N D W S T Cx Cy Cz x y z k n d pw pd pk pe hT hC hN l =
         le_by (nonneg_mul pd (nonneg_difference l))
         (combine1 (neg_ℤ d) h (read (D ∷ N ∷ W ∷ CC ∷ d ∷ n ∷ []) (λ xs a b c d e f. simp (a, b, c, d, e, f, polys) (den-ring xs _ _ tt))))
 
--- ---- a witness holds its ball in place
+-- ---- a witness contains its ball in place
 
 -- the distance of k p from c is that of k (p - q) from c - k q
 abbrev Far : ℤ → SpacePoint → SpacePoint → ℤ
@@ -143,7 +143,7 @@ balanced limit points ball supports some h =
     let moments = balance (λ (s : Weighted). s.weight) (seen_support points supports) (weight_sum supports) (pull points supports) supports h.on_ball in
     record { weight = weight; moments = moments; size = size_is ball.squared_radius.n ball.squared_radius.d (weight_sum supports) (total (λ s. s.weight *ℤ squared_length (seen_support points supports s)) supports) (squared_length (pull points supports)) h.size moments }
 
--- a ball with a witness holds all points
+-- a ball with a witness contains all points
 witness_fits : (limit : ℕ) (points : List SpacePoint) (ball : Ball) (supports : List Weighted) → 1 ≤ length supports → pos 1 ≤ℤ ball.centre.w → IsNotNegative ball.squared_radius → IsBallWitness limit points ball supports → FitsBall points ball
 witness_fits limit points ball supports some w r h =
     let b = balanced limit points ball supports some h in
@@ -167,7 +167,7 @@ support_in points other supports numbers fits k d l =
     let s = slice_index_or supports k d in
     subst (λ v. (other.squared_radius.d *ℤ v) ≤ℤ (other.squared_radius.n *ℤ (other.centre.w *ℤ other.centre.w))) (sym (far_is other.centre.w (entries other.centre) (first_support points supports) (point_at points s.point))) (fits.inside s.point origin (numbers k d l))
 
--- and no ball that holds all points is smaller
+-- and no ball that contains all points is smaller
 witness_best : (limit : ℕ) (points : List SpacePoint) (ball : Ball) (supports : List Weighted) → 1 ≤ length supports → pos 1 ≤ℤ ball.squared_radius.d → All (λ s. s.point < length points) supports → IsBallWitness limit points ball supports
     → (other : Ball) → FitsBall points other → IsAtMost ball.squared_radius other.squared_radius
 witness_best limit points ball supports some pd numbers h other fits =
@@ -187,24 +187,24 @@ itself size h = record { lowest = h; same = refl }
 -- a sphere that passes is best
 pub sphere_is_best : PassingAnswersAreBest ask_sphere
 sphere_is_best (space points) (sphere a) h = record {
-  fits = (fits, itself a.size h.places.size.lowest);
-  best = record { fits = fits; smallest = witness_best (2 ^ 92) points (sphere_of a) a.supports h.places.count.at_least h.places.size.lowest.not_negative.denominator h.numbers h.witness };
+  fits = (fits, itself a.size h.ranges.size.lowest);
+  best = record { fits = fits; smallest = witness_best (2 ^ 92) points (sphere_of a) a.supports h.ranges.count.at_least h.ranges.size.lowest.not_negative.denominator h.numbers h.witness };
 }
   where
     fits : FitsBall points (sphere_of a)
-    fits = witness_fits (2 ^ 92) points (sphere_of a) a.supports h.places.count.at_least h.places.centre.denominator h.places.size.lowest.not_negative h.witness
+    fits = witness_fits (2 ^ 92) points (sphere_of a) a.supports h.ranges.count.at_least h.ranges.centre.denominator h.ranges.size.lowest.not_negative h.witness
 sphere_is_best sets answer h = absurd h
 
 -- a circle that passes is best
 pub circle_is_best : PassingAnswersAreBest ask_circle
 circle_is_best (plane points) (circle a) h = record {
-  fits = (fits, itself a.size h.places.size.lowest);
-  best = record { fits = fits; smallest = λ other f. witness_best (2 ^ 80) (map flat points) (circle_of a) a.supports h.places.count.at_least h.places.size.lowest.not_negative.denominator numbers h.witness other f.ball };
+  fits = (fits, itself a.size h.ranges.size.lowest);
+  best = record { fits = fits; smallest = λ other f. witness_best (2 ^ 80) (map flat points) (circle_of a) a.supports h.ranges.count.at_least h.ranges.size.lowest.not_negative.denominator numbers h.witness other f.ball };
 }
   where
     numbers : All (λ s. s.point < length (map flat points)) a.supports
     numbers = subst (λ n. All (λ s. s.point < n) a.supports) (sym (length-map points flat)) h.numbers
 
     fits : FitsCircle points (circle_of a)
-    fits = record { in_plane = refl; ball = witness_fits (2 ^ 80) (map flat points) (circle_of a) a.supports h.places.count.at_least h.places.centre.denominator h.places.size.lowest.not_negative h.witness }
+    fits = record { in_plane = refl; ball = witness_fits (2 ^ 80) (map flat points) (circle_of a) a.supports h.ranges.count.at_least h.ranges.centre.denominator h.ranges.size.lowest.not_negative h.witness }
 circle_is_best sets answer h = absurd h

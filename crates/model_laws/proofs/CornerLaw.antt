@@ -147,15 +147,15 @@ cycle points corners r = record {
 
 -- the corners that pass are the corners
 pub passing_corners : PassingCornersAreCorners
-passing_corners points [] listed h = h.hold
-passing_corners points (a ∷ []) listed h = record { listed = h.from_least.listed; only = h.hold }
+passing_corners points [] listed h = h.surround
+passing_corners points (a ∷ []) listed h = record { listed = h.from_least.listed; only = h.surround }
 passing_corners points (a ∷ b ∷ []) listed h = record {
   from_least = h.from_least;
-  to_greatest = h.hold.to_greatest;
+  to_greatest = h.surround.to_greatest;
   distinct = λ e. All-get_or (λ c. c ≢ a) (b ∷ []) 0 origin (omega arith) h.once (sym e);
-  on_line = h.hold.on_line;
+  on_line = h.surround.on_line;
 }
-passing_corners points (a ∷ b ∷ c ∷ rest) listed h = cycle points (a ∷ b ∷ c ∷ rest) (record { listed = listed; from_least = h.from_least; once = h.once; round = h.hold })
+passing_corners points (a ∷ b ∷ c ∷ rest) listed h = cycle points (a ∷ b ∷ c ∷ rest) (record { listed = listed; from_least = h.from_least; once = h.once; round = h.surround })
 
 -- the points of numbers below the length are points of the list
 pub named_points : (points : List PlanePoint) (numbers : List ℕ) → All (λ number. number < length points) numbers → All (Contains points) (map (point_at points) numbers)

@@ -3,10 +3,10 @@ use Rattle.std.proofs.Common.{ℕ, ◌^◌, pos, List, length, map}
 use Rattle.bounds_model.specs.Plane.{PlanePoint}
 use Rattle.bounds_model.specs.Space.{SpacePoint, flat}
 use Rattle.bounds_model.specs.Ball.{Ball}
-use Rattle.bounds_model.specs.BallAnswer.{Weighted, SphereAnswer, SpherePlaces, PassesSphere, sphere_of, CircleAnswer, CirclePlaces, IsBallWitness, PassesCircle, circle_of, weight_sum, IsOnBall, IsNotOutside, supported_size, supported_centre}
-use Rattle.bounds_model.specs.Places.{point_limit}
+use Rattle.bounds_model.specs.BallAnswer.{Weighted, SphereAnswer, SphereRanges, PassesSphere, sphere_of, CircleAnswer, CircleRanges, IsBallWitness, PassesCircle, circle_of, weight_sum, IsOnBall, IsNotOutside, supported_size, supported_centre}
+use Rattle.bounds_model.specs.Ranges.{point_limit}
 use Rattle.model_laws.proofs.Decisions.{Decision, like, both, all, most_ℕ, less_ℕ, equal_ℤ, most_ℤ}
-use Rattle.model_laws.proofs.DecideParts.{counted, natural, same_value, same_place, fraction_placed, plane_ratio_placed, space_ratio_placed}
+use Rattle.model_laws.proofs.DecideParts.{counted, natural, same_value, same_place, fraction_in_range, plane_ratio_in_range, space_ratio_in_range}
 
 abbrev pub ball_witness : (limit : ℕ) (points : List SpacePoint) (ball : Ball) (supports : List Weighted) → Decision (IsBallWitness limit points ball supports)
 ball_witness limit points ball supports =
@@ -19,30 +19,30 @@ ball_witness limit points ball supports =
     (λ h. record { weights = h.0; weight_limit = h.1.0; on_ball = h.1.1.0; none_outside = h.1.1.1.0; size = h.1.1.1.1.0; centre = h.1.1.1.1.1 })
     (λ h. (h.weights, (h.weight_limit, (h.on_ball, (h.none_outside, (h.size, h.centre))))))
 
-abbrev pub circle_places : (a : CircleAnswer) → Decision (CirclePlaces a)
-circle_places a =
+abbrev pub circle_ranges : (a : CircleAnswer) → Decision (CircleRanges a)
+circle_ranges a =
     like
-    (both (fraction_placed a.size) (both (plane_ratio_placed a.centre) (both (counted 1 3 a.supports) (all (λ s. both (most_ℕ s.point point_limit) (natural s.weight)) a.supports))))
+    (both (fraction_in_range a.size) (both (plane_ratio_in_range a.centre) (both (counted 1 3 a.supports) (all (λ s. both (most_ℕ s.point point_limit) (natural s.weight)) a.supports))))
     (λ h. record { size = h.0; centre = h.1.0; count = h.1.1.0; supports = h.1.1.1 })
     (λ h. (h.size, (h.centre, (h.count, h.supports))))
 
 abbrev pub circle_passes : (points : List PlanePoint) (a : CircleAnswer) → Decision (PassesCircle points a)
 circle_passes points a =
     like
-    (both (circle_places a) (both (all (λ s. less_ℕ s.point (length points)) a.supports) (ball_witness (2 ^ 80) (map flat points) (circle_of a) a.supports)))
-    (λ h. record { places = h.0; numbers = h.1.0; witness = h.1.1 })
-    (λ h. (h.places, (h.numbers, h.witness)))
+    (both (circle_ranges a) (both (all (λ s. less_ℕ s.point (length points)) a.supports) (ball_witness (2 ^ 80) (map flat points) (circle_of a) a.supports)))
+    (λ h. record { ranges = h.0; numbers = h.1.0; witness = h.1.1 })
+    (λ h. (h.ranges, (h.numbers, h.witness)))
 
-abbrev pub sphere_places : (a : SphereAnswer) → Decision (SpherePlaces a)
-sphere_places a =
+abbrev pub sphere_ranges : (a : SphereAnswer) → Decision (SphereRanges a)
+sphere_ranges a =
     like
-    (both (fraction_placed a.size) (both (space_ratio_placed a.centre) (both (counted 1 4 a.supports) (all (λ s. both (most_ℕ s.point point_limit) (natural s.weight)) a.supports))))
+    (both (fraction_in_range a.size) (both (space_ratio_in_range a.centre) (both (counted 1 4 a.supports) (all (λ s. both (most_ℕ s.point point_limit) (natural s.weight)) a.supports))))
     (λ h. record { size = h.0; centre = h.1.0; count = h.1.1.0; supports = h.1.1.1 })
     (λ h. (h.size, (h.centre, (h.count, h.supports))))
 
 abbrev pub sphere_passes : (points : List SpacePoint) (a : SphereAnswer) → Decision (PassesSphere points a)
 sphere_passes points a =
     like
-    (both (sphere_places a) (both (all (λ s. less_ℕ s.point (length points)) a.supports) (ball_witness (2 ^ 92) points (sphere_of a) a.supports)))
-    (λ h. record { places = h.0; numbers = h.1.0; witness = h.1.1 })
-    (λ h. (h.places, (h.numbers, h.witness)))
+    (both (sphere_ranges a) (both (all (λ s. less_ℕ s.point (length points)) a.supports) (ball_witness (2 ^ 92) points (sphere_of a) a.supports)))
+    (λ h. record { ranges = h.0; numbers = h.1.0; witness = h.1.1 })
+    (λ h. (h.ranges, (h.numbers, h.witness)))

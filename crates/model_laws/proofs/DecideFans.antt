@@ -5,15 +5,15 @@ use Rattle.bounds_model.specs.Plane.{PlanePoint, point_at, cross, dot, origin, q
 use Rattle.bounds_model.specs.Strip.{Span, strip_size}
 use Rattle.bounds_model.specs.Rectangle.{rectangle_size}
 use Rattle.bounds_model.specs.Parallelogram.{parallelogram_size}
-use Rattle.bounds_model.specs.Places.{point_limit, fan_limit, number_limit}
-use Rattle.bounds_model.specs.Fans.{HalfFan, HalfCone, QuarterFan, half_directions, quarter_directions, AreExtreme, IsHalfExtreme, IsQuarterExtreme, TurnLeft, AtBothEnds, NamesPoints, NamesAllPoints, HoldsHalf, HoldsQuarter, IsShort, HalfPlaces, QuarterPlaces, east, west, north, direction_limit, span_limit}
-use Rattle.bounds_model.specs.StripAnswer.{StripAnswer, StripPlaces, IsShortSpan, IsNotThinner, PassesStrip, strip_of}
-use Rattle.bounds_model.specs.RectangleAnswer.{RectangleAnswer, RectanglePlaces, PassesRectangle, rectangle_of}
+use Rattle.bounds_model.specs.Ranges.{point_limit, fan_limit, number_limit}
+use Rattle.bounds_model.specs.Fans.{HalfFan, HalfCone, QuarterFan, half_directions, quarter_directions, AreExtreme, IsHalfExtreme, IsQuarterExtreme, TurnLeft, AtBothEnds, NamesPoints, NamesAllPoints, HoldsHalf, HoldsQuarter, IsShort, HalfRanges, QuarterRanges, east, west, north, direction_limit, span_limit}
+use Rattle.bounds_model.specs.StripAnswer.{StripAnswer, StripRanges, IsShortSpan, IsNotThinner, PassesStrip, strip_of}
+use Rattle.bounds_model.specs.RectangleAnswer.{RectangleAnswer, RectangleRanges, PassesRectangle, rectangle_of}
 use Rattle.bounds_model.specs.RectangleAnswer
-use Rattle.bounds_model.specs.ParallelogramAnswer.{Chord, chord_limit, ParallelogramAnswer, ParallelogramPlaces, ChordPlaces, IsShortChord, NamesEnds, IsAcross, IsNotSmallerAt, PassesParallelogram, parallelogram_of}
+use Rattle.bounds_model.specs.ParallelogramAnswer.{Chord, chord_limit, ParallelogramAnswer, ParallelogramRanges, ChordRanges, IsShortChord, NamesEnds, IsAcross, IsNotSmallerAt, PassesParallelogram, parallelogram_of}
 use Rattle.bounds_model.specs.ParallelogramAnswer
 use Rattle.model_laws.proofs.Decisions.{Decision, like, both, together, three, four, negated, all, all_numbered, each_below, some_and, most_ℕ, less_ℕ, equal_ℕ, equal_ℤ, most_ℤ, less_ℤ}
-use Rattle.model_laws.proofs.DecideParts.{same_point, within, counted, natural, same_value, in_span, pair_placed, span_placed, fraction_placed}
+use Rattle.model_laws.proofs.DecideParts.{same_point, within, counted, natural, same_value, in_span, direction_in_range, span_in_range, fraction_in_range}
 
 abbrev pub extreme : (points : List PlanePoint) (d : PlanePoint) (high low : ℕ) → Decision (AreExtreme points d high low)
 extreme points d high low =
@@ -52,25 +52,25 @@ short d = like (both (within direction_limit d.x) (within direction_limit d.y)) 
 abbrev pub short_span : (span : Span) → Decision (IsShortSpan span)
 short_span span = like (both (within span_limit span.low) (within span_limit span.high)) (λ h. record { low = h.0; high = h.1 }) (λ h. (h.low, h.high))
 
-abbrev pub half_places : (fan : HalfFan) → Decision (HalfPlaces fan)
-half_places fan =
-    like (both (counted 1 (fan_limit - 1) fan.cones) (both (all pair_placed (half_directions fan)) (all (λ cone. both (most_ℕ cone.high point_limit) (most_ℕ cone.low point_limit)) fan.cones)))
+abbrev pub half_ranges : (fan : HalfFan) → Decision (HalfRanges fan)
+half_ranges fan =
+    like (both (counted 1 (fan_limit - 1) fan.cones) (both (all direction_in_range (half_directions fan)) (all (λ cone. both (most_ℕ cone.high point_limit) (most_ℕ cone.low point_limit)) fan.cones)))
     (λ h. record { count = h.0; directions = h.1.0; points = h.1.1 }) (λ h. (h.count, (h.directions, h.points)))
 
-abbrev pub quarter_places : (fan : QuarterFan) → Decision (QuarterPlaces fan)
-quarter_places fan =
-    like (both (counted 1 (fan_limit - 1) fan.cones) (both (all pair_placed (quarter_directions fan)) (all (λ cone. four (most_ℕ cone.high point_limit) (most_ℕ cone.low point_limit) (most_ℕ cone.over point_limit) (most_ℕ cone.under point_limit)) fan.cones)))
+abbrev pub quarter_ranges : (fan : QuarterFan) → Decision (QuarterRanges fan)
+quarter_ranges fan =
+    like (both (counted 1 (fan_limit - 1) fan.cones) (both (all direction_in_range (quarter_directions fan)) (all (λ cone. four (most_ℕ cone.high point_limit) (most_ℕ cone.low point_limit) (most_ℕ cone.over point_limit) (most_ℕ cone.under point_limit)) fan.cones)))
     (λ h. record { count = h.0; directions = h.1.0; points = h.1.1 }) (λ h. (h.count, (h.directions, h.points)))
 
-abbrev pub strip_places : (a : StripAnswer) → Decision (StripPlaces a)
-strip_places a =
-    like (both (fraction_placed a.size) (both (pair_placed a.direction) (both (span_placed a.bounds) (half_places a.fan))))
+abbrev pub strip_ranges : (a : StripAnswer) → Decision (StripRanges a)
+strip_ranges a =
+    like (both (fraction_in_range a.size) (both (direction_in_range a.direction) (both (span_in_range a.bounds) (half_ranges a.fan))))
     (λ h. record { size = h.0; direction = h.1.0; bounds = h.1.1.0; fan = h.1.1.1 }) (λ h. (h.size, (h.direction, (h.bounds, h.fan))))
 
 abbrev pub strip_passes : (points : List PlanePoint) (a : StripAnswer) → Decision (PassesStrip points a)
 strip_passes points a =
     like
-    (both (strip_places a)
+    (both (strip_ranges a)
     (both (all short (half_directions a.fan))
     (both (short a.direction)
     (both (short_span a.bounds)
@@ -79,18 +79,18 @@ strip_passes points a =
     (both (at_both_ends {P = IsNotThinner points a.size} (half_directions a.fan) (λ d cone. most_ℤ _ _) a.fan.cones)
     (both (all (λ p. in_span a.bounds (dot a.direction p)) points)
     (same_value a.size (strip_size (strip_of a)))))))))))
-    (λ h. record { places = h.0; short_directions = h.1.0; short_direction = h.1.1.0; short_bounds = h.1.1.1.0; normal = h.1.1.1.1.0; fan = h.1.1.1.1.1.0; not_thinner = h.1.1.1.1.1.1.0; inside = h.1.1.1.1.1.1.1.0; size = h.1.1.1.1.1.1.1.1 })
-    (λ h. (h.places, (h.short_directions, (h.short_direction, (h.short_bounds, (h.normal, (h.fan, (h.not_thinner, (h.inside, h.size)))))))))
+    (λ h. record { ranges = h.0; short_directions = h.1.0; short_direction = h.1.1.0; short_bounds = h.1.1.1.0; normal = h.1.1.1.1.0; fan = h.1.1.1.1.1.0; not_thinner = h.1.1.1.1.1.1.0; inside = h.1.1.1.1.1.1.1.0; size = h.1.1.1.1.1.1.1.1 })
+    (λ h. (h.ranges, (h.short_directions, (h.short_direction, (h.short_bounds, (h.normal, (h.fan, (h.not_thinner, (h.inside, h.size)))))))))
 
-abbrev pub rectangle_places : (a : RectangleAnswer) → Decision (RectanglePlaces a)
-rectangle_places a =
-    like (both (fraction_placed a.size) (both (pair_placed a.direction) (both (span_placed a.along) (both (span_placed a.across) (quarter_places a.fan)))))
+abbrev pub rectangle_ranges : (a : RectangleAnswer) → Decision (RectangleRanges a)
+rectangle_ranges a =
+    like (both (fraction_in_range a.size) (both (direction_in_range a.direction) (both (span_in_range a.along) (both (span_in_range a.across) (quarter_ranges a.fan)))))
     (λ h. record { size = h.0; direction = h.1.0; along = h.1.1.0; across = h.1.1.1.0; fan = h.1.1.1.1 }) (λ h. (h.size, (h.direction, (h.along, (h.across, h.fan)))))
 
 abbrev pub rectangle_passes : (points : List PlanePoint) (a : RectangleAnswer) → Decision (PassesRectangle points a)
 rectangle_passes points a =
     like
-    (both (rectangle_places a)
+    (both (rectangle_ranges a)
     (both (all short (quarter_directions a.fan))
     (both (short a.direction)
     (both (short_span a.along)
@@ -101,17 +101,17 @@ rectangle_passes points a =
     (both (all (λ p. in_span a.along (dot a.direction p)) points)
     (both (all (λ p. in_span a.across (dot (quarter_turn a.direction) p)) points)
     (same_value a.size (rectangle_size (rectangle_of a)))))))))))))
-    (λ h. record { places = h.0; short_directions = h.1.0; short_direction = h.1.1.0; short_along = h.1.1.1.0; short_across = h.1.1.1.1.0; normal = h.1.1.1.1.1.0; fan = h.1.1.1.1.1.1.0; not_smaller = h.1.1.1.1.1.1.1.0; inside_along = h.1.1.1.1.1.1.1.1.0; inside_across = h.1.1.1.1.1.1.1.1.1.0; size = h.1.1.1.1.1.1.1.1.1.1 })
-    (λ h. (h.places, (h.short_directions, (h.short_direction, (h.short_along, (h.short_across, (h.normal, (h.fan, (h.not_smaller, (h.inside_along, (h.inside_across, h.size)))))))))))
+    (λ h. record { ranges = h.0; short_directions = h.1.0; short_direction = h.1.1.0; short_along = h.1.1.1.0; short_across = h.1.1.1.1.0; normal = h.1.1.1.1.1.0; fan = h.1.1.1.1.1.1.0; not_smaller = h.1.1.1.1.1.1.1.0; inside_along = h.1.1.1.1.1.1.1.1.0; inside_across = h.1.1.1.1.1.1.1.1.1.0; size = h.1.1.1.1.1.1.1.1.1.1 })
+    (λ h. (h.ranges, (h.short_directions, (h.short_direction, (h.short_along, (h.short_across, (h.normal, (h.fan, (h.not_smaller, (h.inside_along, (h.inside_across, h.size)))))))))))
 
-abbrev pub chord_places : (chord : Chord) → Decision (ChordPlaces chord)
-chord_places chord =
+abbrev pub chord_ranges : (chord : Chord) → Decision (ChordRanges chord)
+chord_ranges chord =
     like (both (most_ℕ chord.a point_limit) (both (most_ℕ chord.b point_limit) (both (most_ℕ chord.c point_limit) (both (natural chord.beta) (both (natural chord.gamma) (within number_limit chord.k))))))
     (λ h. record { a = h.0; b = h.1.0; c = h.1.1.0; beta = h.1.1.1.0; gamma = h.1.1.1.1.0; k = h.1.1.1.1.1 }) (λ h. (h.a, (h.b, (h.c, (h.beta, (h.gamma, h.k))))))
 
-abbrev pub parallelogram_places : (a : ParallelogramAnswer) → Decision (ParallelogramPlaces a)
-parallelogram_places a =
-    like (both (fraction_placed a.size) (both (pair_placed a.first) (both (span_placed a.first_bounds) (both (pair_placed a.second) (both (span_placed a.second_bounds) (both (half_places a.fan) (both (equal_ℕ (length a.chords) (length (half_directions a.fan))) (all chord_places a.chords))))))))
+abbrev pub parallelogram_ranges : (a : ParallelogramAnswer) → Decision (ParallelogramRanges a)
+parallelogram_ranges a =
+    like (both (fraction_in_range a.size) (both (direction_in_range a.first) (both (span_in_range a.first_bounds) (both (direction_in_range a.second) (both (span_in_range a.second_bounds) (both (half_ranges a.fan) (both (equal_ℕ (length a.chords) (length (half_directions a.fan))) (all chord_ranges a.chords))))))))
     (λ h. record { size = h.0; first = h.1.0; first_bounds = h.1.1.0; second = h.1.1.1.0; second_bounds = h.1.1.1.1.0; fan = h.1.1.1.1.1.0; chord_for_each = h.1.1.1.1.1.1.0; chords = h.1.1.1.1.1.1.1 })
     (λ h. (h.size, (h.first, (h.first_bounds, (h.second, (h.second_bounds, (h.fan, (h.chord_for_each, h.chords))))))))
 
@@ -130,7 +130,7 @@ not_smaller_at points a i cone =
 abbrev pub parallelogram_passes : (points : List PlanePoint) (a : ParallelogramAnswer) → Decision (PassesParallelogram points a)
 parallelogram_passes points a =
     like
-    (both (parallelogram_places a)
+    (both (parallelogram_ranges a)
     (both (all {P = NamesEnds points} (names_ends points) a.chords)
     (both (all short (half_directions a.fan))
     (both (short a.first)
@@ -146,5 +146,5 @@ parallelogram_passes points a =
     (both (all (λ p. in_span a.first_bounds (dot a.first p)) points)
     (both (all (λ p. in_span a.second_bounds (dot a.second p)) points)
     (same_value a.size (parallelogram_size (parallelogram_of a)))))))))))))))))
-    (λ h. record { places = h.0; chord_numbers = h.1.0; short_directions = h.1.1.0; short_first = h.1.1.1.0; short_second = h.1.1.1.1.0; short_first_bounds = h.1.1.1.1.1.0; short_second_bounds = h.1.1.1.1.1.1.0; short_chords = h.1.1.1.1.1.1.1.0; fan = h.1.1.1.1.1.1.1.1.0; across = h.1.1.1.1.1.1.1.1.1.0; not_smaller = h.1.1.1.1.1.1.1.1.1.1.0; normals = h.1.1.1.1.1.1.1.1.1.1.1.0; inside_first = h.1.1.1.1.1.1.1.1.1.1.1.1.0; inside_second = h.1.1.1.1.1.1.1.1.1.1.1.1.1.0; size = h.1.1.1.1.1.1.1.1.1.1.1.1.1.1 })
-    (λ h. (h.places, (h.chord_numbers, (h.short_directions, (h.short_first, (h.short_second, (h.short_first_bounds, (h.short_second_bounds, (h.short_chords, (h.fan, (h.across, (h.not_smaller, (h.normals, (h.inside_first, (h.inside_second, h.size)))))))))))))))
+    (λ h. record { ranges = h.0; chord_numbers = h.1.0; short_directions = h.1.1.0; short_first = h.1.1.1.0; short_second = h.1.1.1.1.0; short_first_bounds = h.1.1.1.1.1.0; short_second_bounds = h.1.1.1.1.1.1.0; short_chords = h.1.1.1.1.1.1.1.0; fan = h.1.1.1.1.1.1.1.1.0; across = h.1.1.1.1.1.1.1.1.1.0; not_smaller = h.1.1.1.1.1.1.1.1.1.1.0; normals = h.1.1.1.1.1.1.1.1.1.1.1.0; inside_first = h.1.1.1.1.1.1.1.1.1.1.1.1.0; inside_second = h.1.1.1.1.1.1.1.1.1.1.1.1.1.0; size = h.1.1.1.1.1.1.1.1.1.1.1.1.1.1 })
+    (λ h. (h.ranges, (h.chord_numbers, (h.short_directions, (h.short_first, (h.short_second, (h.short_first_bounds, (h.short_second_bounds, (h.short_chords, (h.fan, (h.across, (h.not_smaller, (h.normals, (h.inside_first, (h.inside_second, h.size)))))))))))))))

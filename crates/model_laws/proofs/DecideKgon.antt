@@ -5,12 +5,12 @@ use Rattle.std.specs.List.Sorted.{IsStrictlyIncreasing}
 use Rattle.bounds_model.specs.Numbers.{EachBelow}
 use Rattle.bounds_model.specs.Plane.{PlanePoint, vector, cross, turn, IsBefore, IsLeastPoint, IsGreatestPoint}
 use Rattle.bounds_model.specs.Hull.{around, AreCornerCycle, AreEnds, IsOnlyPoint, AreCorners}
-use Rattle.bounds_model.specs.CornerTest.{GoAround, LeadToGreatest, HoldAll, FirstIsOnce, CornersPass}
+use Rattle.bounds_model.specs.CornerTest.{GoAround, LeadToGreatest, SurroundAll, FirstIsOnce, CornersPass}
 use Rattle.bounds_model.specs.Kgon.{FitsKgon, kgon_size}
-use Rattle.bounds_model.specs.KgonAnswer.{KgonAnswer, KgonPlaces, corner_points, pairs_before, Grows, PassesKgon}
-use Rattle.bounds_model.specs.Places.{point_limit}
+use Rattle.bounds_model.specs.KgonAnswer.{KgonAnswer, KgonRanges, corner_points, pairs_before, Grows, PassesKgon}
+use Rattle.bounds_model.specs.Ranges.{point_limit}
 use Rattle.model_laws.proofs.Decisions.{Decision, like, both, either, negated, impossible, all, all_pairs, contains, each_below, most_ℕ, less_ℕ, equal_ℕ, equal_ℤ, most_ℤ, less_ℤ}
-use Rattle.model_laws.proofs.DecideParts.{same_point, counted, natural, same_value, fraction_placed}
+use Rattle.model_laws.proofs.DecideParts.{same_point, counted, natural, same_value, fraction_in_range}
 
 abbrev pub before : (a b : PlanePoint) → Decision (IsBefore a b)
 before a b = either (less_ℤ a.x b.x) (both (equal_ℤ a.x b.x) (most_ℤ a.y b.y))
@@ -58,11 +58,11 @@ lead_to_greatest points a b =
     like (both (greatest_point points b) (all (λ p. equal_ℤ (cross (vector a b) (vector a p)) (pos 0)) points))
     (λ h. record { to_greatest = h.0; on_line = h.1 }) (λ h. (h.to_greatest, h.on_line))
 
-abbrev pub hold_all : (points corners : List PlanePoint) → Decision (HoldAll points corners)
-hold_all points [] = impossible (λ h. h)
-hold_all points (a ∷ []) = all (λ p. same_point p a) points
-hold_all points (a ∷ b ∷ []) = lead_to_greatest points a b
-hold_all points (a ∷ b ∷ c ∷ rest) = go_around points (a ∷ b ∷ c ∷ rest)
+abbrev pub surround_all : (points corners : List PlanePoint) → Decision (SurroundAll points corners)
+surround_all points [] = impossible (λ h. h)
+surround_all points (a ∷ []) = all (λ p. same_point p a) points
+surround_all points (a ∷ b ∷ []) = lead_to_greatest points a b
+surround_all points (a ∷ b ∷ c ∷ rest) = go_around points (a ∷ b ∷ c ∷ rest)
 
 abbrev pub first_is_once : (corners : List PlanePoint) → Decision (FirstIsOnce corners)
 first_is_once [] = impossible (λ h. h)
@@ -70,8 +70,8 @@ first_is_once (a ∷ rest) = all (λ c. negated (same_point c a)) rest
 
 abbrev pub corners_pass : (points corners : List PlanePoint) → Decision (CornersPass points corners)
 corners_pass points corners =
-    like (both (least_point points (around corners 0)) (both (first_is_once corners) (hold_all points corners)))
-    (λ h. record { from_least = h.0; once = h.1.0; hold = h.1.1 }) (λ h. (h.from_least, (h.once, h.hold)))
+    like (both (least_point points (around corners 0)) (both (first_is_once corners) (surround_all points corners)))
+    (λ h. record { from_least = h.0; once = h.1.0; surround = h.1.1 }) (λ h. (h.from_least, (h.once, h.surround)))
 
 abbrev pub Rises : List ℕ → ℕ → Type 0
 Rises xs k = slice_index xs k < slice_index xs (k + 1)
@@ -90,16 +90,16 @@ fits_kgon k corners positions =
     like (both (counted 1 (min k (length corners)) positions) (both (rising positions) (all (λ i. less_ℕ i (length corners)) positions)))
     (λ h. record { count = h.0; rising = h.1.0; in_range = h.1.1 }) (λ h. (h.count, (h.rising, h.in_range)))
 
-abbrev pub kgon_places : (a : KgonAnswer) → Decision (KgonPlaces a)
-kgon_places a =
-    like (both (fraction_placed a.size) (both (counted 1 128 a.corners) (both (all (λ number. most_ℕ number point_limit) a.corners) (both (counted 1 12 a.chosen) (both (all (λ i. most_ℕ i 127) a.chosen) (both (most_ℕ a.layers 10) (both (equal_ℕ (length a.potentials) (a.layers * pairs_before (length a.corners) (length a.corners))) (all natural a.potentials))))))))
+abbrev pub kgon_ranges : (a : KgonAnswer) → Decision (KgonRanges a)
+kgon_ranges a =
+    like (both (fraction_in_range a.size) (both (counted 1 128 a.corners) (both (all (λ number. most_ℕ number point_limit) a.corners) (both (counted 1 12 a.chosen) (both (all (λ i. most_ℕ i 127) a.chosen) (both (most_ℕ a.layers 10) (both (equal_ℕ (length a.potentials) (a.layers * pairs_before (length a.corners) (length a.corners))) (all natural a.potentials))))))))
     (λ h. record { size = h.0; corner_count = h.1.0; corners = h.1.1.0; chosen_count = h.1.1.1.0; chosen = h.1.1.1.1.0; layers = h.1.1.1.1.1.0; potential_count = h.1.1.1.1.1.1.0; potentials = h.1.1.1.1.1.1.1 })
     (λ h. (h.size, (h.corner_count, (h.corners, (h.chosen_count, (h.chosen, (h.layers, (h.potential_count, h.potentials))))))))
 
 abbrev pub kgon_passes : (k : ℕ) (points : List PlanePoint) (a : KgonAnswer) → Decision (PassesKgon k points a)
 kgon_passes k points a =
     like
-    (both (kgon_places a)
+    (both (kgon_ranges a)
     (both (all (λ number. less_ℕ number (length points)) a.corners)
     (both (corners_pass points (corner_points points a))
     (both (fits_kgon k (corner_points points a) a.chosen)
@@ -112,5 +112,5 @@ kgon_passes k points a =
     (λ a'. each_below {P = λ layer. Grows (corner_points points a) a layer a' b c}
     (λ layer. most_ℤ _ _) a.layers) b) c) (length a.corners))
     (all (λ u. most_ℤ (u *ℤ a.size.d) (pos 2 *ℤ a.size.n)) a.potentials))))))))
-    (λ h. record { places = h.0; numbers = h.1.0; corners = h.1.1.0; chosen = h.1.1.1.0; size = h.1.1.1.1.0; layers = h.1.1.1.1.1.0; grows = h.1.1.1.1.1.1.0; under_size = h.1.1.1.1.1.1.1 })
-    (λ h. (h.places, (h.numbers, (h.corners, (h.chosen, (h.size, (h.layers, (h.grows, h.under_size))))))))
+    (λ h. record { ranges = h.0; numbers = h.1.0; corners = h.1.1.0; chosen = h.1.1.1.0; size = h.1.1.1.1.0; layers = h.1.1.1.1.1.0; grows = h.1.1.1.1.1.1.0; under_size = h.1.1.1.1.1.1.1 })
+    (λ h. (h.ranges, (h.numbers, (h.corners, (h.chosen, (h.size, (h.layers, (h.grows, h.under_size))))))))

@@ -5,7 +5,7 @@ use Rattle.bounds_model.specs.Plane.{PlanePoint, PlaneRatio}
 use Rattle.bounds_model.specs.Space.{SpacePoint, SpaceRatio, SamePlace}
 use Rattle.bounds_model.specs.Fractions.{Fraction, SameValue, IsNotNegative, IsLowest}
 use Rattle.bounds_model.specs.Strip.{Span, IsInSpan}
-use Rattle.bounds_model.specs.Places.{IsNatural, IsPair, IsSpan, IsFraction, IsPlaneRatio, IsSpaceRatio}
+use Rattle.bounds_model.specs.Ranges.{IsNatural, IsDirection, IsSpan, IsFraction, IsPlaneRatio, IsSpaceRatio}
 use Rattle.model_laws.proofs.Decisions.{Decision, like, both, together, most_ℕ, equal_ℤ, most_ℤ}
 use Rattle.model_laws.proofs.CommonFactors.{no_common_factor}
 
@@ -36,11 +36,11 @@ same_place a b = like (both (equal_ℤ _ _) (both (equal_ℤ _ _) (equal_ℤ _ _
 abbrev pub in_span : (span : Span) (z : ℤ) → Decision (IsInSpan span z)
 in_span span z = like (both (most_ℤ span.low z) (most_ℤ z span.high)) (λ h. record { above = h.0; below = h.1 }) (λ h. (h.above, h.below))
 
-abbrev pub pair_placed : (v : PlanePoint) → Decision (IsPair v)
-pair_placed v = like (both (within _ v.x) (within _ v.y)) (λ h. record { x = h.0; y = h.1 }) (λ h. (h.x, h.y))
+abbrev pub direction_in_range : (v : PlanePoint) → Decision (IsDirection v)
+direction_in_range v = like (both (within _ v.x) (within _ v.y)) (λ h. record { x = h.0; y = h.1 }) (λ h. (h.x, h.y))
 
-abbrev pub span_placed : (span : Span) → Decision (IsSpan span)
-span_placed span = like (both (within _ span.low) (within _ span.high)) (λ h. record { low = h.0; high = h.1 }) (λ h. (h.low, h.high))
+abbrev pub span_in_range : (span : Span) → Decision (IsSpan span)
+span_in_range span = like (both (within _ span.low) (within _ span.high)) (λ h. record { low = h.0; high = h.1 }) (λ h. (h.low, h.high))
 
 abbrev pub not_negative : (a : Fraction) → Decision (IsNotNegative a)
 not_negative a = like (both (most_ℤ (pos 0) a.n) (most_ℤ (pos 1) a.d)) (λ h. record { numerator = h.0; denominator = h.1 }) (λ h. (h.numerator, h.denominator))
@@ -48,11 +48,11 @@ not_negative a = like (both (most_ℤ (pos 0) a.n) (most_ℤ (pos 1) a.d)) (λ h
 abbrev pub lowest : (a : Fraction) → Decision (IsLowest a)
 lowest a = like (both (not_negative a) (no_common_factor (a.n ∷ a.d ∷ []))) (λ h. record { not_negative = h.0; lowest = h.1 }) (λ h. (h.not_negative, h.lowest))
 
-abbrev pub fraction_placed : (a : Fraction) → Decision (IsFraction a)
-fraction_placed a = like (both (within _ a.n) (both (within _ a.d) (lowest a))) (λ h. record { numerator = h.0; denominator = h.1.0; lowest = h.1.1 }) (λ h. (h.numerator, (h.denominator, h.lowest)))
+abbrev pub fraction_in_range : (a : Fraction) → Decision (IsFraction a)
+fraction_in_range a = like (both (within _ a.n) (both (within _ a.d) (lowest a))) (λ h. record { numerator = h.0; denominator = h.1.0; lowest = h.1.1 }) (λ h. (h.numerator, (h.denominator, h.lowest)))
 
-abbrev pub plane_ratio_placed : (c : PlaneRatio) → Decision (IsPlaneRatio c)
-plane_ratio_placed c = like (both (within _ c.x) (both (within _ c.y) (both (within _ c.w) (both (most_ℤ (pos 1) c.w) (no_common_factor (c.x ∷ c.y ∷ c.w ∷ [])))))) (λ h. record { x = h.0; y = h.1.0; w = h.1.1.0; denominator = h.1.1.1.0; lowest = h.1.1.1.1 }) (λ h. (h.x, (h.y, (h.w, (h.denominator, h.lowest)))))
+abbrev pub plane_ratio_in_range : (c : PlaneRatio) → Decision (IsPlaneRatio c)
+plane_ratio_in_range c = like (both (within _ c.x) (both (within _ c.y) (both (within _ c.w) (both (most_ℤ (pos 1) c.w) (no_common_factor (c.x ∷ c.y ∷ c.w ∷ [])))))) (λ h. record { x = h.0; y = h.1.0; w = h.1.1.0; denominator = h.1.1.1.0; lowest = h.1.1.1.1 }) (λ h. (h.x, (h.y, (h.w, (h.denominator, h.lowest)))))
 
-abbrev pub space_ratio_placed : (c : SpaceRatio) → Decision (IsSpaceRatio c)
-space_ratio_placed c = like (both (within _ c.x) (both (within _ c.y) (both (within _ c.z) (both (within _ c.w) (both (most_ℤ (pos 1) c.w) (no_common_factor (c.x ∷ c.y ∷ c.z ∷ c.w ∷ []))))))) (λ h. record { x = h.0; y = h.1.0; z = h.1.1.0; w = h.1.1.1.0; denominator = h.1.1.1.1.0; lowest = h.1.1.1.1.1 }) (λ h. (h.x, (h.y, (h.z, (h.w, (h.denominator, h.lowest))))))
+abbrev pub space_ratio_in_range : (c : SpaceRatio) → Decision (IsSpaceRatio c)
+space_ratio_in_range c = like (both (within _ c.x) (both (within _ c.y) (both (within _ c.z) (both (within _ c.w) (both (most_ℤ (pos 1) c.w) (no_common_factor (c.x ∷ c.y ∷ c.z ∷ c.w ∷ []))))))) (λ h. record { x = h.0; y = h.1.0; z = h.1.1.0; w = h.1.1.1.0; denominator = h.1.1.1.1.0; lowest = h.1.1.1.1.1 }) (λ h. (h.x, (h.y, (h.z, (h.w, (h.denominator, h.lowest))))))

@@ -120,7 +120,7 @@ all {P = P} each xs = record {
   law = Decides-by_and (λ x. (each x).test) P (all_test each) (λ x. (each x).law) refl (λ _ _. refl) xs;
 }
 
--- one more element, with the others a place later
+-- one more element, with the others an index later
 pub numbered-cons : {X : Type 0} (P : ℕ → X → Type 0) (x : X) (xs : List X) → P 0 x → AllNumbered (λ k. P (suc k)) xs → AllNumbered P (x ∷ xs)
 numbered-cons P x xs p ps zero d h = p
 numbered-cons P x xs p ps (suc k) d h = ps k d (omega arith)
@@ -145,7 +145,7 @@ false-not_true e = cc
 abbrev pub impossible : {P : Type 0} → (¬ P) → Decision P
 impossible {P} n = whole false ((λ e. absurd (false-not_true e)), (λ p. absurd (n p)))
 
--- a test for each place and element
+-- a test for each index and element
 abbrev pub all_numbered : {X : Type 0} {P : ℕ → X → Type 0} → ((k : ℕ) (x : X) → Decision (P k x)) → (xs : List X) → Decision (AllNumbered P xs)
 all_numbered {P = P} each [] = sure (numbered-nil P)
 all_numbered {P =
@@ -212,11 +212,11 @@ any-cons P x xs s = elim s [ inl p ↦ (0, x, zero_less _, refl, p) | inr h ↦ 
 
 -- and back
 pub any-uncons : {X : Type 0} (P : X → Type 0) (x : X) (xs : List X) → Any P (x ∷ xs) → P x ⊎ Any P xs
-any-uncons P x xs h = by_place h.0 h.1 h.2 h.3 h.4
+any-uncons P x xs h = by_index h.0 h.1 h.2 h.3 h.4
   where
-    by_place : (k : ℕ) (y : _) → k < length (x ∷ xs) → slice_index_or (x ∷ xs) k y ≡ y → P y → P x ⊎ Any P xs
-    by_place zero y l e p = inl (subst P (sym e) p)
-    by_place (suc k) y l e p = inr (k, y, omega arith, e, p)
+    by_index : (k : ℕ) (y : _) → k < length (x ∷ xs) → slice_index_or (x ∷ xs) k y ≡ y → P y → P x ⊎ Any P xs
+    by_index zero y l e p = inl (subst P (sym e) p)
+    by_index (suc k) y l e p = inr (k, y, omega arith, e, p)
 
 -- a test for some element
 abbrev pub any : {X : Type 0} {P : X → Type 0} → ((x : X) → Decision (P x)) → (xs : List X) → Decision (Any P xs)

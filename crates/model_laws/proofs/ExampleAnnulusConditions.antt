@@ -61,8 +61,8 @@ first_beyond = by_one_failure (annulus_passes four_points (with_pairs (pair 9 2 
 abbrev level : List PlanePoint
 level = at 0 0 ∷ at 1 0 ∷ at 5 0 ∷ []
 
-abbrev upright : List PlanePoint
-upright = at 0 0 ∷ at 0 1 ∷ at 0 5 ∷ []
+abbrev vertical : List PlanePoint
+vertical = at 0 0 ∷ at 0 1 ∷ at 0 5 ∷ []
 
 abbrev balanced : List WeightedPair
 balanced = pair 0 1 4 ∷ pair 2 1 1 ∷ []
@@ -84,8 +84,8 @@ larger_than_size = by_one_failure (annulus_passes level (annulus_with (fraction 
 larger_than_pairs : ¬ PassesAnnulus level (annulus_with (fraction 25 1) (over 0 0 1) (fraction 0 1) (fraction 25 1) balanced)
 larger_than_pairs = by_one_failure (annulus_passes level (annulus_with (fraction 25 1) (over 0 0 1) (fraction 0 1) (fraction 25 1) balanced)) refl refl
 
-unbalanced_y : ¬ PassesAnnulus upright (annulus_with (fraction 4 1) (over 0 5 2) (fraction 9 4) (fraction 25 4) unbalanced)
-unbalanced_y = by_one_failure (annulus_passes upright (annulus_with (fraction 4 1) (over 0 5 2) (fraction 9 4) (fraction 25 4) unbalanced)) refl refl
+unbalanced_y : ¬ PassesAnnulus vertical (annulus_with (fraction 4 1) (over 0 5 2) (fraction 9 4) (fraction 25 4) unbalanced)
+unbalanced_y = by_one_failure (annulus_passes vertical (annulus_with (fraction 4 1) (over 0 5 2) (fraction 9 4) (fraction 25 4) unbalanced)) refl refl
 
 -- ---- one point, and annuli of which each has it on both circles
 

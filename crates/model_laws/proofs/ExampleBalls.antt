@@ -49,7 +49,7 @@ lopsided = with_supports (support 1 2 ∷ support 2 1 ∷ [])
 lopsided_fails : ¬ Passes ask_circle (plane triangle) (circle lopsided)
 lopsided_fails = by_failed_test (passes ask_circle (plane triangle) (circle lopsided)) refl
 
--- a support without weight, once beside the others and once in place of one
+-- a support without weight, once beside the others and once instead of one
 abbrev weightless : CircleAnswer
 weightless = with_supports (support 0 0 ∷ support 1 1 ∷ support 2 1 ∷ [])
 

@@ -40,7 +40,7 @@ unreduced_centre = by_one_failure (centres_passes 2 four_points (record two_squa
 one_uncovered : ¬ PassesCentres 2 four_points (record two_squares { squares = over 1 1 1 ∷ over 10 10 1 ∷ [] })
 one_uncovered = by_one_failure (centres_passes 2 four_points (record two_squares { squares = over 1 1 1 ∷ over 10 10 1 ∷ [] })) refl refl
 
--- a leaf whose first or second point the square in the corner holds
+-- a leaf whose first or second point the square in the corner contains
 first_covered : ¬ PassesCentres 2 four_points (first_leaf (leaf 0 3))
 first_covered = by_one_failure (centres_passes 2 four_points (first_leaf (leaf 0 3))) refl refl
 

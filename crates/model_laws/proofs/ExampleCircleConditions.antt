@@ -2,9 +2,9 @@
 use Rattle.std.proofs.Common.{refl, ◌+◌, ◌^◌, pos, List, [], ◌∷◌}
 use Rattle.bounds_model.specs.Plane.{PlanePoint, PlaneRatio}
 use Rattle.bounds_model.specs.Fractions.{Fraction}
-use Rattle.bounds_model.specs.BallAnswer.{Weighted, CircleAnswer, CirclePlaces, PassesCircle}
+use Rattle.bounds_model.specs.BallAnswer.{Weighted, CircleAnswer, CircleRanges, PassesCircle}
 use Rattle.model_laws.proofs.Decisions.{by_test, by_one_failure}
-use Rattle.model_laws.proofs.DecideBall.{circle_places, circle_passes}
+use Rattle.model_laws.proofs.DecideBall.{circle_ranges, circle_passes}
 use Rattle.model_laws.proofs.ExampleBalls.{triangle, unit_square}
 use Rattle.model_laws.proofs.Literals.{minus, at, over, fraction, support, signed_support}
 
@@ -71,25 +71,25 @@ heaviest = by_test (circle_passes (at 5 6 ∷ []) (circle (fraction 0 1) (over 5
 too_heavy : ¬ PassesCircle (at 5 6 ∷ []) (circle (fraction 0 1) (over 5 6 1) (support 0 (2 ^ 80 + 1) ∷ []))
 too_heavy = by_one_failure (circle_passes (at 5 6 ∷ []) (circle (fraction 0 1) (over 5 6 1) (support 0 (2 ^ 80 + 1) ∷ []))) refl refl
 
--- ---- places
+-- ---- ranges
 
-largest : CirclePlaces (circle (fraction (2 ^ 126) 1) (over (2 ^ 126) 0 1) (signed_support 9999 (pos (2 ^ 126)) ∷ []))
-largest = by_test (circle_places (circle (fraction (2 ^ 126) 1) (over (2 ^ 126) 0 1) (signed_support 9999 (pos (2 ^ 126)) ∷ []))) refl
+largest : CircleRanges (circle (fraction (2 ^ 126) 1) (over (2 ^ 126) 0 1) (signed_support 9999 (pos (2 ^ 126)) ∷ []))
+largest = by_test (circle_ranges (circle (fraction (2 ^ 126) 1) (over (2 ^ 126) 0 1) (signed_support 9999 (pos (2 ^ 126)) ∷ []))) refl
 
-point_past : ¬ CirclePlaces (circle (fraction 1 1) (over 0 0 1) (support 10000 1 ∷ []))
-point_past = by_one_failure (circle_places (circle (fraction 1 1) (over 0 0 1) (support 10000 1 ∷ []))) refl refl
+point_past : ¬ CircleRanges (circle (fraction 1 1) (over 0 0 1) (support 10000 1 ∷ []))
+point_past = by_one_failure (circle_ranges (circle (fraction 1 1) (over 0 0 1) (support 10000 1 ∷ []))) refl refl
 
-weight_past : ¬ CirclePlaces (circle (fraction 1 1) (over 0 0 1) (support 0 (2 ^ 126 + 1) ∷ []))
-weight_past = by_one_failure (circle_places (circle (fraction 1 1) (over 0 0 1) (support 0 (2 ^ 126 + 1) ∷ []))) refl refl
+weight_past : ¬ CircleRanges (circle (fraction 1 1) (over 0 0 1) (support 0 (2 ^ 126 + 1) ∷ []))
+weight_past = by_one_failure (circle_ranges (circle (fraction 1 1) (over 0 0 1) (support 0 (2 ^ 126 + 1) ∷ []))) refl refl
 
-negative_weight : ¬ CirclePlaces (circle (fraction 1 1) (over 0 0 1) (signed_support 0 (minus 1) ∷ []))
-negative_weight = by_one_failure (circle_places (circle (fraction 1 1) (over 0 0 1) (signed_support 0 (minus 1) ∷ []))) refl refl
+negative_weight : ¬ CircleRanges (circle (fraction 1 1) (over 0 0 1) (signed_support 0 (minus 1) ∷ []))
+negative_weight = by_one_failure (circle_ranges (circle (fraction 1 1) (over 0 0 1) (signed_support 0 (minus 1) ∷ []))) refl refl
 
-size_past : ¬ CirclePlaces (circle (fraction (2 ^ 126 + 1) 1) (over 0 0 1) (support 0 1 ∷ []))
-size_past = by_one_failure (circle_places (circle (fraction (2 ^ 126 + 1) 1) (over 0 0 1) (support 0 1 ∷ []))) refl refl
+size_past : ¬ CircleRanges (circle (fraction (2 ^ 126 + 1) 1) (over 0 0 1) (support 0 1 ∷ []))
+size_past = by_one_failure (circle_ranges (circle (fraction (2 ^ 126 + 1) 1) (over 0 0 1) (support 0 1 ∷ []))) refl refl
 
-centre_past : ¬ CirclePlaces (circle (fraction 1 1) (over (2 ^ 126 + 1) 0 1) (support 0 1 ∷ []))
-centre_past = by_one_failure (circle_places (circle (fraction 1 1) (over (2 ^ 126 + 1) 0 1) (support 0 1 ∷ []))) refl refl
+centre_past : ¬ CircleRanges (circle (fraction 1 1) (over (2 ^ 126 + 1) 0 1) (support 0 1 ∷ []))
+centre_past = by_one_failure (circle_ranges (circle (fraction 1 1) (over (2 ^ 126 + 1) 0 1) (support 0 1 ∷ []))) refl refl
 
-no_places : ¬ CirclePlaces (circle (fraction 1 1) (over 0 0 1) [])
-no_places = by_one_failure (circle_places (circle (fraction 1 1) (over 0 0 1) [])) refl refl
+no_ranges : ¬ CircleRanges (circle (fraction 1 1) (over 0 0 1) [])
+no_ranges = by_one_failure (circle_ranges (circle (fraction 1 1) (over 0 0 1) [])) refl refl

@@ -93,18 +93,18 @@ ParallelogramFits a = Fits ask_parallelogram (plane triangle) (parallelogram a)
 abbrev parallelogram_test : (a : ParallelogramAnswer) → Decision (ParallelogramFits a)
 parallelogram_test a = fits ask_parallelogram (plane triangle) (parallelogram a)
 
-parallelogram_fits : ParallelogramFits ExampleParallelograms.upright
-parallelogram_fits = by_test (parallelogram_test ExampleParallelograms.upright) refl
+parallelogram_fits : ParallelogramFits ExampleParallelograms.axis_parallel
+parallelogram_fits = by_test (parallelogram_test ExampleParallelograms.axis_parallel) refl
 
-parallelogram_other_size : ¬ ParallelogramFits (record ExampleParallelograms.upright { size = fraction 11 1 })
-parallelogram_other_size = by_one_failure (parallelogram_test (record ExampleParallelograms.upright { size = fraction 11 1 })) refl refl
+parallelogram_other_size : ¬ ParallelogramFits (record ExampleParallelograms.axis_parallel { size = fraction 11 1 })
+parallelogram_other_size = by_one_failure (parallelogram_test (record ExampleParallelograms.axis_parallel { size = fraction 11 1 })) refl refl
 
-parallelogram_unreduced : ¬ ParallelogramFits (record ExampleParallelograms.upright { size = fraction 24 2 })
-parallelogram_unreduced = by_one_failure (parallelogram_test (record ExampleParallelograms.upright { size = fraction 24 2 })) refl refl
+parallelogram_unreduced : ¬ ParallelogramFits (record ExampleParallelograms.axis_parallel { size = fraction 24 2 })
+parallelogram_unreduced = by_one_failure (parallelogram_test (record ExampleParallelograms.axis_parallel { size = fraction 24 2 })) refl refl
 
-parallelogram_too_narrow : ¬ ParallelogramFits (record ExampleParallelograms.upright { size = fraction 9 1; first_bounds = span (pos 0) (pos 3) })
+parallelogram_too_narrow : ¬ ParallelogramFits (record ExampleParallelograms.axis_parallel { size = fraction 9 1; first_bounds = span (pos 0) (pos 3) })
 parallelogram_too_narrow =
-    by_one_failure (parallelogram_test (record ExampleParallelograms.upright { size = fraction 9 1; first_bounds = span (pos 0) (pos 3) })) refl refl
+    by_one_failure (parallelogram_test (record ExampleParallelograms.axis_parallel { size = fraction 9 1; first_bounds = span (pos 0) (pos 3) })) refl refl
 
 abbrev AnnulusFits : AnnulusAnswer → Type 0
 AnnulusFits a = Fits ask_annulus (plane ExampleAnnuli.four_points) (annulus a)

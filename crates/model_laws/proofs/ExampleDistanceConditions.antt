@@ -2,9 +2,9 @@
 use Rattle.std.proofs.Common.{refl, ℕ, ◌+◌, ◌^◌, pos, List, [], ◌∷◌}
 use Rattle.bounds_model.specs.Space.{SpacePoint}
 use Rattle.bounds_model.specs.AnnulusAnswer.{WeightedPair}
-use Rattle.bounds_model.specs.DistanceAnswer.{DistanceAnswer, DistancePlaces, PassesDistance}
+use Rattle.bounds_model.specs.DistanceAnswer.{DistanceAnswer, DistanceRanges, PassesDistance}
 use Rattle.model_laws.proofs.Decisions.{by_test, by_one_failure}
-use Rattle.model_laws.proofs.DecideDistance.{distance_places, distance_passes}
+use Rattle.model_laws.proofs.DecideDistance.{distance_ranges, distance_passes}
 use Rattle.model_laws.proofs.Literals.{minus, in_space, signed_in_space, space_over, fraction, pair}
 
 -- ---- a point and a triangle
@@ -114,34 +114,34 @@ heaviest = by_test (distance_passes corner (in_space 3 0 0 ∷ []) (record to_fi
 too_heavy : ¬ PassesDistance corner (in_space 3 0 0 ∷ []) (record to_first { pairs = pair 0 0 (2 ^ 66 + 1) ∷ [] })
 too_heavy = by_one_failure (distance_passes corner (in_space 3 0 0 ∷ []) (record to_first { pairs = pair 0 0 (2 ^ 66 + 1) ∷ [] })) refl refl
 
--- ---- places
+-- ---- ranges
 
 abbrev past : ℕ
 past = 2 ^ 126 + 1
 
-in_places : DistancePlaces (with_pairs (pair 9999 9999 (2 ^ 126) ∷ []))
-in_places = by_test (distance_places (with_pairs (pair 9999 9999 (2 ^ 126) ∷ []))) refl
+in_ranges : DistanceRanges (with_pairs (pair 9999 9999 (2 ^ 126) ∷ []))
+in_ranges = by_test (distance_ranges (with_pairs (pair 9999 9999 (2 ^ 126) ∷ []))) refl
 
-second_past : ¬ DistancePlaces (with_pairs (pair 0 10000 1 ∷ []))
-second_past = by_one_failure (distance_places (with_pairs (pair 0 10000 1 ∷ []))) refl refl
+second_past : ¬ DistanceRanges (with_pairs (pair 0 10000 1 ∷ []))
+second_past = by_one_failure (distance_ranges (with_pairs (pair 0 10000 1 ∷ []))) refl refl
 
-x_past : ¬ DistancePlaces (record to_middle { direction = in_space past 0 0 })
-x_past = by_one_failure (distance_places (record to_middle { direction = in_space past 0 0 })) refl refl
+x_past : ¬ DistanceRanges (record to_middle { direction = in_space past 0 0 })
+x_past = by_one_failure (distance_ranges (record to_middle { direction = in_space past 0 0 })) refl refl
 
-y_past : ¬ DistancePlaces (record to_middle { direction = in_space 0 past 0 })
-y_past = by_one_failure (distance_places (record to_middle { direction = in_space 0 past 0 })) refl refl
+y_past : ¬ DistanceRanges (record to_middle { direction = in_space 0 past 0 })
+y_past = by_one_failure (distance_ranges (record to_middle { direction = in_space 0 past 0 })) refl refl
 
-z_past : ¬ DistancePlaces (record to_middle { direction = in_space 0 0 past })
-z_past = by_one_failure (distance_places (record to_middle { direction = in_space 0 0 past })) refl refl
+z_past : ¬ DistanceRanges (record to_middle { direction = in_space 0 0 past })
+z_past = by_one_failure (distance_ranges (record to_middle { direction = in_space 0 0 past })) refl refl
 
-size_past : ¬ DistancePlaces (record to_middle { size = fraction past 1 })
-size_past = by_one_failure (distance_places (record to_middle { size = fraction past 1 })) refl refl
+size_past : ¬ DistanceRanges (record to_middle { size = fraction past 1 })
+size_past = by_one_failure (distance_ranges (record to_middle { size = fraction past 1 })) refl refl
 
-from_past : ¬ DistancePlaces (record to_middle { from = space_over past 0 0 1 })
-from_past = by_one_failure (distance_places (record to_middle { from = space_over past 0 0 1 })) refl refl
+from_past : ¬ DistanceRanges (record to_middle { from = space_over past 0 0 1 })
+from_past = by_one_failure (distance_ranges (record to_middle { from = space_over past 0 0 1 })) refl refl
 
-to_past : ¬ DistancePlaces (record to_middle { to = space_over past 0 0 1 })
-to_past = by_one_failure (distance_places (record to_middle { to = space_over past 0 0 1 })) refl refl
+to_past : ¬ DistanceRanges (record to_middle { to = space_over past 0 0 1 })
+to_past = by_one_failure (distance_ranges (record to_middle { to = space_over past 0 0 1 })) refl refl
 
-none_in_places : ¬ DistancePlaces (with_pairs [])
-none_in_places = by_one_failure (distance_places (with_pairs [])) refl refl
+none_in_ranges : ¬ DistanceRanges (with_pairs [])
+none_in_ranges = by_one_failure (distance_ranges (with_pairs [])) refl refl

@@ -1,12 +1,12 @@
--- Empty rectangles outside the frame, in frames without an inside, smaller than another, or with numbers past their places.
+-- Empty rectangles outside the frame, in frames without an inside, smaller than another, or with numbers past their ranges.
 use Rattle.std.proofs.Common.{refl, ℕ, ◌+◌, ◌^◌, pos, List, [], ◌∷◌}
 use Rattle.bounds_model.specs.Plane.{PlanePoint}
 use Rattle.bounds_model.specs.Fractions.{Fraction}
 use Rattle.bounds_model.specs.EmptyRectangle.{Box}
-use Rattle.bounds_model.specs.EmptyAnswer.{EmptyAnswer, EmptyPlaces, PassesEmpty}
+use Rattle.bounds_model.specs.EmptyAnswer.{EmptyAnswer, EmptyRanges, PassesEmpty}
 use Rattle.bounds_model.specs.EmptyAnswer.Blocker.{side, point}
 use Rattle.model_laws.proofs.Decisions.{by_test, by_failed_test, by_one_failure}
-use Rattle.model_laws.proofs.DecideEmpty.{empty_places, empty_passes}
+use Rattle.model_laws.proofs.DecideEmpty.{empty_ranges, empty_passes}
 use Rattle.model_laws.proofs.Literals.{minus, at, left_at, signed_at, fraction, box, signed_box}
 
 -- ---- a box that reaches out of the frame, to a point there
@@ -96,7 +96,7 @@ below_columns : ¬ PassesEmpty (box 0 0 6 4) (at 1 2 ∷ at 5 2 ∷ []) (record 
 below_columns =
     by_failed_test (empty_passes (box 0 0 6 4) (at 1 2 ∷ at 5 2 ∷ []) (record (reaching (fraction 12 1) (box 0 0 6 2)) { top = point 0 })) refl
 
--- ---- places
+-- ---- ranges
 
 abbrev whole : EmptyAnswer
 whole = reaching (fraction 1 1) (box 0 0 1 1)
@@ -104,32 +104,32 @@ whole = reaching (fraction 1 1) (box 0 0 1 1)
 abbrev past : ℕ
 past = 2 ^ 126 + 1
 
-in_places : EmptyPlaces (record whole { left = point 9999; bottom = point 9999; right = point 9999; top = point 9999 })
-in_places = by_test (empty_places (record whole { left = point 9999; bottom = point 9999; right = point 9999; top = point 9999 })) refl
+in_ranges : EmptyRanges (record whole { left = point 9999; bottom = point 9999; right = point 9999; top = point 9999 })
+in_ranges = by_test (empty_ranges (record whole { left = point 9999; bottom = point 9999; right = point 9999; top = point 9999 })) refl
 
-left_past : ¬ EmptyPlaces (record whole { box = box past 0 0 0 })
-left_past = by_one_failure (empty_places (record whole { box = box past 0 0 0 })) refl refl
+left_past : ¬ EmptyRanges (record whole { box = box past 0 0 0 })
+left_past = by_one_failure (empty_ranges (record whole { box = box past 0 0 0 })) refl refl
 
-bottom_past : ¬ EmptyPlaces (record whole { box = box 0 past 0 0 })
-bottom_past = by_one_failure (empty_places (record whole { box = box 0 past 0 0 })) refl refl
+bottom_past : ¬ EmptyRanges (record whole { box = box 0 past 0 0 })
+bottom_past = by_one_failure (empty_ranges (record whole { box = box 0 past 0 0 })) refl refl
 
-right_past : ¬ EmptyPlaces (record whole { box = box 0 0 past 0 })
-right_past = by_one_failure (empty_places (record whole { box = box 0 0 past 0 })) refl refl
+right_past : ¬ EmptyRanges (record whole { box = box 0 0 past 0 })
+right_past = by_one_failure (empty_ranges (record whole { box = box 0 0 past 0 })) refl refl
 
-top_past : ¬ EmptyPlaces (record whole { box = box 0 0 0 past })
-top_past = by_one_failure (empty_places (record whole { box = box 0 0 0 past })) refl refl
+top_past : ¬ EmptyRanges (record whole { box = box 0 0 0 past })
+top_past = by_one_failure (empty_ranges (record whole { box = box 0 0 0 past })) refl refl
 
-left_point_past : ¬ EmptyPlaces (record whole { left = point 10000 })
-left_point_past = by_one_failure (empty_places (record whole { left = point 10000 })) refl refl
+left_point_past : ¬ EmptyRanges (record whole { left = point 10000 })
+left_point_past = by_one_failure (empty_ranges (record whole { left = point 10000 })) refl refl
 
-bottom_point_past : ¬ EmptyPlaces (record whole { bottom = point 10000 })
-bottom_point_past = by_one_failure (empty_places (record whole { bottom = point 10000 })) refl refl
+bottom_point_past : ¬ EmptyRanges (record whole { bottom = point 10000 })
+bottom_point_past = by_one_failure (empty_ranges (record whole { bottom = point 10000 })) refl refl
 
-right_point_past : ¬ EmptyPlaces (record whole { right = point 10000 })
-right_point_past = by_one_failure (empty_places (record whole { right = point 10000 })) refl refl
+right_point_past : ¬ EmptyRanges (record whole { right = point 10000 })
+right_point_past = by_one_failure (empty_ranges (record whole { right = point 10000 })) refl refl
 
-top_point_past : ¬ EmptyPlaces (record whole { top = point 10000 })
-top_point_past = by_one_failure (empty_places (record whole { top = point 10000 })) refl refl
+top_point_past : ¬ EmptyRanges (record whole { top = point 10000 })
+top_point_past = by_one_failure (empty_ranges (record whole { top = point 10000 })) refl refl
 
-size_past : ¬ EmptyPlaces (record whole { size = fraction past 1 })
-size_past = by_one_failure (empty_places (record whole { size = fraction past 1 })) refl refl
+size_past : ¬ EmptyRanges (record whole { size = fraction past 1 })
+size_past = by_one_failure (empty_ranges (record whole { size = fraction past 1 })) refl refl

@@ -29,17 +29,17 @@ lower_half b = record (half_of (signed_box (minus 4) (minus 4) (pos 4) (pos 0)))
 
 -- ---- beside the origin, which holds one side
 
-held_left : PassesEmpty frame (at 0 0 ∷ []) (right_half (point 0))
-held_left = by_test (empty_passes frame (at 0 0 ∷ []) (right_half (point 0))) refl
+contains_left : PassesEmpty frame (at 0 0 ∷ []) (right_half (point 0))
+contains_left = by_test (empty_passes frame (at 0 0 ∷ []) (right_half (point 0))) refl
 
-held_right : PassesEmpty frame (at 0 0 ∷ []) (left_half (point 0))
-held_right = by_test (empty_passes frame (at 0 0 ∷ []) (left_half (point 0))) refl
+contains_right : PassesEmpty frame (at 0 0 ∷ []) (left_half (point 0))
+contains_right = by_test (empty_passes frame (at 0 0 ∷ []) (left_half (point 0))) refl
 
-held_bottom : PassesEmpty frame (at 0 0 ∷ []) (upper_half (point 0))
-held_bottom = by_test (empty_passes frame (at 0 0 ∷ []) (upper_half (point 0))) refl
+contains_bottom : PassesEmpty frame (at 0 0 ∷ []) (upper_half (point 0))
+contains_bottom = by_test (empty_passes frame (at 0 0 ∷ []) (upper_half (point 0))) refl
 
-held_top : PassesEmpty frame (at 0 0 ∷ []) (lower_half (point 0))
-held_top = by_test (empty_passes frame (at 0 0 ∷ []) (lower_half (point 0))) refl
+contains_top : PassesEmpty frame (at 0 0 ∷ []) (lower_half (point 0))
+contains_top = by_test (empty_passes frame (at 0 0 ∷ []) (lower_half (point 0))) refl
 
 -- a number that is no point's, where the point would be the origin
 left_beyond : ¬ PassesEmpty frame (at 0 0 ∷ []) (right_half (point 9))
@@ -81,24 +81,24 @@ not_empty_fails = by_one_failure (empty_passes frame (at 0 0 ∷ []) not_empty) 
 
 -- ---- a blocker is on its side, between the ends of it
 
--- the origin, the two ends of an upright line through it, and a point beside that line
-abbrev upright_line : List PlanePoint
-upright_line = at 0 0 ∷ signed_at (pos 0) (minus 4) ∷ at 0 4 ∷ left_at 1 1 ∷ []
+-- the origin, the two ends of a vertical line through it, and a point beside that line
+abbrev vertical_line : List PlanePoint
+vertical_line = at 0 0 ∷ signed_at (pos 0) (minus 4) ∷ at 0 4 ∷ left_at 1 1 ∷ []
 
 abbrev level_line : List PlanePoint
 level_line = at 0 0 ∷ left_at 4 0 ∷ at 4 0 ∷ signed_at (pos 1) (minus 1) ∷ []
 
-upright_middle : PassesEmpty frame upright_line (right_half (point 0))
-upright_middle = by_test (empty_passes frame upright_line (right_half (point 0))) refl
+vertical_middle : PassesEmpty frame vertical_line (right_half (point 0))
+vertical_middle = by_test (empty_passes frame vertical_line (right_half (point 0))) refl
 
-lower_end : ¬ PassesEmpty frame upright_line (right_half (point 1))
-lower_end = by_one_failure (empty_passes frame upright_line (right_half (point 1))) refl refl
+lower_end : ¬ PassesEmpty frame vertical_line (right_half (point 1))
+lower_end = by_one_failure (empty_passes frame vertical_line (right_half (point 1))) refl refl
 
-upper_end : ¬ PassesEmpty frame upright_line (right_half (point 2))
-upper_end = by_one_failure (empty_passes frame upright_line (right_half (point 2))) refl refl
+upper_end : ¬ PassesEmpty frame vertical_line (right_half (point 2))
+upper_end = by_one_failure (empty_passes frame vertical_line (right_half (point 2))) refl refl
 
-beside_line : ¬ PassesEmpty frame upright_line (right_half (point 3))
-beside_line = by_one_failure (empty_passes frame upright_line (right_half (point 3))) refl refl
+beside_line : ¬ PassesEmpty frame vertical_line (right_half (point 3))
+beside_line = by_one_failure (empty_passes frame vertical_line (right_half (point 3))) refl refl
 
 level_middle : PassesEmpty frame level_line (upper_half (point 0))
 level_middle = by_test (empty_passes frame level_line (upper_half (point 0))) refl

@@ -1,9 +1,9 @@
 -- Polygons that fail in one of the conditions of a checker alone.
 use Rattle.std.proofs.Common.{refl, ℕ, zero, suc, ◌+◌, ◌^◌, pos, List, [], ◌∷◌, map}
 use Rattle.bounds_model.specs.Plane.{PlanePoint}
-use Rattle.bounds_model.specs.KgonAnswer.{KgonAnswer, KgonPlaces, PassesKgon}
+use Rattle.bounds_model.specs.KgonAnswer.{KgonAnswer, KgonRanges, PassesKgon}
 use Rattle.model_laws.proofs.Decisions.{by_test, by_one_failure}
-use Rattle.model_laws.proofs.DecideKgon.{kgon_places, kgon_passes}
+use Rattle.model_laws.proofs.DecideKgon.{kgon_ranges, kgon_passes}
 use Rattle.model_laws.proofs.Literals.{minus, at, fraction}
 
 abbrev square : List PlanePoint
@@ -63,7 +63,7 @@ too_small = by_one_failure (kgon_passes 3 square (with_potentials (0 ∷ 4 ∷ 3
 too_large : ¬ PassesKgon 3 square (with_potentials (0 ∷ 4 ∷ 5 ∷ 0 ∷ 4 ∷ 0 ∷ []))
 too_large = by_one_failure (kgon_passes 3 square (with_potentials (0 ∷ 4 ∷ 5 ∷ 0 ∷ 4 ∷ 0 ∷ []))) refl refl
 
--- ---- two layers: each potential is in its place
+-- ---- two layers: each potential is in its range
 
 abbrev kite : List PlanePoint
 kite = at 0 0 ∷ at 3 0 ∷ at 4 4 ∷ at 0 2 ∷ []
@@ -94,48 +94,48 @@ one_corner = by_test (kgon_passes 3 (at 5 5 ∷ []) (flat_kgon (0 ∷ []) (0 ∷
 corner_twice : ¬ PassesKgon 3 (at 5 5 ∷ []) (flat_kgon (0 ∷ 0 ∷ []) (0 ∷ []))
 corner_twice = by_one_failure (kgon_passes 3 (at 5 5 ∷ []) (flat_kgon (0 ∷ 0 ∷ []) (0 ∷ []))) refl refl
 
--- ---- places
+-- ---- ranges
 
 -- so many corners, each the first point
 abbrev many : ℕ → List ℕ
 many zero = []
 many (suc count) = 0 ∷ many count
 
-most_corners : KgonPlaces (flat_kgon (many 128) (many 12))
-most_corners = by_test (kgon_places (flat_kgon (many 128) (many 12))) refl
+most_corners : KgonRanges (flat_kgon (many 128) (many 12))
+most_corners = by_test (kgon_ranges (flat_kgon (many 128) (many 12))) refl
 
-no_corners : ¬ KgonPlaces (flat_kgon [] (0 ∷ []))
-no_corners = by_one_failure (kgon_places (flat_kgon [] (0 ∷ []))) refl refl
+no_corners : ¬ KgonRanges (flat_kgon [] (0 ∷ []))
+no_corners = by_one_failure (kgon_ranges (flat_kgon [] (0 ∷ []))) refl refl
 
-too_many_corners : ¬ KgonPlaces (flat_kgon (many 129) (0 ∷ []))
-too_many_corners = by_one_failure (kgon_places (flat_kgon (many 129) (0 ∷ []))) refl refl
+too_many_corners : ¬ KgonRanges (flat_kgon (many 129) (0 ∷ []))
+too_many_corners = by_one_failure (kgon_ranges (flat_kgon (many 129) (0 ∷ []))) refl refl
 
-none_chosen : ¬ KgonPlaces (flat_kgon (0 ∷ []) [])
-none_chosen = by_one_failure (kgon_places (flat_kgon (0 ∷ []) [])) refl refl
+none_chosen : ¬ KgonRanges (flat_kgon (0 ∷ []) [])
+none_chosen = by_one_failure (kgon_ranges (flat_kgon (0 ∷ []) [])) refl refl
 
-too_many_chosen : ¬ KgonPlaces (flat_kgon (0 ∷ []) (many 13))
-too_many_chosen = by_one_failure (kgon_places (flat_kgon (0 ∷ []) (many 13))) refl refl
+too_many_chosen : ¬ KgonRanges (flat_kgon (0 ∷ []) (many 13))
+too_many_chosen = by_one_failure (kgon_ranges (flat_kgon (0 ∷ []) (many 13))) refl refl
 
-last_of_all : KgonPlaces (flat_kgon (9999 ∷ []) (127 ∷ []))
-last_of_all = by_test (kgon_places (flat_kgon (9999 ∷ []) (127 ∷ []))) refl
+last_of_all : KgonRanges (flat_kgon (9999 ∷ []) (127 ∷ []))
+last_of_all = by_test (kgon_ranges (flat_kgon (9999 ∷ []) (127 ∷ []))) refl
 
-corner_past : ¬ KgonPlaces (flat_kgon (10000 ∷ []) (0 ∷ []))
-corner_past = by_one_failure (kgon_places (flat_kgon (10000 ∷ []) (0 ∷ []))) refl refl
+corner_past : ¬ KgonRanges (flat_kgon (10000 ∷ []) (0 ∷ []))
+corner_past = by_one_failure (kgon_ranges (flat_kgon (10000 ∷ []) (0 ∷ []))) refl refl
 
-chosen_past : ¬ KgonPlaces (flat_kgon (0 ∷ []) (128 ∷ []))
-chosen_past = by_one_failure (kgon_places (flat_kgon (0 ∷ []) (128 ∷ []))) refl refl
+chosen_past : ¬ KgonRanges (flat_kgon (0 ∷ []) (128 ∷ []))
+chosen_past = by_one_failure (kgon_ranges (flat_kgon (0 ∷ []) (128 ∷ []))) refl refl
 
-most_layers : KgonPlaces (record (flat_kgon (0 ∷ []) (0 ∷ [])) { layers = 10 })
-most_layers = by_test (kgon_places (record (flat_kgon (0 ∷ []) (0 ∷ [])) { layers = 10 })) refl
+most_layers : KgonRanges (record (flat_kgon (0 ∷ []) (0 ∷ [])) { layers = 10 })
+most_layers = by_test (kgon_ranges (record (flat_kgon (0 ∷ []) (0 ∷ [])) { layers = 10 })) refl
 
-layers_past : ¬ KgonPlaces (record (flat_kgon (0 ∷ []) (0 ∷ [])) { layers = 11 })
-layers_past = by_one_failure (kgon_places (record (flat_kgon (0 ∷ []) (0 ∷ [])) { layers = 11 })) refl refl
+layers_past : ¬ KgonRanges (record (flat_kgon (0 ∷ []) (0 ∷ [])) { layers = 11 })
+layers_past = by_one_failure (kgon_ranges (record (flat_kgon (0 ∷ []) (0 ∷ [])) { layers = 11 })) refl refl
 
-one_potential : ¬ KgonPlaces (record (flat_kgon (0 ∷ []) (0 ∷ [])) { potentials = pos 0 ∷ [] })
-one_potential = by_one_failure (kgon_places (record (flat_kgon (0 ∷ []) (0 ∷ [])) { potentials = pos 0 ∷ [] })) refl refl
+one_potential : ¬ KgonRanges (record (flat_kgon (0 ∷ []) (0 ∷ [])) { potentials = pos 0 ∷ [] })
+one_potential = by_one_failure (kgon_ranges (record (flat_kgon (0 ∷ []) (0 ∷ [])) { potentials = pos 0 ∷ [] })) refl refl
 
-negative_potential : ¬ KgonPlaces (record half { potentials = minus 1 ∷ map pos (4 ∷ 4 ∷ 0 ∷ 4 ∷ 0 ∷ []) })
-negative_potential = by_one_failure (kgon_places (record half { potentials = minus 1 ∷ map pos (4 ∷ 4 ∷ 0 ∷ 4 ∷ 0 ∷ []) })) refl refl
+negative_potential : ¬ KgonRanges (record half { potentials = minus 1 ∷ map pos (4 ∷ 4 ∷ 0 ∷ 4 ∷ 0 ∷ []) })
+negative_potential = by_one_failure (kgon_ranges (record half { potentials = minus 1 ∷ map pos (4 ∷ 4 ∷ 0 ∷ 4 ∷ 0 ∷ []) })) refl refl
 
-size_past : ¬ KgonPlaces (record half { size = fraction (2 ^ 126 + 1) 1 })
-size_past = by_one_failure (kgon_places (record half { size = fraction (2 ^ 126 + 1) 1 })) refl refl
+size_past : ¬ KgonRanges (record half { size = fraction (2 ^ 126 + 1) 1 })
+size_past = by_one_failure (kgon_ranges (record half { size = fraction (2 ^ 126 + 1) 1 })) refl refl

@@ -55,7 +55,7 @@ three_corners = record half { corners = 0 ∷ 1 ∷ 2 ∷ []; potentials = map p
 three_corners_fails : ¬ Passes (ask_kgon 3) (plane square) (kgon three_corners)
 three_corners_fails = by_one_failure (passes (ask_kgon 3) (plane square) (kgon three_corners)) refl refl
 
--- ---- all four corners, over two layers: the place of each potential in the list matters
+-- ---- all four corners, over two layers: the index of each potential in the list matters
 
 abbrev with_layers : List ℕ → KgonAnswer
 with_layers potentials = record { size = fraction 4 1; corners = 0 ∷ 1 ∷ 2 ∷ 3 ∷ []; chosen = 0 ∷ 1 ∷ 2 ∷ 3 ∷ []; layers = 2; potentials = map pos potentials }

@@ -1,9 +1,9 @@
--- Leaves of three squares, in the order of their corners, and the places of leaves.
+-- Leaves of three squares, in the order of their corners, and the ranges of leaves.
 use Rattle.std.proofs.Common.{◌≡◌, refl, ℕ, zero, suc, pos, List, [], ◌∷◌, ◌++◌}
 use Rattle.bounds_model.specs.Plane.{PlanePoint}
-use Rattle.bounds_model.specs.CentresAnswer.{Leaf, CentresAnswer, CentresPlaces, PassesCentres, digits, side, corner_square}
+use Rattle.bounds_model.specs.CentresAnswer.{Leaf, CentresAnswer, CentresRanges, PassesCentres, digits, side, corner_square}
 use Rattle.model_laws.proofs.Decisions.{by_test, by_one_failure}
-use Rattle.model_laws.proofs.DecideCentres.{centres_places, centres_passes}
+use Rattle.model_laws.proofs.DecideCentres.{centres_ranges, centres_passes}
 use Rattle.model_laws.proofs.Literals.{at, over, fraction, leaf}
 
 abbrev five_points : List PlanePoint
@@ -63,37 +63,37 @@ right_first = three_squares (from_lower_right ++ from_lower_left ++ from_upper_l
 right_first_fails : ¬ PassesCentres 3 five_points right_first
 right_first_fails = by_one_failure (centres_passes 3 five_points right_first) refl refl
 
--- ---- places
+-- ---- ranges
 
 -- so many leaves
 abbrev many : ℕ → List Leaf
 many zero = []
 many (suc count) = leaf 9999 9999 ∷ many count
 
-most_leaves : CentresPlaces (three_squares (many 16))
-most_leaves = by_test (centres_places (three_squares (many 16))) refl
+most_leaves : CentresRanges (three_squares (many 16))
+most_leaves = by_test (centres_ranges (three_squares (many 16))) refl
 
-no_leaves : CentresPlaces (three_squares [])
-no_leaves = by_test (centres_places (three_squares [])) refl
+no_leaves : CentresRanges (three_squares [])
+no_leaves = by_test (centres_ranges (three_squares [])) refl
 
-too_many_leaves : ¬ CentresPlaces (three_squares (many 17))
-too_many_leaves = by_one_failure (centres_places (three_squares (many 17))) refl refl
+too_many_leaves : ¬ CentresRanges (three_squares (many 17))
+too_many_leaves = by_one_failure (centres_ranges (three_squares (many 17))) refl refl
 
-first_past : ¬ CentresPlaces (three_squares (leaf 10000 0 ∷ []))
-first_past = by_one_failure (centres_places (three_squares (leaf 10000 0 ∷ []))) refl refl
+first_past : ¬ CentresRanges (three_squares (leaf 10000 0 ∷ []))
+first_past = by_one_failure (centres_ranges (three_squares (leaf 10000 0 ∷ []))) refl refl
 
-second_past : ¬ CentresPlaces (three_squares (leaf 0 10000 ∷ []))
-second_past = by_one_failure (centres_places (three_squares (leaf 0 10000 ∷ []))) refl refl
+second_past : ¬ CentresRanges (three_squares (leaf 0 10000 ∷ []))
+second_past = by_one_failure (centres_ranges (three_squares (leaf 0 10000 ∷ []))) refl refl
 
-no_squares : ¬ CentresPlaces (record (three_squares []) { squares = [] })
-no_squares = by_one_failure (centres_places (record (three_squares []) { squares = [] })) refl refl
+no_squares : ¬ CentresRanges (record (three_squares []) { squares = [] })
+no_squares = by_one_failure (centres_ranges (record (three_squares []) { squares = [] })) refl refl
 
-four_squares : ¬ CentresPlaces (record (three_squares []) { squares = over 0 0 1 ∷ over 0 0 1 ∷ over 0 0 1 ∷ over 0 0 1 ∷ [] })
+four_squares : ¬ CentresRanges (record (three_squares []) { squares = over 0 0 1 ∷ over 0 0 1 ∷ over 0 0 1 ∷ over 0 0 1 ∷ [] })
 four_squares =
-    by_one_failure (centres_places (record (three_squares []) { squares = over 0 0 1 ∷ over 0 0 1 ∷ over 0 0 1 ∷ over 0 0 1 ∷ [] })) refl refl
+    by_one_failure (centres_ranges (record (three_squares []) { squares = over 0 0 1 ∷ over 0 0 1 ∷ over 0 0 1 ∷ over 0 0 1 ∷ [] })) refl refl
 
-size_unreduced : ¬ CentresPlaces (record (three_squares []) { size = fraction 4 2 })
-size_unreduced = by_one_failure (centres_places (record (three_squares []) { size = fraction 4 2 })) refl refl
+size_unreduced : ¬ CentresRanges (record (three_squares []) { size = fraction 4 2 })
+size_unreduced = by_one_failure (centres_ranges (record (three_squares []) { size = fraction 4 2 })) refl refl
 
-square_unreduced : ¬ CentresPlaces (record (three_squares []) { squares = over 2 2 2 ∷ [] })
-square_unreduced = by_one_failure (centres_places (record (three_squares []) { squares = over 2 2 2 ∷ [] })) refl refl
+square_unreduced : ¬ CentresRanges (record (three_squares []) { squares = over 2 2 2 ∷ [] })
+square_unreduced = by_one_failure (centres_ranges (record (three_squares []) { squares = over 2 2 2 ∷ [] })) refl refl

@@ -1,11 +1,11 @@
--- Ranges, fractions and places of numbers: at each limit, and one past it.
+-- Ranges, fractions and ranges of numbers: at each limit, and one past it.
 use Rattle.std.proofs.Common.{refl, ℕ, ◌+◌, ◌^◌, pos, [], ◌∷◌}
 use Rattle.bounds_model.specs.Numbers.{IsWithin, HasCount}
 use Rattle.bounds_model.specs.Fractions.{SameValue, HaveNoCommonFactor, IsNotNegative, IsLowest}
-use Rattle.bounds_model.specs.Places.{IsNatural, IsPair, IsSpan, IsFraction, IsPlaneRatio}
+use Rattle.bounds_model.specs.Ranges.{IsNatural, IsDirection, IsSpan, IsFraction, IsPlaneRatio}
 use Rattle.model_laws.proofs.Decisions.{by_test, by_one_failure}
 use Rattle.model_laws.proofs.CommonFactors.{no_common_factor}
-use Rattle.model_laws.proofs.DecideParts.{within, counted, natural, same_value, pair_placed, span_placed, not_negative, lowest, fraction_placed, plane_ratio_placed}
+use Rattle.model_laws.proofs.DecideParts.{within, counted, natural, same_value, direction_in_range, span_in_range, not_negative, lowest, fraction_in_range, plane_ratio_in_range}
 use Rattle.model_laws.proofs.Literals.{minus, at, over, fraction, span, signed_at, signed_over, signed_fraction}
 
 -- ---- ranges and counts
@@ -67,7 +67,7 @@ two_quarters = by_one_failure (lowest (fraction 2 4)) refl refl
 negative_lowest : ¬ IsLowest (signed_fraction (minus 1) (pos 2))
 negative_lowest = by_one_failure (lowest (signed_fraction (minus 1) (pos 2))) refl refl
 
--- ---- places of numbers
+-- ---- ranges of numbers
 
 -- the greatest number of an answer, and the first that is too great
 abbrev largest : ℕ
@@ -88,53 +88,53 @@ negative_natural = by_one_failure (natural (minus 1)) refl refl
 past_natural : ¬ IsNatural (pos past)
 past_natural = by_one_failure (natural (pos past)) refl refl
 
-largest_pair : IsPair (signed_at (pos largest) (minus largest))
-largest_pair = by_test (pair_placed (signed_at (pos largest) (minus largest))) refl
+largest_direction : IsDirection (signed_at (pos largest) (minus largest))
+largest_direction = by_test (direction_in_range (signed_at (pos largest) (minus largest))) refl
 
-past_x : ¬ IsPair (at past 0)
-past_x = by_one_failure (pair_placed (at past 0)) refl refl
+past_x : ¬ IsDirection (at past 0)
+past_x = by_one_failure (direction_in_range (at past 0)) refl refl
 
-past_y : ¬ IsPair (signed_at (pos 0) (minus past))
-past_y = by_one_failure (pair_placed (signed_at (pos 0) (minus past))) refl refl
+past_y : ¬ IsDirection (signed_at (pos 0) (minus past))
+past_y = by_one_failure (direction_in_range (signed_at (pos 0) (minus past))) refl refl
 
 largest_span : IsSpan (span (minus largest) (pos largest))
-largest_span = by_test (span_placed (span (minus largest) (pos largest))) refl
+largest_span = by_test (span_in_range (span (minus largest) (pos largest))) refl
 
 past_low : ¬ IsSpan (span (minus past) (pos 0))
-past_low = by_one_failure (span_placed (span (minus past) (pos 0))) refl refl
+past_low = by_one_failure (span_in_range (span (minus past) (pos 0))) refl refl
 
 past_high : ¬ IsSpan (span (pos 0) (pos past))
-past_high = by_one_failure (span_placed (span (pos 0) (pos past))) refl refl
+past_high = by_one_failure (span_in_range (span (pos 0) (pos past))) refl refl
 
 largest_numerator : IsFraction (fraction largest 1)
-largest_numerator = by_test (fraction_placed (fraction largest 1)) refl
+largest_numerator = by_test (fraction_in_range (fraction largest 1)) refl
 
 largest_denominator : IsFraction (fraction 1 largest)
-largest_denominator = by_test (fraction_placed (fraction 1 largest)) refl
+largest_denominator = by_test (fraction_in_range (fraction 1 largest)) refl
 
 past_numerator : ¬ IsFraction (fraction past 1)
-past_numerator = by_one_failure (fraction_placed (fraction past 1)) refl refl
+past_numerator = by_one_failure (fraction_in_range (fraction past 1)) refl refl
 
 past_denominator : ¬ IsFraction (fraction 1 past)
-past_denominator = by_one_failure (fraction_placed (fraction 1 past)) refl refl
+past_denominator = by_one_failure (fraction_in_range (fraction 1 past)) refl refl
 
 reducible : ¬ IsFraction (fraction 2 4)
-reducible = by_one_failure (fraction_placed (fraction 2 4)) refl refl
+reducible = by_one_failure (fraction_in_range (fraction 2 4)) refl refl
 
 largest_ratio : IsPlaneRatio (signed_over (pos largest) (minus largest) (pos 1))
-largest_ratio = by_test (plane_ratio_placed (signed_over (pos largest) (minus largest) (pos 1))) refl
+largest_ratio = by_test (plane_ratio_in_range (signed_over (pos largest) (minus largest) (pos 1))) refl
 
 past_ratio_x : ¬ IsPlaneRatio (over past 0 1)
-past_ratio_x = by_one_failure (plane_ratio_placed (over past 0 1)) refl refl
+past_ratio_x = by_one_failure (plane_ratio_in_range (over past 0 1)) refl refl
 
 past_ratio_y : ¬ IsPlaneRatio (signed_over (pos 0) (minus past) (pos 1))
-past_ratio_y = by_one_failure (plane_ratio_placed (signed_over (pos 0) (minus past) (pos 1))) refl refl
+past_ratio_y = by_one_failure (plane_ratio_in_range (signed_over (pos 0) (minus past) (pos 1))) refl refl
 
 past_ratio_w : ¬ IsPlaneRatio (over 1 0 past)
-past_ratio_w = by_one_failure (plane_ratio_placed (over 1 0 past)) refl refl
+past_ratio_w = by_one_failure (plane_ratio_in_range (over 1 0 past)) refl refl
 
 ratio_over_zero : ¬ IsPlaneRatio (over 1 0 0)
-ratio_over_zero = by_one_failure (plane_ratio_placed (over 1 0 0)) refl refl
+ratio_over_zero = by_one_failure (plane_ratio_in_range (over 1 0 0)) refl refl
 
 reducible_ratio : ¬ IsPlaneRatio (over 2 4 2)
-reducible_ratio = by_one_failure (plane_ratio_placed (over 2 4 2)) refl refl
+reducible_ratio = by_one_failure (plane_ratio_in_range (over 2 4 2)) refl refl

@@ -12,8 +12,8 @@ use Rattle.model_laws.proofs.Literals.{minus, at, left_at, fraction, span, half_
 
 -- ---- around a triangle with a right angle
 
-abbrev upright : Fraction → Span → Span → Chord → Chord → ParallelogramAnswer
-upright size first_bounds second_bounds first last =
+abbrev axis_parallel : Fraction → Span → Span → Chord → Chord → ParallelogramAnswer
+axis_parallel size first_bounds second_bounds first last =
     slanted size (at 1 0) first_bounds (at 0 1) second_bounds (half_cone 1 0 1 0 ∷ half_cone 3 4 2 0 ∷ half_cone 0 1 2 1 ∷ [])
     (first ∷ chord 1 2 2 1 0 (pos 1) ∷ chord 0 1 1 1 0 (minus 4) ∷ last ∷ [])
 
@@ -25,7 +25,7 @@ last_chord = chord 0 2 2 1 0 (minus 3)
 
 -- the same with other chords at its ends
 abbrev with_chords : Chord → Chord → ParallelogramAnswer
-with_chords = upright (fraction 12 1) (span (pos 0) (pos 4)) (span (pos 0) (pos 3))
+with_chords = axis_parallel (fraction 12 1) (span (pos 0) (pos 4)) (span (pos 0) (pos 3))
 
 smallest : PassesParallelogram triangle (with_chords first_chord last_chord)
 smallest = by_test (parallelogram_passes triangle (with_chords first_chord last_chord)) refl
@@ -37,25 +37,25 @@ by_both : PassesParallelogram triangle (with_chords (chord 0 2 2 1 1 (pos 6)) la
 by_both = by_test (parallelogram_passes triangle (with_chords (chord 0 2 2 1 1 (pos 6)) last_chord)) refl
 
 abbrev unreduced : ParallelogramAnswer
-unreduced = upright (fraction 24 2) (span (pos 0) (pos 4)) (span (pos 0) (pos 3)) first_chord last_chord
+unreduced = axis_parallel (fraction 24 2) (span (pos 0) (pos 4)) (span (pos 0) (pos 3)) first_chord last_chord
 
 unreduced_fails : ¬ PassesParallelogram triangle unreduced
 unreduced_fails = by_one_failure (parallelogram_passes triangle unreduced) refl refl
 
 abbrev other_size : ParallelogramAnswer
-other_size = upright (fraction 11 1) (span (pos 0) (pos 4)) (span (pos 0) (pos 3)) first_chord last_chord
+other_size = axis_parallel (fraction 11 1) (span (pos 0) (pos 4)) (span (pos 0) (pos 3)) first_chord last_chord
 
 other_size_fails : ¬ PassesParallelogram triangle other_size
 other_size_fails = by_one_failure (parallelogram_passes triangle other_size) refl refl
 
 abbrev first_too_short : ParallelogramAnswer
-first_too_short = upright (fraction 9 1) (span (pos 0) (pos 3)) (span (pos 0) (pos 3)) first_chord last_chord
+first_too_short = axis_parallel (fraction 9 1) (span (pos 0) (pos 3)) (span (pos 0) (pos 3)) first_chord last_chord
 
 first_too_short_fails : ¬ PassesParallelogram triangle first_too_short
 first_too_short_fails = by_one_failure (parallelogram_passes triangle first_too_short) refl refl
 
 abbrev second_too_short : ParallelogramAnswer
-second_too_short = upright (fraction 8 1) (span (pos 0) (pos 4)) (span (pos 0) (pos 2)) first_chord last_chord
+second_too_short = axis_parallel (fraction 8 1) (span (pos 0) (pos 4)) (span (pos 0) (pos 2)) first_chord last_chord
 
 second_too_short_fails : ¬ PassesParallelogram triangle second_too_short
 second_too_short_fails = by_one_failure (parallelogram_passes triangle second_too_short) refl refl
@@ -88,7 +88,7 @@ even = at 0 0 ∷ at 4 0 ∷ at 2 3 ∷ []
 abbrev even_cones : List HalfCone
 even_cones = half_cone 1 0 1 0 ∷ half_cone 3 2 2 0 ∷ half_cone 0 1 2 1 ∷ record { direction = left_at 3 2; high = 0; low = 1 } ∷ []
 
--- the chord upright from the third corner, with these weights
+-- the vertical chord from the third corner, with these weights
 abbrev to_middle : ℕ → ℕ → ParallelogramAnswer
 to_middle beta gamma =
     slanted (fraction 12 1) (at 0 1) (span (pos 0) (pos 3)) (at 3 2) (span (pos 0) (pos 12)) even_cones

@@ -10,7 +10,7 @@ use Rattle.model_laws.proofs.DecideAnswers.{passes}
 use Rattle.model_laws.proofs.ExampleBalls.{triangle}
 use Rattle.model_laws.proofs.Literals.{minus, at, left_at, fraction, span, half_cone, chord}
 
--- the upright parallelogram around the triangle with these chords
+-- the axis-parallel parallelogram around the triangle with these chords
 abbrev with_chords : List Chord → ParallelogramAnswer
 with_chords chords = record {
   size = fraction 12 1;
@@ -26,11 +26,11 @@ with_chords chords = record {
 abbrev first_three : List Chord → List Chord
 first_three rest = chord 0 2 2 1 0 (pos 3) ∷ chord 1 2 2 1 0 (pos 1) ∷ chord 0 1 1 1 0 (minus 4) ∷ rest
 
-abbrev pub upright : ParallelogramAnswer
-upright = with_chords (first_three (chord 0 2 2 1 0 (minus 3) ∷ []))
+abbrev pub axis_parallel : ParallelogramAnswer
+axis_parallel = with_chords (first_three (chord 0 2 2 1 0 (minus 3) ∷ []))
 
-upright_passes : Passes ask_parallelogram (plane triangle) (parallelogram upright)
-upright_passes = by_test (passes ask_parallelogram (plane triangle) (parallelogram upright)) refl
+axis_parallel_passes : Passes ask_parallelogram (plane triangle) (parallelogram axis_parallel)
+axis_parallel_passes = by_test (passes ask_parallelogram (plane triangle) (parallelogram axis_parallel)) refl
 
 -- the last chord turned round, or left out
 abbrev turned : ParallelogramAnswer
@@ -61,7 +61,7 @@ short_chord_fails = by_one_failure (passes ask_parallelogram (plane triangle) (p
 
 -- a parallelogram with room to spare
 abbrev roomy : ParallelogramAnswer
-roomy = record upright { size = fraction 15 1; first_bounds = span (pos 0) (pos 5) }
+roomy = record axis_parallel { size = fraction 15 1; first_bounds = span (pos 0) (pos 5) }
 
 roomy_fails : ¬ Passes ask_parallelogram (plane triangle) (parallelogram roomy)
 roomy_fails = by_one_failure (passes ask_parallelogram (plane triangle) (parallelogram roomy)) refl refl

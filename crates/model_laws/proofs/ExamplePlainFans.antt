@@ -1,9 +1,9 @@
 -- Fans that are plain, and some that fail in one condition alone.
 use Rattle.std.proofs.Common.{refl, pos, [], ◌∷◌}
 use Rattle.bounds_model.specs.Fans.{half_directions, quarter_directions}
-use Rattle.bounds_model.specs.PlainFans.{IsUpright, IsUprightOrAlong, IsPlainHalf, IsPlainQuarter}
+use Rattle.bounds_model.specs.PlainFans.{IsNormal, IsNormalOrParallel, IsPlainHalf, IsPlainQuarter}
 use Rattle.model_laws.proofs.Decisions.{by_test, by_failed_test, by_one_failure}
-use Rattle.model_laws.proofs.DecidePlain.{upright, upright_or_along, plain_half, plain_quarter}
+use Rattle.model_laws.proofs.DecidePlain.{is_normal, normal_or_parallel, plain_half, plain_quarter}
 use Rattle.model_laws.proofs.Literals.{minus, at, left_at, signed_at}
 use Rattle.model_laws.proofs.ExampleBalls.{triangle}
 use Rattle.model_laws.proofs.ExampleStrips.{along_longest}
@@ -11,26 +11,26 @@ use Rattle.model_laws.proofs.ExampleRectangles.{diamond, slanted}
 
 -- ---- directions at right angles to an edge, or along it
 
-upwards : IsUpright (at 4 0) (at 0 1)
-upwards = by_test (upright (at 4 0) (at 0 1)) refl
+upwards : IsNormal (at 4 0) (at 0 1)
+upwards = by_test (is_normal (at 4 0) (at 0 1)) refl
 
-slanting : ¬ IsUpright (at 4 0) (at 1 1)
-slanting = by_one_failure (upright (at 4 0) (at 1 1)) refl refl
+slanting : ¬ IsNormal (at 4 0) (at 1 1)
+slanting = by_one_failure (is_normal (at 4 0) (at 1 1)) refl refl
 
-no_length : ¬ IsUpright (at 0 0) (at 0 1)
-no_length = by_one_failure (upright (at 0 0) (at 0 1)) refl refl
+no_length : ¬ IsNormal (at 0 0) (at 0 1)
+no_length = by_one_failure (is_normal (at 0 0) (at 0 1)) refl refl
 
-upwards_too : IsUprightOrAlong (at 4 0) (at 0 1)
-upwards_too = by_test (upright_or_along (at 4 0) (at 0 1)) refl
+upwards_too : IsNormalOrParallel (at 4 0) (at 0 1)
+upwards_too = by_test (normal_or_parallel (at 4 0) (at 0 1)) refl
 
-along : IsUprightOrAlong (at 4 0) (at 1 0)
-along = by_test (upright_or_along (at 4 0) (at 1 0)) refl
+along : IsNormalOrParallel (at 4 0) (at 1 0)
+along = by_test (normal_or_parallel (at 4 0) (at 1 0)) refl
 
-slanting_still : ¬ IsUprightOrAlong (at 4 0) (at 1 1)
-slanting_still = by_one_failure (upright_or_along (at 4 0) (at 1 1)) refl refl
+slanting_still : ¬ IsNormalOrParallel (at 4 0) (at 1 1)
+slanting_still = by_one_failure (normal_or_parallel (at 4 0) (at 1 1)) refl refl
 
-no_length_still : ¬ IsUprightOrAlong (at 0 0) (at 0 1)
-no_length_still = by_one_failure (upright_or_along (at 0 0) (at 0 1)) refl refl
+no_length_still : ¬ IsNormalOrParallel (at 0 0) (at 0 1)
+no_length_still = by_one_failure (normal_or_parallel (at 0 0) (at 0 1)) refl refl
 
 -- ---- over half a turn, for a triangle
 
@@ -69,8 +69,8 @@ two_corners = by_test (plain_half (at 0 0 ∷ at 4 3 ∷ []) (at 1 0 ∷ at 0 1 
 without_normal : ¬ IsPlainHalf (at 0 0 ∷ at 4 3 ∷ []) (at 1 0 ∷ at 0 1 ∷ left_at 1 0 ∷ [])
 without_normal = by_one_failure (plain_half (at 0 0 ∷ at 4 3 ∷ []) (at 1 0 ∷ at 0 1 ∷ left_at 1 0 ∷ [])) refl refl
 
-upright_line : IsPlainHalf (at 0 0 ∷ at 0 3 ∷ []) (at 1 0 ∷ at 0 1 ∷ left_at 1 0 ∷ [])
-upright_line = by_test (plain_half (at 0 0 ∷ at 0 3 ∷ []) (at 1 0 ∷ at 0 1 ∷ left_at 1 0 ∷ [])) refl
+vertical_line : IsPlainHalf (at 0 0 ∷ at 0 3 ∷ []) (at 1 0 ∷ at 0 1 ∷ left_at 1 0 ∷ [])
+vertical_line = by_test (plain_half (at 0 0 ∷ at 0 3 ∷ []) (at 1 0 ∷ at 0 1 ∷ left_at 1 0 ∷ [])) refl
 
 -- the upward direction is there, though no edge calls for it
 without_up : ¬ IsPlainHalf (at 0 0 ∷ at 4 3 ∷ []) (at 1 0 ∷ left_at 3 4 ∷ left_at 1 0 ∷ [])
@@ -123,8 +123,8 @@ beside_line = by_test (plain_quarter (at 0 4 ∷ at 3 0 ∷ []) (at 1 0 ∷ at 4
 without_line : ¬ IsPlainQuarter (at 0 0 ∷ at 4 3 ∷ []) (at 1 0 ∷ at 0 1 ∷ [])
 without_line = by_one_failure (plain_quarter (at 0 0 ∷ at 4 3 ∷ []) (at 1 0 ∷ at 0 1 ∷ [])) refl refl
 
-quarter_of_upright : IsPlainQuarter (at 0 0 ∷ at 0 3 ∷ []) (at 1 0 ∷ at 0 1 ∷ [])
-quarter_of_upright = by_test (plain_quarter (at 0 0 ∷ at 0 3 ∷ []) (at 1 0 ∷ at 0 1 ∷ [])) refl
+quarter_of_vertical : IsPlainQuarter (at 0 0 ∷ at 0 3 ∷ []) (at 1 0 ∷ at 0 1 ∷ [])
+quarter_of_vertical = by_test (plain_quarter (at 0 0 ∷ at 0 3 ∷ []) (at 1 0 ∷ at 0 1 ∷ [])) refl
 
 quarter_of_one : IsPlainQuarter (at 5 5 ∷ []) (at 1 0 ∷ at 0 1 ∷ [])
 quarter_of_one = by_test (plain_quarter (at 5 5 ∷ []) (at 1 0 ∷ at 0 1 ∷ [])) refl

@@ -2,9 +2,9 @@
 use Rattle.std.proofs.Common.{refl, ℕ, ◌+◌, ◌^◌, pos, List, [], ◌∷◌}
 use Rattle.bounds_model.specs.Plane.{PlanePoint, IsBefore, IsLeastPoint, IsGreatestPoint, IsInPlane}
 use Rattle.bounds_model.specs.Space.{SamePlace, IsInSpace}
-use Rattle.bounds_model.specs.Places.{IsSpaceRatio}
+use Rattle.bounds_model.specs.Ranges.{IsSpaceRatio}
 use Rattle.model_laws.proofs.Decisions.{by_test, by_failed_test, by_one_failure}
-use Rattle.model_laws.proofs.DecideParts.{same_place, space_ratio_placed}
+use Rattle.model_laws.proofs.DecideParts.{same_place, space_ratio_in_range}
 use Rattle.model_laws.proofs.DecideKgon.{before, least_point, greatest_point}
 use Rattle.model_laws.proofs.DecideFits.{is_in_plane, is_in_space}
 use Rattle.model_laws.proofs.Literals.{minus, at, left_at, in_space, space_over, signed_at, signed_in_space, signed_space_over}
@@ -94,22 +94,22 @@ abbrev past : ℕ
 past = largest + 1
 
 largest_ratio : IsSpaceRatio (signed_space_over (pos largest) (minus largest) (pos largest) (pos 1))
-largest_ratio = by_test (space_ratio_placed (signed_space_over (pos largest) (minus largest) (pos largest) (pos 1))) refl
+largest_ratio = by_test (space_ratio_in_range (signed_space_over (pos largest) (minus largest) (pos largest) (pos 1))) refl
 
 past_x : ¬ IsSpaceRatio (space_over past 0 0 1)
-past_x = by_one_failure (space_ratio_placed (space_over past 0 0 1)) refl refl
+past_x = by_one_failure (space_ratio_in_range (space_over past 0 0 1)) refl refl
 
 past_y : ¬ IsSpaceRatio (signed_space_over (pos 0) (minus past) (pos 0) (pos 1))
-past_y = by_one_failure (space_ratio_placed (signed_space_over (pos 0) (minus past) (pos 0) (pos 1))) refl refl
+past_y = by_one_failure (space_ratio_in_range (signed_space_over (pos 0) (minus past) (pos 0) (pos 1))) refl refl
 
 past_z : ¬ IsSpaceRatio (space_over 0 0 past 1)
-past_z = by_one_failure (space_ratio_placed (space_over 0 0 past 1)) refl refl
+past_z = by_one_failure (space_ratio_in_range (space_over 0 0 past 1)) refl refl
 
 past_w : ¬ IsSpaceRatio (space_over 0 0 1 past)
-past_w = by_one_failure (space_ratio_placed (space_over 0 0 1 past)) refl refl
+past_w = by_one_failure (space_ratio_in_range (space_over 0 0 1 past)) refl refl
 
 over_zero : ¬ IsSpaceRatio (space_over 0 0 1 0)
-over_zero = by_one_failure (space_ratio_placed (space_over 0 0 1 0)) refl refl
+over_zero = by_one_failure (space_ratio_in_range (space_over 0 0 1 0)) refl refl
 
 reducible : ¬ IsSpaceRatio (space_over 2 4 6 2)
-reducible = by_one_failure (space_ratio_placed (space_over 2 4 6 2)) refl refl
+reducible = by_one_failure (space_ratio_in_range (space_over 2 4 6 2)) refl refl

@@ -54,8 +54,8 @@ too_short = by_one_failure (rectangle_passes diamond (slanted (fraction 1 1) (sp
 too_narrow : ¬ PassesRectangle diamond (slanted (fraction 1 1) (span (pos 1) (pos 3)) (span (pos 0) (pos 1)) whole)
 too_narrow = by_one_failure (rectangle_passes diamond (slanted (fraction 1 1) (span (pos 1) (pos 3)) (span (pos 0) (pos 1)) whole)) refl refl
 
-upright : ¬ PassesRectangle diamond (rectangle (fraction 4 1) (at 1 0) (span (pos 0) (pos 2)) (span (pos 0) (pos 2)) whole)
-upright = by_one_failure (rectangle_passes diamond (rectangle (fraction 4 1) (at 1 0) (span (pos 0) (pos 2)) (span (pos 0) (pos 2)) whole)) refl refl
+axis_parallel : ¬ PassesRectangle diamond (rectangle (fraction 4 1) (at 1 0) (span (pos 0) (pos 2)) (span (pos 0) (pos 2)) whole)
+axis_parallel = by_one_failure (rectangle_passes diamond (rectangle (fraction 4 1) (at 1 0) (span (pos 0) (pos 2)) (span (pos 0) (pos 2)) whole)) refl refl
 
 no_direction : ¬ PassesRectangle diamond (rectangle (fraction 0 1) (at 0 0) (span (pos 0) (pos 0)) (span (pos 0) (pos 0)) whole)
 no_direction =

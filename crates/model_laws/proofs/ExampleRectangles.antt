@@ -33,9 +33,9 @@ not_highest = record slanted { fan = record { cones = quarter_cone 1 0 3 0 3 1 �
 not_highest_fails : ¬ Passes ask_rectangle (plane diamond) (rectangle not_highest)
 not_highest_fails = by_one_failure (passes ask_rectangle (plane diamond) (rectangle not_highest)) refl refl
 
--- the upright rectangle, whose area is 4, with a fan of the two upright directions alone
-abbrev upright : RectangleAnswer
-upright = record {
+-- the axis-parallel rectangle, whose area is 4, with a fan of the two directions along the axes alone
+abbrev axis_parallel : RectangleAnswer
+axis_parallel = record {
   size = fraction 4 1;
   direction = at 1 0;
   along = span (pos 0) (pos 2);
@@ -43,15 +43,15 @@ upright = record {
   fan = record { cones = quarter_cone 1 0 2 0 3 1 ∷ []; last = at 0 1 };
 }
 
-upright_fails : ¬ Passes ask_rectangle (plane diamond) (rectangle upright)
-upright_fails = by_failed_test (passes ask_rectangle (plane diamond) (rectangle upright)) refl
+axis_parallel_fails : ¬ Passes ask_rectangle (plane diamond) (rectangle axis_parallel)
+axis_parallel_fails = by_failed_test (passes ask_rectangle (plane diamond) (rectangle axis_parallel)) refl
 
--- the upright rectangle with the whole fan
-abbrev upright_with_fan : RectangleAnswer
-upright_with_fan = record upright { fan = slanted.fan }
+-- the axis-parallel rectangle with the whole fan
+abbrev axis_parallel_with_fan : RectangleAnswer
+axis_parallel_with_fan = record axis_parallel { fan = slanted.fan }
 
-upright_with_fan_fails : ¬ Passes ask_rectangle (plane diamond) (rectangle upright_with_fan)
-upright_with_fan_fails = by_one_failure (passes ask_rectangle (plane diamond) (rectangle upright_with_fan)) refl refl
+axis_parallel_with_fan_fails : ¬ Passes ask_rectangle (plane diamond) (rectangle axis_parallel_with_fan)
+axis_parallel_with_fan_fails = by_one_failure (passes ask_rectangle (plane diamond) (rectangle axis_parallel_with_fan)) refl refl
 
 -- the two bounds exchanged
 abbrev exchanged : RectangleAnswer

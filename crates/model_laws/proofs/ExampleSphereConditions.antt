@@ -2,9 +2,9 @@
 use Rattle.std.proofs.Common.{refl, ◌+◌, ◌^◌, pos, List, [], ◌∷◌}
 use Rattle.bounds_model.specs.Space.{SpacePoint, SpaceRatio}
 use Rattle.bounds_model.specs.Fractions.{Fraction}
-use Rattle.bounds_model.specs.BallAnswer.{Weighted, SphereAnswer, SpherePlaces, PassesSphere}
+use Rattle.bounds_model.specs.BallAnswer.{Weighted, SphereAnswer, SphereRanges, PassesSphere}
 use Rattle.model_laws.proofs.Decisions.{by_test, by_one_failure}
-use Rattle.model_laws.proofs.DecideBall.{sphere_places, sphere_passes}
+use Rattle.model_laws.proofs.DecideBall.{sphere_ranges, sphere_passes}
 use Rattle.model_laws.proofs.Literals.{minus, in_space, space_over, fraction, support, signed_support}
 
 abbrev sphere : Fraction → SpaceRatio → List Weighted → SphereAnswer
@@ -87,25 +87,25 @@ heaviest = by_test (sphere_passes (in_space 5 6 7 ∷ []) (sphere (fraction 0 1)
 too_heavy : ¬ PassesSphere (in_space 5 6 7 ∷ []) (sphere (fraction 0 1) (space_over 5 6 7 1) (support 0 (2 ^ 92 + 1) ∷ []))
 too_heavy = by_one_failure (sphere_passes (in_space 5 6 7 ∷ []) (sphere (fraction 0 1) (space_over 5 6 7 1) (support 0 (2 ^ 92 + 1) ∷ []))) refl refl
 
--- ---- places
+-- ---- ranges
 
-largest : SpherePlaces (sphere (fraction (2 ^ 126) 1) (space_over (2 ^ 126) 0 0 1) (signed_support 9999 (pos (2 ^ 126)) ∷ []))
-largest = by_test (sphere_places (sphere (fraction (2 ^ 126) 1) (space_over (2 ^ 126) 0 0 1) (signed_support 9999 (pos (2 ^ 126)) ∷ []))) refl
+largest : SphereRanges (sphere (fraction (2 ^ 126) 1) (space_over (2 ^ 126) 0 0 1) (signed_support 9999 (pos (2 ^ 126)) ∷ []))
+largest = by_test (sphere_ranges (sphere (fraction (2 ^ 126) 1) (space_over (2 ^ 126) 0 0 1) (signed_support 9999 (pos (2 ^ 126)) ∷ []))) refl
 
-point_past : ¬ SpherePlaces (sphere (fraction 1 1) (space_over 0 0 0 1) (support 10000 1 ∷ []))
-point_past = by_one_failure (sphere_places (sphere (fraction 1 1) (space_over 0 0 0 1) (support 10000 1 ∷ []))) refl refl
+point_past : ¬ SphereRanges (sphere (fraction 1 1) (space_over 0 0 0 1) (support 10000 1 ∷ []))
+point_past = by_one_failure (sphere_ranges (sphere (fraction 1 1) (space_over 0 0 0 1) (support 10000 1 ∷ []))) refl refl
 
-weight_past : ¬ SpherePlaces (sphere (fraction 1 1) (space_over 0 0 0 1) (support 0 (2 ^ 126 + 1) ∷ []))
-weight_past = by_one_failure (sphere_places (sphere (fraction 1 1) (space_over 0 0 0 1) (support 0 (2 ^ 126 + 1) ∷ []))) refl refl
+weight_past : ¬ SphereRanges (sphere (fraction 1 1) (space_over 0 0 0 1) (support 0 (2 ^ 126 + 1) ∷ []))
+weight_past = by_one_failure (sphere_ranges (sphere (fraction 1 1) (space_over 0 0 0 1) (support 0 (2 ^ 126 + 1) ∷ []))) refl refl
 
-negative_weight : ¬ SpherePlaces (sphere (fraction 1 1) (space_over 0 0 0 1) (signed_support 0 (minus 1) ∷ []))
-negative_weight = by_one_failure (sphere_places (sphere (fraction 1 1) (space_over 0 0 0 1) (signed_support 0 (minus 1) ∷ []))) refl refl
+negative_weight : ¬ SphereRanges (sphere (fraction 1 1) (space_over 0 0 0 1) (signed_support 0 (minus 1) ∷ []))
+negative_weight = by_one_failure (sphere_ranges (sphere (fraction 1 1) (space_over 0 0 0 1) (signed_support 0 (minus 1) ∷ []))) refl refl
 
-size_past : ¬ SpherePlaces (sphere (fraction (2 ^ 126 + 1) 1) (space_over 0 0 0 1) (support 0 1 ∷ []))
-size_past = by_one_failure (sphere_places (sphere (fraction (2 ^ 126 + 1) 1) (space_over 0 0 0 1) (support 0 1 ∷ []))) refl refl
+size_past : ¬ SphereRanges (sphere (fraction (2 ^ 126 + 1) 1) (space_over 0 0 0 1) (support 0 1 ∷ []))
+size_past = by_one_failure (sphere_ranges (sphere (fraction (2 ^ 126 + 1) 1) (space_over 0 0 0 1) (support 0 1 ∷ []))) refl refl
 
-centre_past : ¬ SpherePlaces (sphere (fraction 1 1) (space_over 0 0 (2 ^ 126 + 1) 1) (support 0 1 ∷ []))
-centre_past = by_one_failure (sphere_places (sphere (fraction 1 1) (space_over 0 0 (2 ^ 126 + 1) 1) (support 0 1 ∷ []))) refl refl
+centre_past : ¬ SphereRanges (sphere (fraction 1 1) (space_over 0 0 (2 ^ 126 + 1) 1) (support 0 1 ∷ []))
+centre_past = by_one_failure (sphere_ranges (sphere (fraction 1 1) (space_over 0 0 (2 ^ 126 + 1) 1) (support 0 1 ∷ []))) refl refl
 
-no_places : ¬ SpherePlaces (sphere (fraction 1 1) (space_over 0 0 0 1) [])
-no_places = by_one_failure (sphere_places (sphere (fraction 1 1) (space_over 0 0 0 1) [])) refl refl
+no_ranges : ¬ SphereRanges (sphere (fraction 1 1) (space_over 0 0 0 1) [])
+no_ranges = by_one_failure (sphere_ranges (sphere (fraction 1 1) (space_over 0 0 0 1) [])) refl refl

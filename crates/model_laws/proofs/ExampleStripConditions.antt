@@ -4,9 +4,9 @@ use Rattle.bounds_model.specs.Plane.{PlanePoint}
 use Rattle.bounds_model.specs.Fractions.{Fraction}
 use Rattle.bounds_model.specs.Strip.{Span}
 use Rattle.bounds_model.specs.Fans.{HalfCone}
-use Rattle.bounds_model.specs.StripAnswer.{StripAnswer, StripPlaces, PassesStrip}
+use Rattle.bounds_model.specs.StripAnswer.{StripAnswer, StripRanges, PassesStrip}
 use Rattle.model_laws.proofs.Decisions.{by_test, by_one_failure}
-use Rattle.model_laws.proofs.DecideFans.{strip_places, strip_passes}
+use Rattle.model_laws.proofs.DecideFans.{strip_ranges, strip_passes}
 use Rattle.model_laws.proofs.ExampleBalls.{triangle}
 use Rattle.model_laws.proofs.Literals.{at, left_at, fraction, span, half_cone}
 
@@ -114,16 +114,16 @@ widest = by_test (strip_passes (sides (2 ^ 40)) (between (2 ^ 40))) refl
 too_wide : ¬ PassesStrip (sides (2 ^ 40 + 1)) (between (2 ^ 40 + 1))
 too_wide = by_one_failure (strip_passes (sides (2 ^ 40 + 1)) (between (2 ^ 40 + 1))) refl refl
 
--- ---- places
+-- ---- ranges
 
-no_cones : ¬ StripPlaces (strip (fraction 1 1) (at 1 0) (span (pos 0) (pos 1)) [])
-no_cones = by_one_failure (strip_places (strip (fraction 1 1) (at 1 0) (span (pos 0) (pos 1)) [])) refl refl
+no_cones : ¬ StripRanges (strip (fraction 1 1) (at 1 0) (span (pos 0) (pos 1)) [])
+no_cones = by_one_failure (strip_ranges (strip (fraction 1 1) (at 1 0) (span (pos 0) (pos 1)) [])) refl refl
 
-direction_past : ¬ StripPlaces (strip (fraction 1 1) (at (2 ^ 126 + 1) 0) (span (pos 0) (pos 1)) cones)
-direction_past = by_one_failure (strip_places (strip (fraction 1 1) (at (2 ^ 126 + 1) 0) (span (pos 0) (pos 1)) cones)) refl refl
+direction_past : ¬ StripRanges (strip (fraction 1 1) (at (2 ^ 126 + 1) 0) (span (pos 0) (pos 1)) cones)
+direction_past = by_one_failure (strip_ranges (strip (fraction 1 1) (at (2 ^ 126 + 1) 0) (span (pos 0) (pos 1)) cones)) refl refl
 
-bounds_past : ¬ StripPlaces (strip (fraction 1 1) (at 1 0) (span (pos 0) (pos (2 ^ 126 + 1))) cones)
-bounds_past = by_one_failure (strip_places (strip (fraction 1 1) (at 1 0) (span (pos 0) (pos (2 ^ 126 + 1))) cones)) refl refl
+bounds_past : ¬ StripRanges (strip (fraction 1 1) (at 1 0) (span (pos 0) (pos (2 ^ 126 + 1))) cones)
+bounds_past = by_one_failure (strip_ranges (strip (fraction 1 1) (at 1 0) (span (pos 0) (pos (2 ^ 126 + 1))) cones)) refl refl
 
-size_past : ¬ StripPlaces (strip (fraction (2 ^ 126 + 1) 1) (at 1 0) (span (pos 0) (pos 1)) cones)
-size_past = by_one_failure (strip_places (strip (fraction (2 ^ 126 + 1) 1) (at 1 0) (span (pos 0) (pos 1)) cones)) refl refl
+size_past : ¬ StripRanges (strip (fraction (2 ^ 126 + 1) 1) (at 1 0) (span (pos 0) (pos 1)) cones)
+size_past = by_one_failure (strip_ranges (strip (fraction (2 ^ 126 + 1) 1) (at 1 0) (span (pos 0) (pos 1)) cones)) refl refl

@@ -49,7 +49,7 @@ pub mod ExampleEmptyFits
 pub mod ExampleChoices
 pub mod ExampleHulls
 pub mod ExampleFans
-pub mod ExampleFanPlaces
+pub mod ExampleFanRanges
 pub mod ExamplePlainFans
 pub mod ExampleSlacks
 pub mod ExampleCircleConditions
@@ -58,7 +58,7 @@ pub mod ExampleStripConditions
 pub mod ExampleRectangleConditions
 pub mod ExampleParallelogramConditions
 pub mod ExampleFlatParallelograms
-pub mod ExampleObjectPlaces
+pub mod ExampleObjectRanges
 pub mod ExampleAnnulusConditions
 pub mod ExampleDistanceConditions
 pub mod ExampleDirections
@@ -71,4 +71,4 @@ pub mod ExampleClaims
 pub mod ExampleBest
 pub mod ExampleAsks
 pub mod ExampleChosenClaims
-pub mod ExampleAnnulusPlaces
+pub mod ExampleAnnulusRanges

@@ -107,22 +107,22 @@ least points a h other fits = by_centres other.centres fits.as_many fits.denomin
 
     by_side : (c : PlaneRatio) → pos 1 ≤ℤ c.w → All (λ p. Any (IsNear other.radius p) (c ∷ [])) points → (s : ℕ) → pos s *ℤ a.size.d ≡ pos 2 *ℤ a.size.n → AreLeaves s 1 points a.leaves → IsAtMost a.size other.radius
     by_side c pw near zero e l =
-        subst (λ N. (N *ℤ other.radius.d) ≤ℤ (other.radius.n *ℤ a.size.d)) (zero_size a.size.n a.size.d e) (nothing other.radius.n other.radius.d a.size.d (nonneg_mul fits.radius.numerator (weaken h.places.size.lowest.not_negative.denominator)))
+        subst (λ N. (N *ℤ other.radius.d) ≤ℤ (other.radius.n *ℤ a.size.d)) (zero_size a.size.n a.size.d e) (nothing other.radius.n other.radius.d a.size.d (nonneg_mul fits.radius.numerator (weaken h.ranges.size.lowest.not_negative.denominator)))
     by_side c pw near (suc t) e l =
         let some : 0 < length a.leaves = let n : length a.leaves ≡ 1 = l.0 in omega arith in
         let leaf = l.1 0 no_leaf some in
         let near_at = λ (p : PlanePoint) (m : Contains points p). near_only other.radius p c (All-contains (λ p. Any (IsNear other.radius p) (c ∷ [])) points p near m) in
-        from_far a.size.n a.size.d other.radius c t _ _ (weaken h.places.size.lowest.not_negative.denominator) pw (weaken fits.radius.denominator) e (near_at _ leaf.first) (near_at _ leaf.second) leaf.far
+        from_far a.size.n a.size.d other.radius c t _ _ (weaken h.ranges.size.lowest.not_negative.denominator) pw (weaken fits.radius.denominator) e (near_at _ leaf.first) (near_at _ leaf.second) leaf.far
 
     by_centres : (cs : List PlaneRatio) → length cs ≡ 1 → All (λ c. pos 1 ≤ℤ c.w) cs → All (λ p. Any (IsNear other.radius p) cs) points → IsAtMost a.size other.radius
     by_centres [] n w near = absurd (omega arith)
-    by_centres (c ∷ []) n w near = by_side c (All-head (λ c. pos 1 ≤ℤ c.w) c [] w) near _ (side_is a.size.n a.size.d h.places.size.lowest.not_negative.numerator h.halves) h.leaves
+    by_centres (c ∷ []) n w near = by_side c (All-head (λ c. pos 1 ≤ℤ c.w) c [] w) near _ (side_is a.size.n a.size.d h.ranges.size.lowest.not_negative.numerator h.halves) h.leaves
     by_centres (c ∷ d ∷ cs) n w near = absurd (omega arith)
 
 -- one centre that passes is best
 pub one_square_is_best : PassingAnswersAreBest (ask_centres 1)
 one_square_is_best (plane points) (centres a) h = record {
-  fits = (h.covers, record { lowest = h.places.size.lowest; same = refl });
+  fits = (h.covers, record { lowest = h.ranges.size.lowest; same = refl });
   best = record { fits = h.covers; smallest = least points a h };
 }
 one_square_is_best sets answer h = absurd h

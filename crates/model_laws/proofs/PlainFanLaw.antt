@@ -7,7 +7,7 @@ use Rattle.integers.proofs.Identities.{den-ring, read, polys, lits}
 use Rattle.integers.proofs.Order.{positive_mul, positive_add, nonneg_from_positive}
 use Rattle.bounds_model.specs.Plane.{PlanePoint, origin, point_at, dot, cross}
 use Rattle.bounds_model.specs.Fans.{north}
-use Rattle.bounds_model.specs.PlainFans.{edge, IsUpright, IsUprightOrAlong}
+use Rattle.bounds_model.specs.PlainFans.{edge, IsNormal, IsNormalOrParallel}
 use Rattle.model_laws.specs.Laws.{PlainHalfFansAreFew, PlainQuarterFansAreFew}
 use Rattle.model_laws.proofs.Pigeonhole.{pigeonhole}
 use Rattle.model_laws.proofs.TurningUp.{ordered, parallel, across}
@@ -27,32 +27,32 @@ not_same u w h e = not_parallel u w h (subst (λ d. cross u d ≡ pos 0) e (no_c
     no_cross : (x y : ℤ) → x *ℤ y -ℤ y *ℤ x ≡ pos 0
     no_cross x y = read (x ∷ y ∷ []) (λ xs a b. simp (a, b, lits xs, polys) (den-ring xs _ _ tt))
 
--- ---- over half a turn: the upward direction has a place behind those of the edges
+-- ---- over half a turn: the upward direction stands behind those of the edges
 
 abbrev IsCalledFor : List PlanePoint → PlanePoint → Type 0
-IsCalledFor corners d = (d ≡ north) ⊎ SomeIndex corners (λ i. IsUpright (edge corners i) d)
+IsCalledFor corners d = (d ≡ north) ⊎ SomeIndex corners (λ i. IsNormal (edge corners i) d)
 
-abbrev half_place : (corners : List PlanePoint) (d : PlanePoint) → IsCalledFor corners d → ℕ
-half_place corners d (inl up) = length corners
-half_place corners d (inr s) = s.0
+abbrev half_cone_in_range : (corners : List PlanePoint) (d : PlanePoint) → IsCalledFor corners d → ℕ
+half_cone_in_range corners d (inl up) = length corners
+half_cone_in_range corners d (inr s) = s.0
 
-half_below : (corners : List PlanePoint) (d : PlanePoint) (h : IsCalledFor corners d) → half_place corners d h < suc (length corners)
+half_below : (corners : List PlanePoint) (d : PlanePoint) (h : IsCalledFor corners d) → half_cone_in_range corners d h < suc (length corners)
 half_below corners d (inl up) = omega arith
 half_below corners d (inr s) = let l : s.0 < length corners = s.1 in omega (arith, l)
 
-one_upright : (e u w : PlanePoint) → pos 0 <ℤ cross u w → IsUpright e u → IsUpright e w → ⊥
-one_upright e u w h a b = not_parallel u w h (parallel e.x e.y u.x u.y w.x w.y (long_vector e a.long) a.right_angle b.right_angle)
+one_normal : (e u w : PlanePoint) → pos 0 <ℤ cross u w → IsNormal e u → IsNormal e w → ⊥
+one_normal e u w h a b = not_parallel u w h (parallel e.x e.y u.x u.y w.x w.y (long_vector e a.long) a.right_angle b.right_angle)
 
 half_apart : (corners : List PlanePoint) (u w : PlanePoint) → pos 0 <ℤ cross u w → (a : IsCalledFor corners u) (b : IsCalledFor corners w)
-    → half_place corners u a ≡ half_place corners w b → ⊥
+    → half_cone_in_range corners u a ≡ half_cone_in_range corners w b → ⊥
 half_apart corners u w h (inl a) (inl b) e = not_same u w h (a ∙ sym b)
 half_apart corners u w h (inl a) (inr b) e = let l : b.0 < length corners = b.1 in absurd (omega (arith, l, e))
 half_apart corners u w h (inr a) (inl b) e = let l : a.0 < length corners = a.1 in absurd (omega (arith, l, e))
-half_apart corners u w h (inr a) (inr b) e = one_upright (edge corners b.0) u w h (subst (λ i. IsUpright (edge corners i) u) e a.2) b.2
+half_apart corners u w h (inr a) (inr b) e = one_normal (edge corners b.0) u w h (subst (λ i. IsNormal (edge corners i) u) e a.2) b.2
 
 pub half_is_few : PlainHalfFansAreFew
 half_is_few corners ds plain =
-    few (length ds) (length corners) (pigeonhole (length ds - 2) (suc (length corners)) (λ i l. half_place corners (point_at ds (suc i)) (called i l))
+    few (length ds) (length corners) (pigeonhole (length ds - 2) (suc (length corners)) (λ i l. half_cone_in_range corners (point_at ds (suc i)) (called i l))
     (λ i l. half_below corners (point_at ds (suc i)) (called i l))
     (λ i k l l' h. half_apart corners (point_at ds (suc i)) (point_at ds (suc k)) (ordered ds plain.once.turns plain.in_range (suc i) (suc k)
     (omega arith) (omega (arith, h)) (omega (arith, l'))) (called i l) (called k l')))
@@ -108,10 +108,10 @@ quarter_is_few corners ds plain =
     (λ i k l l' h e.
     one_of_both (edge corners (called k l').0) (point_at ds (suc i)) (point_at ds (suc k))
     (ordered ds plain.once.turns (λ j p m. (plain.in_range j p m).1) (suc i) (suc k) (omega arith) (omega (arith, h)) (omega (arith, l')))
-    (between i l) (between k l') (called k l').2.long (subst (λ j. IsUprightOrAlong (edge corners j) (point_at ds (suc i))) e
-    (called i l).2).upright (called k l').2.upright))
+    (between i l) (between k l') (called k l').2.long (subst (λ j. IsNormalOrParallel (edge corners j) (point_at ds (suc i))) e
+    (called i l).2).normal_or_parallel (called k l').2.normal_or_parallel))
   where
-    called : (i : ℕ) → i < length ds - 2 → SomeIndex corners (λ j. IsUprightOrAlong (edge corners j) (point_at ds (suc i)))
+    called : (i : ℕ) → i < length ds - 2 → SomeIndex corners (λ j. IsNormalOrParallel (edge corners j) (point_at ds (suc i)))
     called i l = plain.no_others (suc i) (omega arith) (omega (arith, l))
 
     between : (i : ℕ) → i < length ds - 2 → IsBetween (point_at ds (suc i))

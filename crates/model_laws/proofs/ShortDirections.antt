@@ -16,7 +16,7 @@ use Rattle.bounds_model.specs.Plane.{PlanePoint, origin, point_at, vector, dot, 
 use Rattle.bounds_model.specs.Fractions.{HaveNoCommonFactor}
 use Rattle.bounds_model.specs.Fans.{TurnLeft, east, west, north, IsShort}
 use Rattle.bounds_model.specs.Hull.{around}
-use Rattle.bounds_model.specs.PlainFans.{edge, IsUpright, IsUprightOrAlong}
+use Rattle.bounds_model.specs.PlainFans.{edge, IsNormal, IsNormalOrParallel}
 use Rattle.model_laws.specs.Laws.{PlainHalfFansAreShort, PlainQuarterFansAreShort}
 use Rattle.model_laws.proofs.Decisions.{by_test}
 use Rattle.model_laws.proofs.DecideFans.{short}
@@ -43,9 +43,9 @@ is_short d h = record { x = within d.x h.0; y = within d.y h.1 }
     within : (z : ℤ) → nat_abs z ≤ 400000 → IsWithin 400000 z
     within z h = record { low = omega (arith, ints); high = omega (arith, ints) }
 
-upright_is_short : (corners : List PlanePoint) → All IsInPlane corners → (d : PlanePoint) → HaveNoCommonFactor (d.x ∷ d.y ∷ [])
-    → SomeIndex corners (λ i. IsUpright (edge corners i) d) → IsShort d
-upright_is_short corners all d lowest s =
+normal_is_short : (corners : List PlanePoint) → All IsInPlane corners → (d : PlanePoint) → HaveNoCommonFactor (d.x ∷ d.y ∷ [])
+    → SomeIndex corners (λ i. IsNormal (edge corners i) d) → IsShort d
+normal_is_short corners all d lowest s =
     let e = edge corners s.0 in
     let small = edge_is_small corners all (some s.0 (length corners) s.1) s.0 in
     is_short d (within_limit e.x e.y d 400000 lowest (some_part e s.2.long) s.2.right_angle small.0 small.1)
@@ -54,10 +54,10 @@ upright_is_short corners all d lowest s =
     some i n l = omega arith
 
 either_is_short : (corners : List PlanePoint) → All IsInPlane corners → (d : PlanePoint) → HaveNoCommonFactor (d.x ∷ d.y ∷ [])
-    → SomeIndex corners (λ i. IsUprightOrAlong (edge corners i) d) → IsShort d
+    → SomeIndex corners (λ i. IsNormalOrParallel (edge corners i) d) → IsShort d
 either_is_short corners all d lowest s =
     let small = edge_is_small corners all (some s.0 (length corners) s.1) s.0 in
-    by_side (edge corners s.0) d lowest s.2.long small s.2.upright
+    by_side (edge corners s.0) d lowest s.2.long small s.2.normal_or_parallel
   where
     some : (i n : ℕ) → i < n → 0 < n
     some i n l = omega arith
@@ -73,7 +73,7 @@ either_is_short corners all d lowest s =
 
     by_side : (e d : PlanePoint) → HaveNoCommonFactor (d.x ∷ d.y ∷ []) → e ≢ origin → IsSmall 400000 e → (dot e d ≡ pos 0) ⊎ (cross e d ≡ pos 0)
         → IsShort d
-    by_side e d lowest long small (inl upright) = is_short d (within_limit e.x e.y d 400000 lowest (some_part e long) upright small.0 small.1)
+    by_side e d lowest long small (inl vertical) = is_short d (within_limit e.x e.y d 400000 lowest (some_part e long) vertical small.0 small.1)
     by_side e d lowest long small (inr along) =
         is_short d
         (within_limit (neg_ℤ e.y) e.x d 400000 lowest (other (nat_abs e.x) (nat_abs e.y) (nat_abs (neg_ℤ e.y)) (same_size e.y)
@@ -84,14 +84,14 @@ either_is_short corners all d lowest s =
 
 each_direction : (ds : List PlanePoint) (first last : PlanePoint) → TurnLeft first last ds → IsShort first → IsShort last
     → ((i : ℕ) → 0 < i → i + 1 < length ds → IsShort (point_at ds i)) → All IsShort ds
-each_direction ds first last turning at_first at_last inner i d l = subst IsShort (get_or_default ds i origin d l) (by_place i l)
+each_direction ds first last turning at_first at_last inner i d l = subst IsShort (get_or_default ds i origin d l) (by_index i l)
   where
     last_or_inner : (i n : ℕ) → 0 < i → i < n → (i + 1 < n) ⊎ (i ≡ n - 1)
     last_or_inner i n p l = grind arith
 
-    by_place : (i : ℕ) → i < length ds → IsShort (point_at ds i)
-    by_place zero l = subst IsShort (sym turning.begins) at_first
-    by_place (suc i) l =
+    by_index : (i : ℕ) → i < length ds → IsShort (point_at ds i)
+    by_index zero l = subst IsShort (sym turning.begins) at_first
+    by_index (suc i) l =
         elim (last_or_inner (suc i) (length ds) (omega arith) l) [
           | inl m ↦ inner (suc i) (omega arith) m
           | inr e ↦ subst (λ j. IsShort (point_at ds j)) (sym e) (subst IsShort (sym turning.ends) at_last)
@@ -106,7 +106,7 @@ half_is_short corners ds bounds plain =
     each_direction ds east west plain.once (by_test (short east) refl) (by_test (short west) refl)
     (λ i p l. elim (plain.no_others i p l) [
       | inl e ↦ subst IsShort (sym e) (by_test (short north) refl)
-      | inr s ↦ upright_is_short corners bounds (point_at ds i) (lowest_at ds plain.lowest i l) s
+      | inr s ↦ normal_is_short corners bounds (point_at ds i) (lowest_at ds plain.lowest i l) s
     ])
 
 pub quarter_is_short : PlainQuarterFansAreShort

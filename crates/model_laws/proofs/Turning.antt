@@ -38,8 +38,8 @@ not_left u h = elim h [ inl l ↦ weak u.x l | inr e ↦ level u.x e.0 ]
     level x e = omega (arith, ints)
 
 -- a vector to the left of one that points straight up is none, or points straight up too
-upright : (vx vy wx wy : ℤ) → vx ≡ pos 0 → pos 0 <ℤ vy → pos 0 ≤ℤ wx → pos 0 ≤ℤ (vx *ℤ wy -ℤ vy *ℤ wx) → wx ≡ pos 0
-upright vx vy wx wy e l p h = le_antisymm_ℤ (turned (nonneg_of_mul vy l (subst (λ z. pos 0 ≤ℤ z) (folded vx vy wx wy e) h))) p
+vertical : (vx vy wx wy : ℤ) → vx ≡ pos 0 → pos 0 <ℤ vy → pos 0 ≤ℤ wx → pos 0 ≤ℤ (vx *ℤ wy -ℤ vy *ℤ wx) → wx ≡ pos 0
+vertical vx vy wx wy e l p h = le_antisymm_ℤ (turned (nonneg_of_mul vy l (subst (λ z. pos 0 ≤ℤ z) (folded vx vy wx wy e) h))) p
   where
     folded : (vx vy wx wy : ℤ) → vx ≡ pos 0 → vx *ℤ wy -ℤ vy *ℤ wx ≡ vy *ℤ neg_ℤ wx
     folded vx vy wx wy e = combine1 wy e (read (vx ∷ vy ∷ wx ∷ wy ∷ []) (λ xs a b c d. simp (a, b, c, d, polys, lits xs) (den-ring xs _ _ tt)))
@@ -52,7 +52,7 @@ pub ahead_trans : (u v w : PlanePoint) → IsAhead u → IsAhead v → IsAhead w
 ahead_trans u v w hu hv hw p q =
     elim hv [
       | inl right ↦ nonneg_of_mul v.x right (subst (λ z. pos 0 ≤ℤ z) (sym (exchange_x u.x u.y v.x v.y w.x w.y)) (nonneg_add (nonneg_mul (not_left u hu) q) (nonneg_mul (not_left w hw) p)))
-      | inr up ↦ by_w (upright v.x v.y w.x w.y up.0 up.1 (not_left w hw) q) hw
+      | inr up ↦ by_w (vertical v.x v.y w.x w.y up.0 up.1 (not_left w hw) q) hw
     ]
   where
     folded : (ux uy wx wy : ℤ) → wx ≡ pos 0 → ux *ℤ wy -ℤ uy *ℤ wx ≡ ux *ℤ wy

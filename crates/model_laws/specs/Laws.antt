@@ -10,11 +10,11 @@ use Rattle.bounds_model.specs.KgonAnswer.{KgonAnswer, corner_points, PassesKgon}
 use Rattle.bounds_model.specs.Asks.{Ask, Sets, Suits}
 use Rattle.bounds_model.specs.Asks.Ask.{ask_kgon, ask_distance}
 use Rattle.bounds_model.specs.Asks.Sets.{plane, space, two, bare}
-use Rattle.bounds_model.specs.Answers.{Answer, size_of, HasPlaces, Fits, IsBest, Passes, IsOptimum}
+use Rattle.bounds_model.specs.Answers.{Answer, size_of, KeepsRanges, Fits, IsBest, Passes, IsOptimum}
 
--- an answer that passes has all its numbers in their places
-abbrev pub PassingAnswersHavePlaces : Type 0
-PassingAnswersHavePlaces = (ask : Ask) (sets : Sets) (answer : Answer) → Passes ask sets answer → HasPlaces answer
+-- an answer that passes has all its numbers in their ranges
+abbrev pub PassingAnswersKeepRanges : Type 0
+PassingAnswersKeepRanges = (ask : Ask) (sets : Sets) (answer : Answer) → Passes ask sets answer → KeepsRanges answer
 
 -- an answer fits only points of the kind that is asked of
 abbrev pub FittingPointsSuit : Type 0

@@ -1,11 +1,11 @@
 //! Laws of the definitions.
 
-ghost use Rattle.model_laws.specs.Laws.{PassingAnswersHavePlaces, FittingPointsSuit, PassingAnswersAreBest, PassingCornersAreCorners, PassingKgonsListCorners, CornersAreUnique, BestSizeIsUnique, OptimumIsUnique, BestSizeHasNoOrder, BestAnswersHaveNoOrder, PlainHalfFansAreFew, PlainQuarterFansAreFew, PlainHalfFansAreShort, PlainQuarterFansAreShort};
+ghost use Rattle.model_laws.specs.Laws.{PassingAnswersKeepRanges, FittingPointsSuit, PassingAnswersAreBest, PassingCornersAreCorners, PassingKgonsListCorners, CornersAreUnique, BestSizeIsUnique, OptimumIsUnique, BestSizeHasNoOrder, BestAnswersHaveNoOrder, PlainHalfFansAreFew, PlainQuarterFansAreFew, PlainHalfFansAreShort, PlainQuarterFansAreShort};
 ghost use Rattle.bounds_model.specs.Asks.Ask.{ask_circle, ask_sphere, ask_centres};
 
-/// An answer that passes has all its numbers in their places.
-pub fn passing_answers_have_places()
-    ensures { PassingAnswersHavePlaces }
+/// An answer that passes has all its numbers in their ranges.
+pub fn passing_answers_keep_ranges()
+    ensures { PassingAnswersKeepRanges }
 {}
 
 /// An answer fits only points of the kind that is asked of.

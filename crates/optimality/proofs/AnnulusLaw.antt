@@ -38,16 +38,16 @@ outside_inner n d w x y m px py pd pw e l =
 annulus_fits : (points : List PlanePoint) (a : AnnulusAnswer) → PassesAnnulus points a → FitsAnnulus points (annulus_of a)
 annulus_fits points a h =
     let c = a.centre in
-    let w = nonneg_from_one h.places.centre.denominator in
+    let w = nonneg_from_one h.ranges.centre.denominator in
     record {
-      denominator = h.places.centre.denominator;
-      inner = h.places.inner.lowest.not_negative;
-      outer = h.places.outer.lowest.not_negative;
+      denominator = h.ranges.centre.denominator;
+      inner = h.ranges.inner.lowest.not_negative;
+      outer = h.ranges.outer.lowest.not_negative;
       inside = λ i d l.
           let p = slice_index_or points i d in
           record {
-            outside_inner = outside_inner a.inner.n a.inner.d c.w c.x c.y (least (power c) points) p.x p.y (nonneg_from_one h.places.inner.lowest.not_negative.denominator) w h.inner (above_least (power c) points i d l);
-            inside_outer = inside_outer a.outer.n a.outer.d c.w c.x c.y (greatest (power c) points) p.x p.y (nonneg_from_one h.places.outer.lowest.not_negative.denominator) w h.outer (below_greatest (power c) points i d l);
+            outside_inner = outside_inner a.inner.n a.inner.d c.w c.x c.y (least (power c) points) p.x p.y (nonneg_from_one h.ranges.inner.lowest.not_negative.denominator) w h.inner (above_least (power c) points i d l);
+            inside_outer = inside_outer a.outer.n a.outer.d c.w c.x c.y (greatest (power c) points) p.x p.y (nonneg_from_one h.ranges.outer.lowest.not_negative.denominator) w h.outer (below_greatest (power c) points i d l);
           };
     }
 
@@ -65,8 +65,8 @@ annulus_prints : (points : List PlanePoint) (a : AnnulusAnswer) → PassesAnnulu
 annulus_prints points a h =
     let c = a.centre in
     record {
-      lowest = h.places.size.lowest;
-      same = radii_difference a.size.n a.size.d c.w (greatest (power c) points) (least (power c) points) (c.x *ℤ c.x +ℤ c.y *ℤ c.y) a.outer.n a.outer.d a.inner.n a.inner.d h.places.centre.denominator h.size h.outer h.inner;
+      lowest = h.ranges.size.lowest;
+      same = radii_difference a.size.n a.size.d c.w (greatest (power c) points) (least (power c) points) (c.x *ℤ c.x +ℤ c.y *ℤ c.y) a.outer.n a.outer.d a.inner.n a.inner.d h.ranges.centre.denominator h.size h.outer h.inner;
     }
 
 -- ---- every centre has the same weighted differences of squared distances
@@ -129,8 +129,8 @@ none_smaller points a h other fits =
     (fits.inside pair.first origin (h.numbers i d l).0).inside_outer (fits.inside pair.second origin (h.numbers i d l).1).outside_inner in
     let bound = total_weighted_le (λ (pair : WeightedPair). pair.weight) difference E (S *ℤ (c.w *ℤ c.w)) a.pairs (λ i d l. nonneg_from_one (h.weights i d l)) each in
     let same = balanced c.w c.x c.y (weighted_differences points (squared_distance c) a.pairs) (weighted_differences points (λ p. p.x) a.pairs) (weighted_differences points (λ p. p.y) a.pairs) (weighted_differences points squared_length a.pairs) (differences_of_distances points c a.pairs) h.balanced_x h.balanced_y in
-    let weight = at_least_one (total_positive (λ (pair : WeightedPair). pair.weight) a.pairs h.places.count.at_least (λ i d l. positive_from_one (h.weights i d l))) in
-    mean_at_most a.size.n a.size.d (pair_sum a.pairs) (weighted_differences points squared_length a.pairs) (weighted_differences points (squared_distance c) a.pairs) c.w S E weight fits.denominator h.places.size.lowest.not_negative.denominator h.least_size same bound
+    let weight = at_least_one (total_positive (λ (pair : WeightedPair). pair.weight) a.pairs h.ranges.count.at_least (λ i d l. positive_from_one (h.weights i d l))) in
+    mean_at_most a.size.n a.size.d (pair_sum a.pairs) (weighted_differences points squared_length a.pairs) (weighted_differences points (squared_distance c) a.pairs) c.w S E weight fits.denominator h.ranges.size.lowest.not_negative.denominator h.least_size same bound
 
 -- an annulus that passes has the least difference of squared radii
 pub annulus_law : PassingAnnuliAreBest

@@ -19,7 +19,7 @@ use Rattle.optimality.proofs.CornerTree.{some_leaf_is_near}
 
 -- ---- from a rational side to a whole one
 
--- two places at most n/d away from c/w are at most twice as far from each other
+-- two ranges at most n/d away from c/w are at most twice as far from each other
 near_one_centre : (w c p q n d : ℤ) → pos 1 ≤ℤ w → pos 0 ≤ℤ d → (pos (nat_abs (w *ℤ p -ℤ c)) *ℤ d) ≤ℤ (n *ℤ w) → (pos (nat_abs (w *ℤ q -ℤ c)) *ℤ d) ≤ℤ (n *ℤ w) → (d *ℤ (p -ℤ q)) ≤ℤ (pos 2 *ℤ n)
 near_one_centre w c p q n d pw pd h k = plain (pos (nat_abs (w *ℤ p -ℤ c))) (pos (nat_abs (w *ℤ q -ℤ c))) (le_magnitude (w *ℤ p -ℤ c)) (neg_le_magnitude (w *ℤ q -ℤ c)) h k
   where
@@ -68,7 +68,7 @@ side_is_twice size h halves = elim halves [ inl e ↦ subst (Twice size.n) (sym 
 covered : (count : ℕ) (points : List PlanePoint) (other : Cover) → FitsCentres count points other → (p : PlanePoint) → Contains points p → Any (IsNear other.radius p) other.centres
 covered count points other fits p m = All-contains (λ p. Any (IsNear other.radius p) other.centres) points p fits.near m
 
--- reads at one place of a list are the same
+-- reads at one index of a list are the same
 same_read : {X : Type 0} (xs : List X) (i j : ℕ) (x y : X) → i ≡ j → i < length xs → slice_index_or xs i x ≡ x → slice_index_or xs j y ≡ y → x ≡ y
 same_read xs i j x y e l hx hy = sym hx ∙ get_or_default xs i x y l ∙ subst (λ k. slice_index_or xs k y ≡ y) (sym e) hy
 
@@ -98,16 +98,16 @@ no_leaf = record { first = 0; second = 0 }
 
 -- points of few colours have no leaves of the next side
 no_leaves : (t count : ℕ) (points : List PlanePoint) (colour : Colouring points) (leaves : List Leaf) → 1 ≤ count → count ≤ 3 → IsColoured t count points colour → ¬ AreLeaves (suc t) count points leaves
-no_leaves t count points colour leaves some few h held =
+no_leaves t count points colour leaves some few h contained =
     let near = some_leaf_is_near t count points colour some few h in
-    let leaf = held.1 near.0 no_leaf (subst (λ n. near.0 < n) (sym held.0) near.1) in
+    let leaf = contained.1 near.0 no_leaf (subst (λ n. near.0 < n) (sym contained.0) near.1) in
     near.2 _ _ leaf.first leaf.second leaf.far
 
 -- no cover by as many squares is smaller than the size
 none_smaller : (count : ℕ) (points : List PlanePoint) (a : CentresAnswer) → PassesCentres count points a → (other : Cover) → FitsCentres count points other → IsAtMost a.size (centres_size other)
 none_smaller count points a h other fits =
     by_lt_z (other.radius.n *ℤ a.size.d) (a.size.n *ℤ other.radius.d)
-    (λ less. absurd (refused (side a.size) (side_is_twice a.size h.places.size.lowest.not_negative.numerator h.halves) h.leaves less)) (λ at_most. at_most)
+    (λ less. absurd (refused (side a.size) (side_is_twice a.size h.ranges.size.lowest.not_negative.numerator h.halves) h.leaves less)) (λ at_most. at_most)
   where
     no_size : (N D n d : ℤ) → pos 0 *ℤ D ≡ pos 2 *ℤ N → pos 0 ≤ℤ (n *ℤ D) → (n *ℤ D) <ℤ (N *ℤ d) → ⊥
     no_size N D n d e h less = negative (n *ℤ D) h (subst (λ N. (n *ℤ D) <ℤ (N *ℤ d)) (zero_is N D e) less)
@@ -119,12 +119,12 @@ none_smaller count points a h other fits =
         negative x h l = omega (arith, ints)
 
     refused : (s : ℕ) → pos s *ℤ a.size.d ≡ pos 2 *ℤ a.size.n → AreLeaves s count points a.leaves → (other.radius.n *ℤ a.size.d) <ℤ (a.size.n *ℤ other.radius.d) → ⊥
-    refused zero twice leaves less = no_size a.size.n a.size.d other.radius.n other.radius.d twice (nonneg_mul fits.radius.numerator (nonneg_from_one h.places.size.lowest.not_negative.denominator)) less
+    refused zero twice leaves less = no_size a.size.n a.size.d other.radius.n other.radius.d twice (nonneg_mul fits.radius.numerator (nonneg_from_one h.ranges.size.lowest.not_negative.denominator)) less
     refused (suc t) twice leaves less =
-        no_leaves t count points (λ p m. (covered count points other fits p m).0) a.leaves (subst (λ k. 1 ≤ k) h.covers.as_many h.places.square_count.at_least) (subst (λ k. k ≤ 3) h.covers.as_many h.places.square_count.at_most)
-        (cover_colours count points a.size t h.places.size.lowest.not_negative.denominator twice other fits less) leaves
+        no_leaves t count points (λ p m. (covered count points other fits p m).0) a.leaves (subst (λ k. 1 ≤ k) h.covers.as_many h.ranges.square_count.at_least) (subst (λ k. k ≤ 3) h.covers.as_many h.ranges.square_count.at_most)
+        (cover_colours count points a.size t h.ranges.size.lowest.not_negative.denominator twice other fits less) leaves
 
 -- centres that pass have the least radius
 pub centres_law : PassingCentresAreBest
 centres_law count points a h =
-    smallest_by_printed (FitsCentres count points) centres_size (centres_denominator count points) (cover_of a) a.size h.covers (printed_as_is a.size h.places.size.lowest) (none_smaller count points a h)
+    smallest_by_printed (FitsCentres count points) centres_size (centres_denominator count points) (cover_of a) a.size h.covers (printed_as_is a.size h.ranges.size.lowest) (none_smaller count points a h)

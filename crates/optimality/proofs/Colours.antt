@@ -8,7 +8,7 @@ use Rattle.std.proofs.lemmas.List.Elements.{All-contains, All-filter, All-contai
 use Rattle.integers.specs.Extremes.{greatest, least}
 use Rattle.integers.proofs.Extremes.{has_greatest, has_least}
 use Rattle.bounds_model.specs.Plane.{PlanePoint}
-use Rattle.bounds_model.specs.CentresAnswer.{holds, outside, corner_square}
+use Rattle.bounds_model.specs.CentresAnswer.{contains, outside, corner_square}
 use Rattle.model_laws.proofs.Decisions.{false-not_true}
 use Rattle.optimality.proofs.CornerSquares.{x_of, y_of, near_lowest, near_highest, within_a_side, lower_left, lower_right, upper_left, upper_right}
 
@@ -19,7 +19,7 @@ pub record AreNear (side : ℕ) (p q : PlanePoint) : Type 0 where
   pub in_x : (p.x -ℤ q.x) ≤ℤ pos side
   pub in_y : (p.y -ℤ q.y) ≤ℤ pos side
 
--- a colour for each point of a list, at each of its places
+-- a colour for each point of a list, at each of its ranges
 abbrev pub Colouring : List PlanePoint → Type 0
 Colouring ps = (p : PlanePoint) → Contains ps p → ℕ
 
@@ -36,7 +36,7 @@ record IsFilled (side count : ℕ) (ps : List PlanePoint) (colour : Colouring ps
   four : corner < 4
   chosen : ℕ
   below : chosen < count
-  fills : (p : PlanePoint) (m : Contains ps p) → colour p m ≡ chosen → holds (corner_square side corner ps) p ≡ true
+  fills : (p : PlanePoint) (m : Contains ps p) → colour p m ≡ chosen → contains (corner_square side corner ps) p ≡ true
 
 -- a point on each side of the bounding box
 record Extremes (ps : List PlanePoint) : Type 0 where
@@ -128,7 +128,7 @@ filled_by side count ps colour c e (bottom_top same) = record {
       (within_a_side side y_of ps p e.bottom.0 e.top.0 m e.bottom.2 e.top.2 (c.near e.top.0 e.bottom.0 e.top.1 e.bottom.1 (sym same)).in_y);
 }
 
--- so with up to three colours, a corner's square holds all points of one
+-- so with up to three colours, a corner's square contains all points of one
 fills_a_corner : (side count : ℕ) (ps : List PlanePoint) (colour : Colouring ps) → count ≤ 3 → IsColoured side count ps colour → Extremes ps → IsFilled side count ps colour
 fills_a_corner side count ps colour few c e =
     filled_by side count ps colour c e
@@ -136,7 +136,7 @@ fills_a_corner side count ps colour few c e =
 
 -- ---- one colour fewer
 
--- the colour j takes the place of the colour c, which falls away
+-- the colour j replaces the colour c, which falls away
 abbrev recolour : ℕ → ℕ → ℕ → ℕ
 recolour j c x = if x == c then j else x
 
@@ -181,17 +181,17 @@ fewer_by_filled side c ps colour h f = record {
     rest = outside (corner_square side f.corner ps) ps
 
     listed : (p : PlanePoint) → Contains rest p → Contains ps p
-    listed p m = All-contains (Contains ps) rest p (All-filter (λ q. not (holds (corner_square side f.corner ps) q)) (Contains ps) ps (All-contains_itself ps)) m
+    listed p m = All-contains (Contains ps) rest p (All-filter (λ q. not (contains (corner_square side f.corner ps) q)) (Contains ps) ps (All-contains_itself ps)) m
 
-    not_held : (p : PlanePoint) → Contains rest p → not (holds (corner_square side f.corner ps) p) ≡ true
-    not_held p m = All-contains (λ q. not (holds (corner_square side f.corner ps) q) ≡ true) rest p (filter_passes (λ q. not (holds (corner_square side f.corner ps) q)) ps) m
+    not_contained : (p : PlanePoint) → Contains rest p → not (contains (corner_square side f.corner ps) p) ≡ true
+    not_contained p m = All-contains (λ q. not (contains (corner_square side f.corner ps) q) ≡ true) rest p (filter_passes (λ q. not (contains (corner_square side f.corner ps) q)) ps) m
 
     not_both : (b : Bool) → b ≡ true → not b ≡ true → ⊥
     not_both true e f = cc
     not_both false e f = cc
 
     other : (p : PlanePoint) (m : Contains rest p) → colour p (listed p m) ≢ f.chosen
-    other p m e = not_both (holds (corner_square side f.corner ps) p) (f.fills p (listed p m) e) (not_held p m)
+    other p m e = not_both (contains (corner_square side f.corner ps) p) (f.fills p (listed p m) e) (not_contained p m)
 
 -- and so some corner's square leaves one colour fewer of up to three
 pub fewer : (side c : ℕ) (ps : List PlanePoint) (colour : Colouring ps) → suc c ≤ 3 → IsColoured side (suc c) ps colour → HasFewer side c ps

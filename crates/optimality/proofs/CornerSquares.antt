@@ -6,10 +6,10 @@ use Rattle.std.proofs.lemmas.List.Elements.{All-contains}
 use Rattle.integers.specs.Extremes.{greatest, least}
 use Rattle.integers.proofs.Extremes.{below_greatest, above_least}
 use Rattle.bounds_model.specs.Plane.{PlanePoint}
-use Rattle.bounds_model.specs.CentresAnswer.{Square, holds, corner_square}
+use Rattle.bounds_model.specs.CentresAnswer.{Square, contains, corner_square}
 use Rattle.model_laws.proofs.Decisions.{both, most_ℤ}
 
--- the horizontal place of a point
+-- the x of a point
 abbrev pub x_of : PlanePoint → ℤ
 x_of p = p.x
 
@@ -52,21 +52,21 @@ within_a_side side f ps p lowest highest listed e g h = near_lowest side f ps p 
     less v g l h e k m = omega (arith, ints)
 
 -- a square holds what lies between its sides
-held : (s : Square) (p : PlanePoint) → s.left ≤ℤ p.x → p.x ≤ℤ (s.left +ℤ pos s.side) → s.bottom ≤ℤ p.y → p.y ≤ℤ (s.bottom +ℤ pos s.side) → holds s p ≡ true
-held s p l r b t = (both (both (both (most_ℤ s.left p.x) (most_ℤ p.x (s.left +ℤ pos s.side))) (most_ℤ s.bottom p.y)) (most_ℤ p.y (s.bottom +ℤ pos s.side))).law.1 (((l, r), b), t)
+contained : (s : Square) (p : PlanePoint) → s.left ≤ℤ p.x → p.x ≤ℤ (s.left +ℤ pos s.side) → s.bottom ≤ℤ p.y → p.y ≤ℤ (s.bottom +ℤ pos s.side) → contains s p ≡ true
+contained s p l r b t = (both (both (both (most_ℤ s.left p.x) (most_ℤ p.x (s.left +ℤ pos s.side))) (most_ℤ s.bottom p.y)) (most_ℤ p.y (s.bottom +ℤ pos s.side))).law.1 (((l, r), b), t)
 
 -- the square in the lower left corner holds what is at the low end both ways
-pub lower_left : (side : ℕ) (ps : List PlanePoint) (p : PlanePoint) → IsAtLowEnd side x_of ps p → IsAtLowEnd side y_of ps p → holds (corner_square side 0 ps) p ≡ true
-lower_left side ps p h k = held (corner_square side 0 ps) p h.from h.to k.from k.to
+pub lower_left : (side : ℕ) (ps : List PlanePoint) (p : PlanePoint) → IsAtLowEnd side x_of ps p → IsAtLowEnd side y_of ps p → contains (corner_square side 0 ps) p ≡ true
+lower_left side ps p h k = contained (corner_square side 0 ps) p h.from h.to k.from k.to
 
 -- the lower right one
-pub lower_right : (side : ℕ) (ps : List PlanePoint) (p : PlanePoint) → IsAtHighEnd side x_of ps p → IsAtLowEnd side y_of ps p → holds (corner_square side 1 ps) p ≡ true
-lower_right side ps p h k = held (corner_square side 1 ps) p h.from h.to k.from k.to
+pub lower_right : (side : ℕ) (ps : List PlanePoint) (p : PlanePoint) → IsAtHighEnd side x_of ps p → IsAtLowEnd side y_of ps p → contains (corner_square side 1 ps) p ≡ true
+lower_right side ps p h k = contained (corner_square side 1 ps) p h.from h.to k.from k.to
 
 -- the upper left one
-pub upper_left : (side : ℕ) (ps : List PlanePoint) (p : PlanePoint) → IsAtLowEnd side x_of ps p → IsAtHighEnd side y_of ps p → holds (corner_square side 2 ps) p ≡ true
-upper_left side ps p h k = held (corner_square side 2 ps) p h.from h.to k.from k.to
+pub upper_left : (side : ℕ) (ps : List PlanePoint) (p : PlanePoint) → IsAtLowEnd side x_of ps p → IsAtHighEnd side y_of ps p → contains (corner_square side 2 ps) p ≡ true
+upper_left side ps p h k = contained (corner_square side 2 ps) p h.from h.to k.from k.to
 
 -- and the upper right one
-pub upper_right : (side : ℕ) (ps : List PlanePoint) (p : PlanePoint) → IsAtHighEnd side x_of ps p → IsAtHighEnd side y_of ps p → holds (corner_square side 3 ps) p ≡ true
-upper_right side ps p h k = held (corner_square side 3 ps) p h.from h.to k.from k.to
+pub upper_right : (side : ℕ) (ps : List PlanePoint) (p : PlanePoint) → IsAtHighEnd side x_of ps p → IsAtHighEnd side y_of ps p → contains (corner_square side 3 ps) p ≡ true
+upper_right side ps p h k = contained (corner_square side 3 ps) p h.from h.to k.from k.to

@@ -68,7 +68,7 @@ pulled ps qs a h =
     let in_ps : All (λ pair. pair.first < length ps) a.pairs = λ i d l. (h.numbers i d l).0 in
     let in_qs : All (λ pair. pair.second < length qs) a.pairs = λ i d l. (h.numbers i d l).1 in
     record {
-      weight = at_least_one (total_positive (λ (pair : WeightedPair). pair.weight) a.pairs h.places.count.at_least (λ i d l. positive_from_one (h.weights i d l)));
+      weight = at_least_one (total_positive (λ (pair : WeightedPair). pair.weight) a.pairs h.ranges.count.at_least (λ i d l. positive_from_one (h.weights i d l)));
       first_sum = total_of_pairs (λ pair. pair.first) ps a.pairs in_ps;
       second_sum = total_of_pairs (λ pair. pair.second) qs a.pairs in_qs;
       apart = (λ i. vector (weighted_of_pairs (λ pair. pair.second) qs a.pairs in_qs i) (weighted_of_pairs (λ pair. pair.first) ps a.pairs in_ps i)) ∙ sym (pull_is_difference ps qs a.pairs);
@@ -94,7 +94,7 @@ distance_prints ps qs a h =
     let p = pulled ps qs a h in
     let between = vector (weighted (weights_of ps qs a).second qs) (weighted (weights_of ps qs a).first ps) in
     record {
-      lowest = h.places.size.lowest;
+      lowest = h.ranges.size.lowest;
       same = subst (λ w. a.size.n *ℤ (w *ℤ w) ≡ squared_length between *ℤ a.size.d) (sym p.first_sum)
           (subst (λ v. a.size.n *ℤ (pair_sum a.pairs *ℤ pair_sum a.pairs) ≡ squared_length v *ℤ a.size.d) (sym p.apart)
           (plain a.size.n a.size.d (pair_sum a.pairs) (first_product ps qs a.pairs) (squared_length (pull ps qs a.pairs)) h.size p.square));
@@ -178,7 +178,7 @@ none_smaller ps qs a h other fits =
     let e = first_product ps qs a.pairs in
     let w = total (λ w. w) other.first in
     let x = vector (weighted other.second qs) (weighted other.first ps) in
-    plain a.size.n a.size.d (pair_sum a.pairs) w e (squared_length v) (squared_length x) p.weight h.places.size.lowest.not_negative.denominator h.size p.square
+    plain a.size.n a.size.d (pair_sum a.pairs) w e (squared_length v) (squared_length x) p.weight h.ranges.size.lowest.not_negative.denominator h.size p.square
     (shadow (pair_sum a.pairs) w e v.x v.y v.z x.x x.y x.z (nonneg_from_one p.weight) (nonneg_from_one fits.sum) p.square (hulls_apart ps qs v e other fits h.no_smaller))
   where
     plain : (N D W w e VV XX : ℤ) → pos 1 ≤ℤ W → pos 1 ≤ℤ D → N *ℤ W ≡ e *ℤ D → VV ≡ W *ℤ e → (VV *ℤ (w *ℤ w)) ≤ℤ (XX *ℤ (W *ℤ W)) → (N *ℤ (w *ℤ w)) ≤ℤ (XX *ℤ D)

@@ -18,7 +18,7 @@ use Rattle.optimality.proofs.ClosestValues.{ClosestBelow, ClosestAbove, closest_
 
 -- ---- the gap around an open rectangle
 
--- the heights closest to the rectangle from below and from above, and between them the places closest to it from the left and from the right
+-- the heights closest to the rectangle from below and from above, and between them the ranges closest to it from the left and from the right
 record Gap (frame : Box) (points : List PlanePoint) (other : EmptyRectangle) : Type 0 where
   bottom : ClosestBelow points (IsStrictlyInside frame) (λ p. p.y) other.w other.box.bottom frame.bottom
   top : ClosestAbove points (IsStrictlyInside frame) (λ p. p.y) other.w other.box.top frame.top
@@ -106,7 +106,7 @@ flat_not_larger D B s t h e = (subst (λ v. (v *ℤ t *ℤ D) ≤ℤ B) (sym e) 
 -- no rectangle that fits is larger than the size
 none_larger : (frame : Box) (points : List PlanePoint) (a : EmptyAnswer) → PassesEmpty frame points a → (other : EmptyRectangle) → FitsEmpty frame points other → IsAtMost (empty_size other) a.size
 none_larger frame points a h other fits =
-    let size = h.places.size.lowest.not_negative in
+    let size = h.ranges.size.lowest.not_negative in
     let bound = nonneg_mul size.numerator (square_nonneg other.w) in
     by_lt_z other.box.left other.box.right
     (λ wide. by_lt_z other.box.bottom other.box.top
@@ -136,4 +136,4 @@ empty_fits frame points a h = record {
 -- an empty rectangle that passes has the greatest area
 pub empty_law : PassingEmptyRectanglesAreBest
 empty_law frame points a h =
-    greatest_by_printed (FitsEmpty frame points) empty_size (empty_denominator frame points) (empty_of a) a.size (empty_fits frame points a h) (record { lowest = h.places.size.lowest; same = h.size }) (none_larger frame points a h)
+    greatest_by_printed (FitsEmpty frame points) empty_size (empty_denominator frame points) (empty_of a) a.size (empty_fits frame points a h) (record { lowest = h.ranges.size.lowest; same = h.size }) (none_larger frame points a h)

@@ -42,7 +42,7 @@ cone_around : {Cone : Type 0} (first last : PlanePoint) (directions : List Plane
 cone_around first last directions [] many some turns u h k = absurd (omega arith)
 cone_around first last directions (cone ∷ rest) many some turns u h k =
     let at_first : pos 0 ≤ℤ cross (point_at directions 0) u = subst (λ d. pos 0 ≤ℤ cross d u) (sym turns.begins) h in
-    let at_last : cross (point_at directions (suc (length rest))) u ≤ℤ pos 0 = subst (λ i. cross (point_at directions i) u ≤ℤ pos 0) last_place (subst (λ d. cross d u ≤ℤ pos 0) (sym turns.ends) k) in
+    let at_last : cross (point_at directions (suc (length rest))) u ≤ℤ pos 0 = subst (λ i. cross (point_at directions i) u ≤ℤ pos 0) last_index (subst (λ d. cross d u ≤ℤ pos 0) (sym turns.ends) k) in
     let found = comes_down (λ i. cross (point_at directions i) u) (length rest) at_first at_last in
     record {
       number = found.0;
@@ -54,8 +54,8 @@ cone_around first last directions (cone ∷ rest) many some turns u h k =
       };
     }
   where
-    last_place : length directions - 1 ≡ suc (length rest)
-    last_place = omega (arith, many)
+    last_index : length directions - 1 ≡ suc (length rest)
+    last_index = omega (arith, many)
 
     below : {i n : ℕ} → i ≤ n → i < suc n
     below h = omega arith

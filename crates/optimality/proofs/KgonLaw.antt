@@ -57,7 +57,7 @@ one_more_corner u t v f D B pD h k =
 along_corners : (k : ℕ) (points : List PlanePoint) (answer : KgonAnswer) → PassesKgon k points answer → (a layer b : ℕ) (rest : List ℕ) → a < b → IsStrictlyIncreasing (b ∷ rest) → All (λ i. i < length answer.corners) (b ∷ rest) → layer + length rest ≤ answer.layers
     → ((potential answer a layer b +ℤ triangulated_area (point_at (corner_points points answer) a) (map (point_at (corner_points points answer)) (b ∷ rest))) *ℤ answer.size.d) ≤ℤ (pos 2 *ℤ answer.size.n)
 along_corners k points answer h a layer b [] first rises inside count =
-    no_more (potential answer a layer b) answer.size.d (pos 2 *ℤ answer.size.n) (potential_below answer a layer b answer.size.d (pos 2 *ℤ answer.size.n) (twice_nonneg h.places.size.lowest.not_negative.numerator) h.under_size)
+    no_more (potential answer a layer b) answer.size.d (pos 2 *ℤ answer.size.n) (potential_below answer a layer b answer.size.d (pos 2 *ℤ answer.size.n) (twice_nonneg h.ranges.size.lowest.not_negative.numerator) h.under_size)
   where
     no_more : (u D B : ℤ) → (u *ℤ D) ≤ℤ B → ((u +ℤ pos 0) *ℤ D) ≤ℤ B
     no_more u D B h = subst (λ v. (v *ℤ D) ≤ℤ B) (let e : u ≡ u +ℤ pos 0 = omega (arith, ints) in e) h
@@ -66,7 +66,7 @@ along_corners k points answer h a layer b (c ∷ rest) first rises inside count 
     let Is_corner = λ (i : ℕ). i < length answer.corners in
     let next = rising-uncons b c rest rises in
     let others = All-tail Is_corner b (c ∷ rest) inside in
-    one_more_corner (potential answer a layer b) (turn (point_at corners a) (point_at corners b) (point_at corners c)) (potential answer a (layer + 1) c) (triangulated_area (point_at corners a) (map (point_at corners) (c ∷ rest))) answer.size.d (pos 2 *ℤ answer.size.n) (nonneg_from_one h.places.size.lowest.not_negative.denominator)
+    one_more_corner (potential answer a layer b) (turn (point_at corners a) (point_at corners b) (point_at corners c)) (potential answer a (layer + 1) c) (triangulated_area (point_at corners a) (map (point_at corners) (c ∷ rest))) answer.size.d (pos 2 *ℤ answer.size.n) (nonneg_from_one h.ranges.size.lowest.not_negative.denominator)
     (h.grows c (All-head Is_corner c rest others) b next.0 a first layer (in_layers count))
     (along_corners k points answer h a (layer + 1) c rest (before first next.0) next.1 others (one_layer_up count))
   where
@@ -82,8 +82,8 @@ along_corners k points answer h a layer b (c ∷ rest) first rises inside count 
 -- so no polygon has more than twice the size
 area_below : (k : ℕ) (points : List PlanePoint) (a : KgonAnswer) → PassesKgon k points a → (positions : List ℕ) → FitsKgon k (corner_points points a) positions
     → (twice_area (map (point_at (corner_points points a)) positions) *ℤ a.size.d) ≤ℤ (pos 2 *ℤ a.size.n)
-area_below k points a h [] fits = zero_below a.size.d (pos 2 *ℤ a.size.n) (twice_nonneg h.places.size.lowest.not_negative.numerator)
-area_below k points a h (i ∷ []) fits = zero_below a.size.d (pos 2 *ℤ a.size.n) (twice_nonneg h.places.size.lowest.not_negative.numerator)
+area_below k points a h [] fits = zero_below a.size.d (pos 2 *ℤ a.size.n) (twice_nonneg h.ranges.size.lowest.not_negative.numerator)
+area_below k points a h (i ∷ []) fits = zero_below a.size.d (pos 2 *ℤ a.size.n) (twice_nonneg h.ranges.size.lowest.not_negative.numerator)
 area_below k points a h (i ∷ j ∷ rest) fits =
     let next = rising-uncons i j rest fits.rising in
     subst (λ v. (v *ℤ a.size.d) ≤ℤ (pos 2 *ℤ a.size.n)) (from_zero _)
@@ -105,7 +105,7 @@ pub kgon_law : PassingKgonsAreBest
 kgon_law k points a h = (
   h.numbers,
   passing_kgon k points a h,
-  greatest_by_printed (FitsKgon k (corner_points points a)) (kgon_size (corner_points points a)) (λ o f. two) a.chosen a.size h.chosen (record { lowest = h.places.size.lowest; same = h.size })
+  greatest_by_printed (FitsKgon k (corner_points points a)) (kgon_size (corner_points points a)) (λ o f. two) a.chosen a.size h.chosen (record { lowest = h.ranges.size.lowest; same = h.size })
       (λ other fits. exchanged (twice_area (map (point_at (corner_points points a)) other)) a.size.n a.size.d (area_below k points a h other fits)),
 )
   where

@@ -78,8 +78,8 @@ at_end points a h w E v pw pE narrow i cone listed forward small =
     let d = point_at (half_directions a.fan) i in
     let chord = slice_index_or a.chords i no_chord in
     let names = h.chord_numbers i no_chord listed in
-    let placed = h.places.chords i no_chord listed in
-    let size = h.places.size.lowest.not_negative in
+    let placed = h.ranges.chords i no_chord listed in
+    let size = h.ranges.size.lowest.not_negative in
     let in_strip = λ (u : PlanePoint) (n : IsNarrow points w E u). chord_in_strip points w E u d chord placed.beta.low placed.gamma.low names.0 names.1 names.2 (h.across i no_chord listed) n in
     at_direction a.size.n a.size.d E w (chord.beta +ℤ chord.gamma) (reach points d cone.high cone.low) (pos (nat_abs chord.k)) (cross d v) size.numerator (nonneg_from_one size.denominator) pE pw (h.short_chords i no_chord listed).some forward
     (by_magnitude chord.k (λ K. (w *ℤ (K *ℤ cross d v)) ≤ℤ ((chord.beta +ℤ chord.gamma) *ℤ E)) (in_strip v narrow) (other_way w chord.k d.x d.y v.x v.y _ (in_strip (opposite v) (narrow_back points w E v narrow))))
@@ -108,7 +108,7 @@ between_ends points a w E v cone d e u between at_d at_e =
 
 -- ---- every pair of normals
 
--- with the extent F of a strip with normal u in place of its reach
+-- with the extent F of a strip with normal u instead of its reach
 with_extent : (N D E F w r x : ℤ) → pos 0 ≤ℤ D → pos 0 ≤ℤ E → pos 0 ≤ℤ w → (N *ℤ w *ℤ x) ≤ℤ (r *ℤ D *ℤ E) → (w *ℤ r) ≤ℤ F → (N *ℤ (w *ℤ w *ℤ x)) ≤ℤ (F *ℤ E *ℤ D)
 with_extent N D E F w r x pD pE pw h k =
     le_by (nonneg_add (nonneg_mul pw (nonneg_difference h)) (nonneg_mul (nonneg_mul pD pE) (nonneg_difference k)))
@@ -121,7 +121,7 @@ EachIsLarge points a w F E u = (v : PlanePoint) → IsNarrow points w F u → Is
 -- it is so for a first normal that does not point down, by the cone that it lies in
 upper_is_large : (points : List PlanePoint) (a : ParallelogramAnswer) → PassesParallelogram points a → (w F E : ℤ) → pos 0 ≤ℤ w → pos 0 ≤ℤ E → (u : PlanePoint) → pos 0 ≤ℤ u.y → EachIsLarge points a w F E u
 upper_is_large points a h w F E pw pE u up v narrow_u narrow_v =
-    let around = half_cone_around points a.fan h.places.fan.count.at_least h.fan u up in
+    let around = half_cone_around points a.fan h.ranges.fan.count.at_least h.fan u up in
     let i = around.number in
     let cone = slice_index_or a.fan.cones i no_cone in
     let d = point_at (half_directions a.fan) i in
@@ -130,10 +130,10 @@ upper_is_large points a h w F E pw pE u up v narrow_u narrow_v =
     let extreme = h.fan.extremes i no_cone around.listed in
     let small = h.not_smaller i no_cone around.listed in
     let many = length-directions (λ (cone : HalfCone). cone.direction) a.fan.cones a.fan.last in
-    let chords = chord_of_both i around.listed h.places.chord_for_each many in
+    let chords = chord_of_both i around.listed h.ranges.chord_for_each many in
     let at_d = at_end points a h w E v pw pE narrow_v i cone chords.0 (reach_nonneg points d cone.high cone.low names.1 extreme.0) small.0 in
     let at_e = at_end points a h w E v pw pE narrow_v (i + 1) cone chords.1 (reach_nonneg points e cone.high cone.low names.1 extreme.1) small.1 in
-    with_extent a.size.n a.size.d E F w (reach points u cone.high cone.low) (cross u v) (nonneg_from_one h.places.size.lowest.not_negative.denominator) pE pw
+    with_extent a.size.n a.size.d E F w (reach points u cone.high cone.low) (cross u v) (nonneg_from_one h.ranges.size.lowest.not_negative.denominator) pE pw
     (between_ends points a w E v cone d e u around.between at_d at_e)
     (narrow_u cone.high cone.low names.0 names.1)
   where
@@ -171,7 +171,7 @@ none_smaller points a h other fits =
 parallelogram_fits : (points : List PlanePoint) (a : ParallelogramAnswer) → PassesParallelogram points a → FitsParallelogram points (parallelogram_of a)
 parallelogram_fits points a h =
     let cone = slice_index_or a.fan.cones 0 no_cone in
-    let named = (h.fan.numbers 0 no_cone (some h.places.fan.count.at_least)).0 in
+    let named = (h.fan.numbers 0 no_cone (some h.ranges.fan.count.at_least)).0 in
     record {
       normals = h.normals;
       first_bounds = span_in_order (h.inside_first cone.high origin named);
@@ -187,4 +187,4 @@ parallelogram_fits points a h =
 -- a parallelogram that passes has the least area
 pub parallelogram_law : PassingParallelogramsAreBest
 parallelogram_law points a h =
-    smallest_by_printed (FitsParallelogram points) parallelogram_size (parallelogram_denominator points) (parallelogram_of a) a.size (parallelogram_fits points a h) (record { lowest = h.places.size.lowest; same = h.size }) (none_smaller points a h)
+    smallest_by_printed (FitsParallelogram points) parallelogram_size (parallelogram_denominator points) (parallelogram_of a) a.size (parallelogram_fits points a h) (record { lowest = h.ranges.size.lowest; same = h.size }) (none_smaller points a h)

@@ -45,7 +45,7 @@ dot-turned d k = plain d.x d.y k.x k.y
 -- so it is along a direction that points neither down nor to the left, by the cone that it lies in
 first_is_large : (points : List PlanePoint) (a : RectangleAnswer) → PassesRectangle points a → (u : PlanePoint) → pos 0 ≤ℤ u.x → pos 0 ≤ℤ u.y → IsLarge points a.size u
 first_is_large points a h u right up =
-    let around = quarter_cone_around points a.fan h.places.fan.count.at_least h.fan u right up in
+    let around = quarter_cone_around points a.fan h.ranges.fan.count.at_least h.fan u right up in
     let i = around.number in
     let cone = slice_index_or a.fan.cones i no_cone in
     let d = point_at (quarter_directions a.fan) i in
@@ -73,7 +73,7 @@ first_is_large points a h u right up =
       along = dot_between d e u long around.between long_d long_e;
       across = subst Not_below (sym (dot-turned u broad)) (dot_between d e u (turned_right broad) around.between broad_d broad_e);
       large = subst (Reaches u) (sym (dot-turned u broad))
-          (product_between a.size.n a.size.d d e u long (turned_right broad) h.places.size.lowest.not_negative.numerator (nonneg_from_one h.places.size.lowest.not_negative.denominator) around.between long_d broad_d long_e broad_e (subst (Reaches d) (dot-turned d broad) small.0) (subst (Reaches e) (dot-turned e broad) small.1));
+          (product_between a.size.n a.size.d d e u long (turned_right broad) h.ranges.size.lowest.not_negative.numerator (nonneg_from_one h.ranges.size.lowest.not_negative.denominator) around.between long_d broad_d long_e broad_e (subst (Reaches d) (dot-turned d broad) small.0) (subst (Reaches e) (dot-turned e broad) small.1));
     }
 
 -- turned by a right angle, the four points change their parts
@@ -106,7 +106,7 @@ none_smaller : (points : List PlanePoint) (a : RectangleAnswer) → PassesRectan
 none_smaller points a h other fits =
     let u = other.direction in
     let w = each_is_large points a h u in
-    extents_at_least a.size.n a.size.d (squared_length u) (reach points u w.high w.low) (reach points (quarter_turn u) w.over w.under) (extent other.along) (extent other.across) other.w (nonneg_from_one h.places.size.lowest.not_negative.denominator) (nonneg_from_one fits.denominator) w.along w.across
+    extents_at_least a.size.n a.size.d (squared_length u) (reach points u w.high w.low) (reach points (quarter_turn u) w.over w.under) (extent other.along) (extent other.across) other.w (nonneg_from_one h.ranges.size.lowest.not_negative.denominator) (nonneg_from_one fits.denominator) w.along w.across
     (reach_in_span points other.w u other.along fits.inside_along w.high w.low w.in_high w.in_low)
     (reach_in_span points other.w (quarter_turn u) other.across fits.inside_across w.over w.under w.in_over w.in_under) w.large
 
@@ -126,4 +126,4 @@ rectangle_fits points a h =
 -- a rectangle that passes has the least area
 pub rectangle_law : PassingRectanglesAreBest
 rectangle_law points a h =
-    smallest_by_printed (FitsRectangle points) rectangle_size (rectangle_denominator points) (rectangle_of a) a.size (rectangle_fits points a h) (record { lowest = h.places.size.lowest; same = h.size }) (none_smaller points a h)
+    smallest_by_printed (FitsRectangle points) rectangle_size (rectangle_denominator points) (rectangle_of a) a.size (rectangle_fits points a h) (record { lowest = h.ranges.size.lowest; same = h.size }) (none_smaller points a h)

@@ -32,7 +32,7 @@ no_cone = record { direction = origin; high = 0; low = 0 }
 -- so it is along a direction that does not point down, by the cone that it lies in
 upper_is_wide : (points : List PlanePoint) (a : StripAnswer) → PassesStrip points a → (u : PlanePoint) → pos 0 ≤ℤ u.y → IsWide points a.size u
 upper_is_wide points a h u up =
-    let around = half_cone_around points a.fan h.places.fan.count.at_least h.fan u up in
+    let around = half_cone_around points a.fan h.ranges.fan.count.at_least h.fan u up in
     let i = around.number in
     let cone = slice_index_or a.fan.cones i no_cone in
     let d = point_at (half_directions a.fan) i in
@@ -49,7 +49,7 @@ upper_is_wide points a h u up =
       in_high = names.0;
       in_low = names.1;
       forward = dot_between d e u across around.between at_d at_e;
-      wide = product_between a.size.n a.size.d d e u across across h.places.size.lowest.not_negative.numerator (nonneg_from_one h.places.size.lowest.not_negative.denominator) around.between at_d at_d at_e at_e thin.0 thin.1;
+      wide = product_between a.size.n a.size.d d e u across across h.ranges.size.lowest.not_negative.numerator (nonneg_from_one h.ranges.size.lowest.not_negative.denominator) around.between at_d at_d at_e at_e thin.0 thin.1;
     }
 
 -- along the opposite direction the same two points reach as far
@@ -75,7 +75,7 @@ none_thinner : (points : List PlanePoint) (a : StripAnswer) → PassesStrip poin
 none_thinner points a h other fits =
     let w = each_is_wide points a h other.normal in
     let within = reach_in_span points other.w other.normal other.bounds fits.inside w.high w.low w.in_high w.in_low in
-    extents_at_least a.size.n a.size.d (squared_length other.normal) (reach points other.normal w.high w.low) (reach points other.normal w.high w.low) (extent other.bounds) (extent other.bounds) other.w (nonneg_from_one h.places.size.lowest.not_negative.denominator) (nonneg_from_one fits.denominator) w.forward w.forward within within w.wide
+    extents_at_least a.size.n a.size.d (squared_length other.normal) (reach points other.normal w.high w.low) (reach points other.normal w.high w.low) (extent other.bounds) (extent other.bounds) other.w (nonneg_from_one h.ranges.size.lowest.not_negative.denominator) (nonneg_from_one fits.denominator) w.forward w.forward within within w.wide
 
 -- the strip of the answer fits
 strip_fits : (points : List PlanePoint) (a : StripAnswer) → PassesStrip points a → FitsStrip points (strip_of a)
@@ -91,4 +91,4 @@ strip_fits points a h =
 -- a strip that passes is the thinnest
 pub strip_law : PassingStripsAreBest
 strip_law points a h =
-    smallest_by_printed (FitsStrip points) strip_size (strip_denominator points) (strip_of a) a.size (strip_fits points a h) (record { lowest = h.places.size.lowest; same = h.size }) (none_thinner points a h)
+    smallest_by_printed (FitsStrip points) strip_size (strip_denominator points) (strip_of a) a.size (strip_fits points a h) (record { lowest = h.ranges.size.lowest; same = h.size }) (none_thinner points a h)

@@ -14,7 +14,7 @@ use Rattle.corner_squares.specs.declared.bounds.Bounds.{Bounds}
 use Rattle.corner_squares.specs.Squares.{square_of, IsCovered, left_over}
 use Rattle.corner_squares.specs.Extents.{IsPlaneExtent, IsBox}
 use Rattle.corner_squares.specs.Trees.{AreLeavesAt, nodes}
-use Rattle.corner_squares.proofs.Holding.{between_sides}
+use Rattle.corner_squares.proofs.Covering.{between_sides}
 use Rattle.corner_squares.proofs.LeftOver.{Contains-left_over}
 use Rattle.corner_squares.proofs.Boxes.{left_over-corner}
 use Rattle.corner_squares.proofs.Trees.{AreBelowFirst, one_leaf, none_below, more_below, all_below}
@@ -23,15 +23,15 @@ use Rattle.p_centres.specs.Covers.{IsPlaced, IsCover, IsRefuted}
 
 -- ---- squares
 
--- what some squares hold, more squares hold
-pub held_by_more : (squares more : List Square) (p : PlanePoint) → IsCovered squares p → IsCovered (squares ++ more) p
-held_by_more squares more p h = (h.0, h.1, longer h.2, get_or_append_left squares more h.1 h.0 h.2 ∙ h.3, h.4)
+-- what some squares contain, more squares contain
+pub covered_by_more : (squares more : List Square) (p : PlanePoint) → IsCovered squares p → IsCovered (squares ++ more) p
+covered_by_more squares more p h = (h.0, h.1, longer h.2, get_or_append_left squares more h.1 h.0 h.2 ∙ h.3, h.4)
   where
     longer : {k : ℕ} → k < length squares → k < length (squares ++ more)
     longer l = let e = length-append squares more in omega (arith, l, e)
 
-held_by_last : (squares : List Square) (s : Square) (p : PlanePoint) → IsTrue (model.holds (square_of s) p) → IsCovered (squares ++ s ∷ []) p
-held_by_last squares s p h = (length squares, s, inside, get_or_push squares s s (length squares) refl, h)
+covered_by_last : (squares : List Square) (s : Square) (p : PlanePoint) → IsTrue (model.contains (square_of s) p) → IsCovered (squares ++ s ∷ []) p
+covered_by_last squares s p h = (length squares, s, inside, get_or_push squares s s (length squares) refl, h)
   where
     inside : length squares < length (squares ++ s ∷ [])
     inside = let e = length_push squares s in omega (arith, e)
@@ -56,7 +56,7 @@ is_placed side corner b s across up h =
     up_from : (v : ℤ) → pos 0 ≤ℤ ((v +ℤ pos side) +ℤ pos 200000) → neg_ℤ (pos 200000) ≤ℤ (v +ℤ pos side)
     up_from v h = omega (arith, ints, h)
 
--- and the placed squares with it are in their places
+-- and the placed squares with it are in their ranges
 pub placed_more : (points : List PlanePoint) (side corner i : ℕ) (squares placed_on pushed : List Square) (b : Bounds) (s : Square) → All (IsPlaced side) squares → IsBox points placed_on i b → IsCorner side corner b s
     → pushed ≡ squares ++ s ∷ [] → All (IsPlaced side) pushed
 placed_more points side corner i squares placed_on pushed b s placed box h is =
@@ -65,10 +65,10 @@ placed_more points side corner i squares placed_on pushed b s placed box h is =
 -- ---- a cover
 
 pub cover_now : (points : List PlanePoint) (side most : ℕ) (squares seen : List Square) → seen ≡ squares → length squares ≤ most → All (IsPlaced side) squares → All (IsCovered seen) points → IsCover points side most squares
-cover_now points side most squares seen is few placed held = record { few = few; placed = placed; held = subst (λ ss. All (IsCovered ss) points) is held }
+cover_now points side most squares seen is few placed covered = record { few = few; placed = placed; covered = subst (λ ss. All (IsCovered ss) points) is covered }
 
 pub cover_by_more : (points : List PlanePoint) (side m n : ℕ) (squares : List Square) → m ≤ n → IsCover points side m squares → IsCover points side n squares
-cover_by_more points side m n squares more h = record { few = (let f = h.few in omega (arith, f, more)); placed = h.placed; held = h.held }
+cover_by_more points side m n squares more h = record { few = (let f = h.few in omega (arith, f, more)); placed = h.placed; covered = h.covered }
 
 -- a square as wide as the box holds what is in it
 within : (low high v : ℤ) (side : ℕ) → high ≤ℤ (low +ℤ pos side) → (low ≤ℤ v) × (v ≤ℤ high) → (low ≤ℤ v) × (v ≤ℤ (low +ℤ pos side))
@@ -79,11 +79,11 @@ pub cover_with_one_more : (points : List PlanePoint) (side : ℕ) (squares pushe
 cover_with_one_more points side squares pushed b s placed box h is = subst (IsCover points side (length squares + 1)) (sym is) (record {
   few = (let e = length_push squares s in omega (arith, e));
   placed = placed_more points side 0 (length points) squares squares (squares ++ s ∷ []) b s placed box.0 h refl;
-  held = λ k d below. subst (IsCovered (squares ++ s ∷ [])) (get_or_default points k origin d below) (elim (box.0.across.inside k below) [
-    | inl held ↦ held_by_more squares (s ∷ []) (point_at points k) held
+  covered = λ k d below. subst (IsCovered (squares ++ s ∷ [])) (get_or_default points k origin d below) (elim (box.0.across.inside k below) [
+    | inl covered ↦ covered_by_more squares (s ∷ []) (point_at points k) covered
     | inr in_x ↦ elim (box.0.up.inside k below) [
-      | inl held ↦ held_by_more squares (s ∷ []) (point_at points k) held
-      | inr in_y ↦ held_by_last squares s (point_at points k) (in_square (point_at points k)
+      | inl covered ↦ covered_by_more squares (s ∷ []) (point_at points k) covered
+      | inr in_y ↦ covered_by_last squares s (point_at points k) (in_square (point_at points k)
           (within b.across.low b.across.high (point_at points k).x side box.1.in_x in_x) (within b.up.low b.up.high (point_at points k).y side box.1.in_y in_y))
     ]
   ]);
@@ -92,7 +92,7 @@ cover_with_one_more points side squares pushed b s placed box h is = subst (IsCo
     between : (v low high : ℤ) (wide : ℕ) → v ≡ low → wide ≡ side → (p : ℤ) → (low ≤ℤ p) × (p ≤ℤ (low +ℤ pos side)) → (v ≤ℤ p) × (p ≤ℤ (v +ℤ pos wide))
     between v low high wide e f p inside = let a = inside.0 in let b = inside.1 in (omega (arith, ints, e, a), omega (arith, ints, e, f, b))
 
-    in_square : (p : PlanePoint) → (b.across.low ≤ℤ p.x) × (p.x ≤ℤ (b.across.low +ℤ pos side)) → (b.up.low ≤ℤ p.y) × (p.y ≤ℤ (b.up.low +ℤ pos side)) → IsTrue (model.holds (square_of s) p)
+    in_square : (p : PlanePoint) → (b.across.low ≤ℤ p.x) × (p.x ≤ℤ (b.across.low +ℤ pos side)) → (b.up.low ≤ℤ p.y) × (p.y ≤ℤ (b.up.low +ℤ pos side)) → IsTrue (model.contains (square_of s) p)
     in_square p in_x in_y = (between_sides (square_of s) p).1 (between s.left b.across.low b.across.low s.side h.left h.wide p.x in_x, between s.bottom b.up.low b.up.low s.side h.bottom h.wide p.y in_y)
 
 -- ---- leaves

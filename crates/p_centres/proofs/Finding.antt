@@ -22,16 +22,16 @@ found : (points : List PlanePoint) (squares : List Square) (limit i : ℕ) (b : 
 found points squares limit i None h = h
 found points squares limit i (Some b) h = h.0
 
--- the box with a point more that no square holds
+-- the box with a point more that no square contains
 pub box_next : (points : List PlanePoint) (squares : List Square) (limit i : ℕ) (p : PlanePoint) (b : Option Bounds) (new : Bounds)
     → slice_get points i ≡ Some p → ¬ IsCovered squares p → IsInPlane p → IsFound points squares limit i b → Adds b p i new → IsBox points squares (i + 1) new
 box_next points squares limit i p b new there free plane was = same.box_more points squares i p b new there free plane (found points squares limit i b was)
 
--- nothing new where a square holds the point
+-- nothing new where a square contains the point
 pub found_same : (points : List PlanePoint) (squares : List Square) (limit i : ℕ) (p : PlanePoint) (b : Option Bounds)
     → slice_get points i ≡ Some p → IsCovered squares p → IsFound points squares limit i b → IsFound points squares limit (i + 1) b
-found_same points squares limit i p None there held was = same.found_same points squares i p None there held was
-found_same points squares limit i p (Some b) there held was = (same.found_same points squares i p (Some b) there held was.0, was.1)
+found_same points squares limit i p None there covered was = same.found_same points squares i p None there covered was
+found_same points squares limit i p (Some b) there covered was = (same.found_same points squares i p (Some b) there covered was.0, was.1)
 
 -- points at the ends of an extent that is longer than the limit are far apart
 far_ends : (of : PlanePoint → ℤ) (points : List PlanePoint) (squares : List Square) (i limit : ℕ) (e : Extent) (leaf : Leaf) → IsExtent of points squares i e → AreEnds limit e leaf
@@ -50,8 +50,8 @@ far_ends of points squares i limit e leaf h ends =
 -- what lies in an extent that is no longer than the limit is near
 near_inside : (of : PlanePoint → ℤ) (points : List PlanePoint) (squares : List Square) (limit i : ℕ) (e : Extent) → IsExtent of points squares i e → e.high ≤ℤ (e.low +ℤ pos limit) → AreNear of points squares limit i
 near_inside of points squares limit i e h no_longer j k j_seen k_seen = elim (h.inside j j_seen) [
-  | inl held ↦ inl held
-  | inr j_in ↦ elim (h.inside k k_seen) [ inl held ↦ inr (inl held) | inr k_in ↦ inr (inr (apart (of (point_at points j)) (of (point_at points k)) j_in k_in)) ]
+  | inl covered ↦ inl covered
+  | inr j_in ↦ elim (h.inside k k_seen) [ inl covered ↦ inr (inl covered) | inr k_in ↦ inr (inr (apart (of (point_at points j)) (of (point_at points k)) j_in k_in)) ]
 ]
   where
     apart : (a b : ℤ) → (e.low ≤ℤ a) × (a ≤ℤ e.high) → (e.low ≤ℤ b) × (b ≤ℤ e.high) → b ≤ℤ (a +ℤ pos limit)
@@ -88,9 +88,9 @@ first_ends : (of : PlanePoint → ℤ) (points : List PlanePoint) (squares : Lis
 first_ends of points squares i limit e leaf h ends =
     let far = far_ends of points squares i limit e leaf h ends in
     record {
-      least = λ k seen. elim (h.inside k seen) [ inl held ↦ inl held | inr inside ↦ inr (subst (λ v. v ≤ℤ of (point_at points k)) (sym far.0.has) inside.0) ];
+      least = λ k seen. elim (h.inside k seen) [ inl covered ↦ inl covered | inr inside ↦ inr (subst (λ v. v ≤ℤ of (point_at points k)) (sym far.0.has) inside.0) ];
       first_least = λ k sooner. subst (λ v. IsCovered squares (point_at points k) ⊎ (v <ℤ of (point_at points k))) (sym far.0.has) (h.low_first k (subst (λ n. k < n) ends.first sooner));
-      greatest = λ k seen. elim (h.inside k seen) [ inl held ↦ inl held | inr inside ↦ inr (subst (λ v. of (point_at points k) ≤ℤ v) (sym far.1.has) inside.1) ];
+      greatest = λ k seen. elim (h.inside k seen) [ inl covered ↦ inl covered | inr inside ↦ inr (subst (λ v. of (point_at points k) ≤ℤ v) (sym far.1.has) inside.1) ];
       first_greatest = λ k sooner. subst (λ v. IsCovered squares (point_at points k) ⊎ (of (point_at points k) <ℤ v)) (sym far.1.has) (h.high_first k (subst (λ n. k < n) ends.second sooner));
     }
 
@@ -130,8 +130,8 @@ far_pair points squares i limit p found b leaf was adds box (inr ends) =
     (inr (first_far (λ p. p.y) (λ p. p.x) points squares limit i (later (leaf_of leaf) + 1) b.up leaf box.up ends.0 now near.1 (subst (λ n. AreNear (λ p. p.x) points squares limit (n + 1)) (sym now) beside)))
 
 -- all points are seen
-pub all_held : (points : List PlanePoint) (squares : List Square) (i : ℕ) → length points ≤ i → ((k : ℕ) → k < i → IsCovered squares (point_at points k)) → All (IsCovered squares) points
-all_held points squares i all h = λ k d below. subst (IsCovered squares) (get_or_default points k origin d below) (h k (seen below))
+pub all_covered : (points : List PlanePoint) (squares : List Square) (i : ℕ) → length points ≤ i → ((k : ℕ) → k < i → IsCovered squares (point_at points k)) → All (IsCovered squares) points
+all_covered points squares i all h = λ k d below. subst (IsCovered squares) (get_or_default points k origin d below) (h k (seen below))
   where
     seen : {k : ℕ} → k < length points → k < i
     seen l = omega arith
@@ -164,4 +164,4 @@ found_all points squares limit i found b all is h =
     (box_of_all points squares i b all some.0, some.1)
 
 pub found_none : (points : List PlanePoint) (squares : List Square) (limit i : ℕ) (found : Option Bounds) → length points ≤ i → found ≡ None → IsFound points squares limit i found → All (IsCovered squares) points
-found_none points squares limit i found all is h = all_held points squares i all (subst (IsFound points squares limit i) is h)
+found_none points squares limit i found all is h = all_covered points squares i all (subst (IsFound points squares limit i) is h)

@@ -10,7 +10,7 @@ use Rattle.std.proofs.lemmas.Bool.Decides.{nat_tests}
 use Rattle.std.proofs.Math.Nat.{eq-one_of_dvd-one}
 use Rattle.bounds_model.specs.Fractions.{Fraction, IsLowest}
 use Rattle.bounds_model.specs.Numbers.{IsWithin}
-use Rattle.bounds_model.specs.Places.{IsFraction}
+use Rattle.bounds_model.specs.Ranges.{IsFraction}
 use Rattle.bounds_model.specs.CentresAnswer as model
 use Rattle.p_centres.specs.Squares.{half_of}
 
@@ -73,6 +73,6 @@ half-numbers side most = by_parity (side % 2 == 0)
     by_parity true = (record { low = omega (arith, ints); high = omega (arith, ints) }, record { low = omega (arith, ints); high = omega (arith, ints) })
     by_parity false = (record { low = omega (arith, ints); high = omega (arith, ints) }, record { low = omega (arith, ints); high = omega (arith, ints) })
 
--- and is in its place
-pub fraction_place : (side : ℕ) → side ≤ 400000 → IsFraction (half_of side)
-fraction_place side most = record { numerator = within_more (half-numbers side most).0 tt; denominator = within_more (half-numbers side most).1 tt; lowest = IsLowest-half side }
+-- and is in its range
+pub fraction_in_range : (side : ℕ) → side ≤ 400000 → IsFraction (half_of side)
+fraction_in_range side most = record { numerator = within_more (half-numbers side most).0 tt; denominator = within_more (half-numbers side most).1 tt; lowest = IsLowest-half side }

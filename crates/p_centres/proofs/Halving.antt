@@ -10,7 +10,7 @@ use Rattle.corner_squares.specs.declared.bounds.Bounds.{Bounds}
 use Rattle.corner_squares.specs.Extents.{IsBox}
 use Rattle.corner_squares.specs.Squares.{IsCovered}
 use Rattle.corner_squares.specs.Trees.{NamesPoints, AreLeavesAt, nodes}
-use Rattle.corner_squares.proofs.LeftOver.{none_held}
+use Rattle.corner_squares.proofs.LeftOver.{none_covered}
 use Rattle.corner_squares.proofs.Trees.{tree_leaves}
 use Rattle.p_centres.specs.declared.sides.Bracket.{Bracket}
 use Rattle.p_centres.specs.Surveys.{IsFirstFar}
@@ -45,9 +45,9 @@ one_try_less n first now then low high low_then high_then side h some is half mo
 pub steps_in_all : (n first now low high : ℕ) → HasTries n first now low high → now ≤ first + 421 * n
 steps_in_all n first now low high h = let s = h.steps in omega (arith, s)
 
--- some point is not held by no squares
-pub not_all_held : (points : List PlanePoint) → 1 ≤ length points → All (IsCovered []) points → ⊥
-not_all_held points some h = none_held _ (h 0 origin (omega (arith, some)))
+-- some point is not covered by no squares
+pub not_all_covered : (points : List PlanePoint) → 1 ≤ length points → All (IsCovered []) points → ⊥
+not_all_covered points some h = none_covered _ (h 0 origin (omega (arith, some)))
 
 -- ---- brackets
 

@@ -7,23 +7,23 @@ use Rattle.bounds_model.specs.CentresAnswer as model
 use Rattle.corner_squares.specs.declared.square.Square.{Square}
 use Rattle.corner_squares.specs.Squares.{square_of, IsCovered}
 use Rattle.corner_squares.specs.Trees.{NamesPoints}
-use Rattle.corner_squares.proofs.Holding.{between_sides}
-use Rattle.corner_squares.proofs.LeftOver.{none_held}
+use Rattle.corner_squares.proofs.Covering.{between_sides}
+use Rattle.corner_squares.proofs.LeftOver.{none_covered}
 use Rattle.p_centres.specs.Covers.{IsCover}
 use Rattle.p_centres.specs.Surveys.{IsFirstFarIn, IsFirstFar}
 use Rattle.p_centres.specs.Leaves.{later, IsFirstLeast, IsFirstGreatest, IsAlong, IsOnlyLeaf}
 
--- ---- what one square holds is no farther apart than its side
+-- ---- what one square contains is no farther apart than its side
 
-held_alone : (s : Square) (p : PlanePoint) → IsCovered (s ∷ []) p → IsTrue (model.holds (square_of s) p)
-held_alone s p (zero, t, below, is, held) = subst (λ u. IsTrue (model.holds (square_of u) p)) (sym is) held
-held_alone s p (suc k, t, below, is, held) = absurd (omega (arith, below))
+covered_alone : (s : Square) (p : PlanePoint) → IsCovered (s ∷ []) p → IsTrue (model.contains (square_of s) p)
+covered_alone s p (zero, t, below, is, covered) = subst (λ u. IsTrue (model.contains (square_of u) p)) (sym is) covered
+covered_alone s p (suc k, t, below, is, covered) = absurd (omega (arith, below))
 
 -- two points of one square
-in_one_square : (side : ℕ) (s : Square) (p q : PlanePoint) → s.side ≡ side → IsTrue (model.holds (square_of s) p) → IsTrue (model.holds (square_of s) q) → (q.x ≤ℤ (p.x +ℤ pos side)) × (q.y ≤ℤ (p.y +ℤ pos side))
-in_one_square side s p q wide p_held q_held =
-    let p_in = (between_sides (square_of s) p).0 p_held in
-    let q_in = (between_sides (square_of s) q).0 q_held in
+in_one_square : (side : ℕ) (s : Square) (p q : PlanePoint) → s.side ≡ side → IsTrue (model.contains (square_of s) p) → IsTrue (model.contains (square_of s) q) → (q.x ≤ℤ (p.x +ℤ pos side)) × (q.y ≤ℤ (p.y +ℤ pos side))
+in_one_square side s p q wide p_covered q_covered =
+    let p_in = (between_sides (square_of s) p).0 p_covered in
+    let q_in = (between_sides (square_of s) q).0 q_covered in
     (apart s.left p.x q.x s.side wide p_in.0.0 q_in.0.1, apart s.bottom p.y q.y s.side wide p_in.1.0 q_in.1.1)
   where
     apart : (low a b : ℤ) (length : ℕ) → length ≡ side → low ≤ℤ a → b ≤ℤ (low +ℤ pos length) → b ≤ℤ (a +ℤ pos side)
@@ -32,9 +32,9 @@ in_one_square side s p q wide p_held q_held =
 -- two points that at most one square covers
 covered_apart : (points : List PlanePoint) (side : ℕ) (squares : List Square) → IsCover points side 1 squares → (j k : ℕ) → j < length points → k < length points
     → ((point_at points k).x ≤ℤ ((point_at points j).x +ℤ pos side)) × ((point_at points k).y ≤ℤ ((point_at points j).y +ℤ pos side))
-covered_apart points side [] h j k j_below k_below = absurd (none_held (point_at points j) (h.held j origin j_below))
+covered_apart points side [] h j k j_below k_below = absurd (none_covered (point_at points j) (h.covered j origin j_below))
 covered_apart points side (s ∷ []) h j k j_below k_below =
-    in_one_square side s (point_at points j) (point_at points k) (h.placed 0 s (omega arith)).wide (held_alone s (point_at points j) (h.held j origin j_below)) (held_alone s (point_at points k) (h.held k origin k_below))
+    in_one_square side s (point_at points j) (point_at points k) (h.placed 0 s (omega arith)).wide (covered_alone s (point_at points j) (h.covered j origin j_below)) (covered_alone s (point_at points k) (h.covered k origin k_below))
 covered_apart points side (s ∷ t ∷ rest) h j k j_below k_below = absurd (let few = h.few in omega (arith, few))
 
 -- ---- the first points far apart are at the ends of the longer side
@@ -43,9 +43,9 @@ covered_apart points side (s ∷ t ∷ rest) h j k j_below k_below = absurd (let
 abbrev AreWithin : (PlanePoint → ℤ) → List PlanePoint → ℕ → Type 0
 AreWithin of points side = (j k : ℕ) → j < length points → k < length points → of (point_at points k) ≤ℤ (of (point_at points j) +ℤ pos side)
 
--- no square holds anything where there is none
+-- no square contains anything where there is none
 free : {A : Type 0} {p : PlanePoint} → IsCovered [] p ⊎ A → A
-free {A} {p} (inl held) = absurd (none_held p held)
+free {A} {p} (inl covered) = absurd (none_covered p covered)
 free {A} {p} (inr a) = a
 
 along : (of beside : PlanePoint → ℤ) (points : List PlanePoint) (limit i : ℕ) (leaf : model.Leaf) → NamesPoints points leaf → AreWithin of points (limit + 1) → AreWithin beside points (limit + 1)

@@ -16,11 +16,11 @@ pub record IsPlaced (side : ℕ) (s : Square) : Type 0 where
   pub bottom : s.bottom ≤ℤ pos 200000
   pub top : neg_ℤ (pos 200000) ≤ℤ (s.bottom +ℤ pos side)
 
--- at most so many squares, which hold all points
+-- at most so many squares, which contain all points
 pub record IsCover (points : List PlanePoint) (side most : ℕ) (squares : List Square) : Type 0 where
   pub few : length squares ≤ most
   pub placed : All (IsPlaced side) squares
-  pub held : All (IsCovered squares) points
+  pub covered : All (IsCovered squares) points
 
 -- the leaves below the placed squares are appended, and the squares stay; one right below them names the first two points far apart
 pub record IsRefuted (points : List PlanePoint) (side depth : ℕ) (placed placed_then : List Square) (leaves leaves_then : List Leaf) : Type 0 where

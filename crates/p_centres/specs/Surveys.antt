@@ -31,17 +31,17 @@ abbrev pub IsFarOrNear : Bounds → ℕ → Option Leaf → Type 0
 IsFarOrNear b limit None = IsNoLonger limit b
 IsFarOrNear b limit (Some leaf) = AreEnds limit b.across leaf ⊎ (AreEnds limit b.up leaf × (b.across.high ≤ℤ (b.across.low +ℤ pos limit)))
 
--- the first i points are all held, or the box is that of the others
+-- the first i points are all covered, or the box is that of the others
 abbrev pub IsFound : List PlanePoint → List Square → ℕ → ℕ → Option Bounds → Type 0
 IsFound points squares limit i None = (k : ℕ) → k < i → IsCovered squares (point_at points k)
 IsFound points squares limit i (Some b) = IsBox points squares i b × IsNoLonger limit b
 
--- of the first i points, those that no square holds differ by at most the limit in this coordinate
+-- of the first i points, those that no square contains differ by at most the limit in this coordinate
 abbrev pub AreNear : (PlanePoint → ℤ) → List PlanePoint → List Square → ℕ → ℕ → Type 0
 AreNear of points squares limit i =
     (j k : ℕ) → j < i → k < i → IsCovered squares (point_at points j) ⊎ IsCovered squares (point_at points k) ⊎ (of (point_at points k) ≤ℤ (of (point_at points j) +ℤ pos limit))
 
--- of those of the first i points that no square holds, the leaf names the first one with the least value, and the first one with the greatest
+-- of those of the first i points that no square contains, the leaf names the first one with the least value, and the first one with the greatest
 pub record AreFirstEnds (of : PlanePoint → ℤ) (points : List PlanePoint) (squares : List Square) (i : ℕ) (leaf : model.Leaf) : Type 0 where
   pub least : (k : ℕ) → k < i → IsCovered squares (point_at points k) ⊎ (of (point_at points leaf.first) ≤ℤ of (point_at points k))
   pub first_least : (k : ℕ) → k < leaf.first → IsCovered squares (point_at points k) ⊎ (of (point_at points leaf.first) <ℤ of (point_at points k))
@@ -55,11 +55,11 @@ pub record IsFirstFarIn (of beside : PlanePoint → ℤ) (points : List PlanePoi
   pub before : AreNear of points squares limit (later leaf)
   pub others : AreNear beside points squares limit i
 
--- the first two points, in the order of the file, that no square holds and that are far apart: in x, or else in y
+-- the first two points, in the order of the file, that no square contains and that are far apart: in x, or else in y
 abbrev pub IsFirstFar : List PlanePoint → List Square → ℕ → model.Leaf → Type 0
 IsFirstFar points squares limit leaf = IsFirstFarIn (λ p. p.x) (λ p. p.y) points squares limit (later leaf) leaf ⊎ IsFirstFarIn (λ p. p.y) (λ p. p.x) points squares limit (later leaf + 1) leaf
 
--- two points that no square holds and that are far apart: they are points, so the limit is less than what they can be apart
+-- two points that no square contains and that are far apart: they are points, so the limit is less than what they can be apart
 pub record IsFarPair (points : List PlanePoint) (squares : List Square) (limit : ℕ) (leaf : Leaf) : Type 0 where
   pub first : leaf.first < length points
   pub second : leaf.second < length points

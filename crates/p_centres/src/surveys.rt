@@ -6,7 +6,7 @@ ghost use Rattle.p_centres.specs.Surveys.{IsFarOrNear, IsSurvey, IsWhole};
 
 use answers::Leaf;
 use bounded_coords::{Counted, Point2, Steps};
-use corner_squares::{Bounds, Square, is_held};
+use corner_squares::{Bounds, Square, any_contains};
 use std::sync::ledger::Ledger;
 
 /// No box of points is longer.
@@ -36,7 +36,7 @@ pub(crate) fn survey<L: Ledger>(
     let mut found = None;
     for i in 0..cloud.len() {
         let p = cloud.point(i, steps);
-        if !is_held(squares, p) {
+        if !any_contains(squares, p) {
             let bounds = Bounds::grown(found, p, i);
             if let Some(leaf) = far_apart(bounds, limit) {
                 return Finding::Far(leaf);

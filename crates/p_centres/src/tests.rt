@@ -184,7 +184,7 @@ fn square_of(way: u32, number: usize) -> u32 {
     rest % 3
 }
 
-// The least side of squares that hold the points so shared among them.
+// The least side of squares that contain the points so shared among them.
 fn side_of(points: &[Point2], way: u32) -> u32 {
     let mut side = 0;
     for (i, p) in points.iter().enumerate() {
@@ -207,7 +207,7 @@ fn is_for(points: &[Point2], way: u32, p: u8) -> bool {
     true
 }
 
-// The least side of p squares that hold all points, of seven at most, over all ways to share them.
+// The least side of p squares that contain all points, of seven at most, over all ways to share them.
 fn least_side(points: &[Point2], p: u8) -> u32 {
     let mut least = u32::MAX;
     for way in 0..2187 {

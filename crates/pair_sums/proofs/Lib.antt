@@ -3,5 +3,5 @@ pub mod SumSteps
 pub mod PairWeights
 pub mod Products
 pub mod Directions
-pub mod Places
+pub mod Ratios
 pub mod WeightedMeans

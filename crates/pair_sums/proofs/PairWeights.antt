@@ -4,8 +4,8 @@ use Rattle.std.specs.Prelude.{All}
 use Rattle.std.proofs.lemmas.Int.{ints}
 use Rattle.std.proofs.lemmas.List.Elements.{All-head, All-tail}
 use Rattle.integers.proofs.Sums.{total_nonneg_all, total_positive}
-use Rattle.bounds_model.specs.Places.{number_limit}
-use Rattle.bounds_model.specs.AnnulusAnswer.{WeightedPair, IsPairPlace, pair_sum}
+use Rattle.bounds_model.specs.Ranges.{number_limit}
+use Rattle.bounds_model.specs.AnnulusAnswer.{WeightedPair, IsPairInRange, pair_sum}
 
 nonneg : (pairs : List WeightedPair) → All (λ pair. pos 1 ≤ℤ pair.weight) pairs → pos 0 ≤ℤ pair_sum pairs
 nonneg pairs h = total_nonneg_all (λ (pair : WeightedPair). pair.weight) pairs (λ k d l. let one = h k d l in omega (arith, ints))
@@ -25,10 +25,10 @@ no_more_than_all (pair ∷ pairs) h (suc k) d l =
     let below = no_more_than_all pairs (All-tail (λ (pair : WeightedPair). pos 1 ≤ℤ pair.weight) pair pairs h) k d (omega arith) in
     omega (arith, ints)
 
--- pairs of listed points, with weights within the limit, are in their places
-pub in_places : (first second : ℕ) (pairs : List WeightedPair) → first ≤ 10000 → second ≤ 10000 → All (λ pair. (pair.first < first) × (pair.second < second)) pairs → All (λ pair. pos 1 ≤ℤ pair.weight) pairs → pair_sum pairs ≤ℤ pos (2 ^ 66)
-    → All IsPairPlace pairs
-in_places first second pairs few_first few_second numbers weights most k d l =
+-- pairs of listed points, with weights within the limit, are in their ranges
+pub in_ranges : (first second : ℕ) (pairs : List WeightedPair) → first ≤ 10000 → second ≤ 10000 → All (λ pair. (pair.first < first) × (pair.second < second)) pairs → All (λ pair. pos 1 ≤ℤ pair.weight) pairs → pair_sum pairs ≤ℤ pos (2 ^ 66)
+    → All IsPairInRange pairs
+in_ranges first second pairs few_first few_second numbers weights most k d l =
     let listed = numbers k d l in
     let listed_first = listed.0 in
     let listed_second = listed.1 in

@@ -2,7 +2,7 @@
 use Rattle.std.proofs.Common.{◌≡◌, ap₂, ◌^◌, ℤ, List}
 use Rattle.integers.specs.Size.{Size}
 use Rattle.integers.proofs.Sizes.{size_more, above_size, below_size}
-use Rattle.bounds_model.specs.Places.{IsNumber}
+use Rattle.bounds_model.specs.Ranges.{IsNumber}
 use Rattle.bounds_model.specs.Space.{SpacePoint, point_at}
 use Rattle.bounds_model.specs.AnnulusAnswer.{WeightedPair}
 use Rattle.bounds_model.specs.DistanceAnswer.{mean}

@@ -2,7 +2,7 @@
 ghost use Rattle.std.specs.Prelude.{◌≡◌, ◌≤◌, ◌<◌, ◌^◌, ◌≤ℤ◌, pos, nat_abs, [], ◌∷◌};
 ghost use Rattle.bounds_model.specs.Space.{vector, dot, SamePlace};
 ghost use Rattle.bounds_model.specs.Fractions.{SameValue};
-ghost use Rattle.bounds_model.specs.Places.{IsFraction, IsSpaceRatio};
+ghost use Rattle.bounds_model.specs.Ranges.{IsFraction, IsSpaceRatio};
 ghost use Rattle.bounds_model.specs.DistanceAnswer.{IsDirectionOf};
 ghost use Rattle.kernel_laws.specs.Vectors.{sum_of};
 ghost use Rattle.kernel_laws.specs.Limits.{IsVectorWithin};

@@ -90,7 +90,7 @@ direction_at points fan h i l =
     elim (cases_lt i (length fan.cones)) [
       | inl n ↦ direction_is fan i n
       | inr n ↦
-          let e : (i - 1) + 1 ≡ i = omega (arith, h.places.count.at_least) in
+          let e : (i - 1) + 1 ≡ i = omega (arith, h.ranges.count.at_least) in
           subst (λ k. point_at (half_directions fan) k ≡ (cone_at fan k).direction) e (west_is points fan h (i - 1) (omega (arith, e)))
     ]
 
@@ -184,7 +184,7 @@ within_back h = record { low = omega (arith, ints, h.high); high = omega (arith,
 -- so a fan over half a turn goes all around
 pub full_turn_of : (points : List PlanePoint) (fan : HalfFan) → IsPlainFan points fan → IsFullTurn points (length fan.cones) (cone_at fan)
 full_turn_of points fan h =
-    let some : 0 < length fan.cones = omega (arith, h.places.count.at_least) in
+    let some : 0 < length fan.cones = omega (arith, h.ranges.count.at_least) in
     record {
       some = some;
       named = each_around fan (λ cone. (cone.high < length points) × (cone.low < length points)) (λ k l. h.holds.numbers k no_cone l) (λ cone n. (n.1, n.0));
@@ -212,7 +212,7 @@ two_cones points fan h =
     elim (cases_lt 1 (length fan.cones)) [
       | inl l ↦ l
       | inr l ↦
-          let one : length fan.cones ≡ 1 = omega (arith, h.places.count.at_least) in
+          let one : length fan.cones ≡ 1 = omega (arith, h.ranges.count.at_least) in
           let at_east = h.holds.directions.begins in
           let at_west : point_at (half_directions fan) 1 ≡ west = subst (λ n. point_at (half_directions fan) n ≡ west) (last one) h.holds.directions.ends in
           let t : pos 0 <ℤ cross (point_at (half_directions fan) 0) (point_at (half_directions fan) 1) = h.holds.directions.turns 0 (omega (arith, length-directions fan)) in

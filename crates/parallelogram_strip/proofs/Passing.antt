@@ -10,7 +10,7 @@ use Rattle.integers.proofs.Fractions.{fraction_equal}
 use Rattle.bounds_model.specs.Numbers.{AllNumbered}
 use Rattle.bounds_model.specs.Plane.{PlanePoint, point_at, cross}
 use Rattle.bounds_model.specs.Fractions.{Fraction, SameValue}
-use Rattle.bounds_model.specs.Places.{IsFraction}
+use Rattle.bounds_model.specs.Ranges.{IsFraction}
 use Rattle.bounds_model.specs.Strip.{Span}
 use Rattle.bounds_model.specs.Fans.{HalfFan, HalfCone, half_directions, AreExtreme, reach, IsShort}
 use Rattle.bounds_model.specs.ParallelogramAnswer as answers
@@ -24,7 +24,7 @@ use Rattle.parallelogram_strip.specs.declared.crossing.Crossing.{Crossing}
 use Rattle.parallelogram_strip.specs.Flat.{AreWide, IsFlatAt, point_chord}
 use Rattle.parallelogram_strip.proofs.FullTurn.{full_turn_of, first_half, each_around, length-directions, direction_at, two_cones}
 use Rattle.directions.proofs.Reaches.{reach_opposite}
-use Rattle.directions.proofs.SpanBounds.{within_more, short_pair, short_span, AreBounds, bounds_hold, extent_is}
+use Rattle.directions.proofs.SpanBounds.{within_more, direction_of_short, short_span, AreBounds, bounds_hold, extent_is}
 use Rattle.parallelogram_strip.proofs.Extents.{reach_mixed, crossing_extent, not_along, area_same}
 
 -- ---- the chords
@@ -60,13 +60,13 @@ answer_passes points fan size u v s t hu lu hv lv chords limited h fraction coun
     let turn = full_turn_of points fan h in
     let many = length-directions fan in
     record {
-      places = record {
+      ranges = record {
         size = fraction;
-        first = short_pair u short_u;
+        first = direction_of_short u short_u;
         first_bounds = short_span s bounds_s.short;
-        second = short_pair v short_v;
+        second = direction_of_short v short_v;
         second_bounds = short_span t bounds_t.short;
-        fan = h.places;
+        fan = h.ranges;
         chord_for_each = omega (arith, count, many);
         chords = λ i d l. placed (slice_index_or chords i d) (good i d l);
       };
@@ -89,7 +89,7 @@ answer_passes points fan size u v s t hu lu hv lv chords limited h fraction coun
       size = same_size;
     }
   where
-    placed : {i : ℕ} (chord : answers.Chord) → IsGood points fan size i chord → answers.ChordPlaces chord
+    placed : {i : ℕ} (chord : answers.Chord) → IsGood points fan size i chord → answers.ChordRanges chord
     placed chord g = record {
       a = below (g.carries.names.0);
       b = below (g.carries.names.1);

@@ -20,19 +20,19 @@ use Rattle.parallelogram_strip.proofs.Crossings.{ahead_at_start, ahead_at_next}
 use Rattle.directions.proofs.Reaches.{reach_opposite}
 use Rattle.parallelogram_strip.proofs.FullTurn.{IsFullTurn, magnitude_back, within_back}
 
--- what holds at each place of a list, and of one element more at its place, holds of the list with that element
+-- what holds at each index of a list, and of one element more at its index, holds of the list with that element
 pub numbered_push : {X : Type 0} (P : ℕ → X → Type 0) (xs : List X) (x : X) (n : ℕ) → n ≡ length xs → AllNumbered P xs → P n x → AllNumbered P (xs ++ x ∷ [])
 numbered_push P xs x n e all here k d l =
     elim (cases_lt k (length xs)) [
       | inl m ↦ subst (P k) (sym (get_or_append_left xs (x ∷ []) d k m)) (all k d m)
-      | inr m ↦ subst (P k) (sym (get_or-append_right xs (x ∷ []) (length xs) k d refl m ∙ ap (λ i. slice_index_or (x ∷ []) i d) (at_place m))) (subst (λ i. P i x) (place m) here)
+      | inr m ↦ subst (P k) (sym (get_or-append_right xs (x ∷ []) (length xs) k d refl m ∙ ap (λ i. slice_index_or (x ∷ []) i d) (at_index m))) (subst (λ i. P i x) (index m) here)
     ]
   where
-    at_place : length xs ≤ k → k - length xs ≡ 0
-    at_place m = omega (arith, length-append xs (x ∷ []))
+    at_index : length xs ≤ k → k - length xs ≡ 0
+    at_index m = omega (arith, length-append xs (x ∷ []))
 
-    place : length xs ≤ k → n ≡ k
-    place m = omega (arith, length-append xs (x ∷ []))
+    index : length xs ≤ k → n ≡ k
+    index m = omega (arith, length-append xs (x ∷ []))
 
 -- a crossing's chord serves its direction
 pub serves_itself : (points : List PlanePoint) (fan : HalfFan) (c : Crossing) → IsCrossing points fan c → IsServed points fan c c.direction (chord_of c.chord)

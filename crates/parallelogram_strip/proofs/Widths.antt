@@ -8,7 +8,7 @@ use Rattle.integers.proofs.Order.{positive_from_one}
 use Rattle.integers.proofs.Fractions.{fraction_equal, fraction_le_trans}
 use Rattle.bounds_model.specs.Plane.{PlanePoint, point_at, squared_length}
 use Rattle.bounds_model.specs.Fractions.{Fraction, SameValue}
-use Rattle.bounds_model.specs.Places.{IsFraction}
+use Rattle.bounds_model.specs.Ranges.{IsFraction}
 use Rattle.bounds_model.specs.Strip.{Span}
 use Rattle.bounds_model.specs.Fans.{HalfFan, HalfCone, half_directions}
 use Rattle.bounds_model.specs.StripAnswer.{PassesStrip, IsNotThinner}
@@ -19,7 +19,7 @@ use Rattle.parallelogram_strip.specs.Widths.{IsWidth, IsNotWider}
 use Rattle.parallelogram_strip.specs.declared.thinnest.Width.{Width}
 use Rattle.parallelogram_strip.proofs.FullTurn.{IsFullTurn, full_turn_of, direction_at, two_cones}
 use Rattle.directions.proofs.Reaches.{reach_opposite, lowest_long, long_some}
-use Rattle.directions.proofs.SpanBounds.{short_pair, short_span, AreBounds, bounds_hold, extent_is}
+use Rattle.directions.proofs.SpanBounds.{direction_of_short, short_span, AreBounds, bounds_hold, extent_is}
 use Rattle.parallelogram_strip.proofs.Extents.{reach_mixed}
 use Rattle.parallelogram_strip.proofs.Passing.{cone_any}
 
@@ -84,11 +84,11 @@ strip_passes points fan best size span h is_best seen fraction same bounds =
     let listed : j < length fan.cones + length fan.cones = omega (arith, is_best.listed) in
     let short = turn.short j listed in
     record {
-      places = record {
+      ranges = record {
         size = fraction;
-        direction = short_pair d short;
+        direction = direction_of_short d short;
         bounds = short_span span bounds.short;
-        fan = h.places;
+        fan = h.ranges;
       };
       short_directions = h.short;
       short_direction = short;
@@ -107,11 +107,11 @@ strip_passes points fan best size span h is_best seen fraction same bounds =
     at_any i l =
         elim (cases_lt i (length fan.cones)) [
           | inl n ↦ seen i n
-          | inr n ↦ subst (IsNotThinnerAt points fan best) (same_place i l n) (at_last points fan best (length fan.cones) (full_turn_of points fan h) (seen 0 (full_turn_of points fan h).some))
+          | inr n ↦ subst (IsNotThinnerAt points fan best) (same_index i l n) (at_last points fan best (length fan.cones) (full_turn_of points fan h) (seen 0 (full_turn_of points fan h).some))
         ]
       where
-        same_place : (i : ℕ) → i ≤ length fan.cones → length fan.cones ≤ i → length fan.cones ≡ i
-        same_place i l n = omega arith
+        same_index : (i : ℕ) → i ≤ length fan.cones → length fan.cones ≤ i → length fan.cones ≡ i
+        same_index i l n = omega arith
 
     by_reach : (i : ℕ) (cone : HalfCone) → i ≤ length fan.cones → reach_of points (cone_at fan i).direction cone ≡ reach_of points (cone_at fan i).direction (cone_at fan i) → IsNotThinner points size (point_at (half_directions fan) i) cone
     by_reach i cone l e =

@@ -44,7 +44,7 @@ weight_of c = pos c.chord.beta +ℤ pos c.chord.gamma
 abbrev pub IsNotAbove : Crossing → Crossing → Type 0
 IsNotAbove a b = (area_of a *ℤ weight_of b) ≤ℤ (area_of b *ℤ weight_of a)
 
--- a direction of the fan, with the place of its line, the width of its strip and its chord
+-- a direction of the fan, with the index of its line, the width of its strip and its chord
 pub record IsCrossing (points : List PlanePoint) (fan : HalfFan) (c : Crossing) : Type 0 where
   pub listed : c.direction < length fan.cones
   pub near : IsNear points fan c.direction c.near

@@ -17,7 +17,7 @@ use exact_fractions::quotient;
 fn multiple(d: Dir, a: &Point2, b: &Point2) -> i128
     requires direction { IsShort (vector_of d) }
     requires lowest { HaveNoCommonFactor (d.x ∷ d.y ∷ []) }
-    requires upright { dot (vector_of d) (vector a.now b.now) ≡ pos 0 }
+    requires right_angle { dot (vector_of d) (vector a.now b.now) ≡ pos 0 }
     ensures value { vector a.now b.now ≡ times result (quarter_turn (vector_of d)) }
     ensures size { Size 320000000000 result }
 {

@@ -19,7 +19,7 @@ use Rattle.point_text.proofs.Bytewise.{natural_all, natural_none, no_digit, unsi
 use Rattle.point_text.proofs.Clamping.{plane_clamped}
 use Rattle.point_text.proofs.FieldCuts.{is_no_blank, fields_of-blank, fields_of-first, start_is_filled}
 use Rattle.point_text.proofs.FieldLaws.{number_within}
-use Rattle.point_text.proofs.Places.{place_found, position-cons_no, position-cons_yes, before_first-cons_no, before_first-cons_yes, after_first-cons_no, after_first-cons_yes, before_first_all, before_first_at}
+use Rattle.point_text.proofs.FirstIndices.{index_found, position-cons_no, position-cons_yes, before_first-cons_no, before_first-cons_yes, after_first-cons_no, after_first-cons_yes, before_first_all, before_first_at}
 
 -- ---- where a field ends
 
@@ -231,20 +231,20 @@ numbers_none (b ∷ xs) some none = by (is_blank b) (is_comment_sign b) refl ref
 
 pub no_field : (xs : List ℕ) (i : ℕ) → Some i ≡ position_from is_no_blank 0 xs → i < length xs → (get_or xs i 0 == 35) ≡ true → fields_of (uncommented xs) ≡ []
 no_field xs i is within sign =
-    let place : i ≡ position_or_len is_no_blank xs = place_found is_no_blank xs i is in
+    let index : i ≡ position_or_len is_no_blank xs = index_found is_no_blank xs i is in
     sym (uncommented-start xs)
-    ∙ (ap (λ n. fields_of (uncommented (drop n xs))) (sym place)
+    ∙ (ap (λ n. fields_of (uncommented (drop n xs))) (sym index)
     ∙ (ap (λ ys. fields_of (uncommented ys)) (drop-cons xs i 0 within) ∙ ap fields_of (before_first-cons_yes is_comment_sign (get_or xs i 0) (drop (suc i) xs) sign)))
 
 pub some_field : (xs : List ℕ) (i : ℕ) → Some i ≡ position_from is_no_blank 0 xs → i < length xs → (get_or xs i 0 == 35) ≡ false → fields_of (uncommented xs) ≢ []
 some_field xs i is within other nothing =
-    let place : i ≡ position_or_len is_no_blank xs = place_found is_no_blank xs i is in
-    let below : position_or_len is_no_blank xs < length xs = omega (arith, place, within) in
-    let filled : is_blank (get_or xs i 0) ≡ false = not-true (is_blank (get_or xs i 0)) (ap (λ n. is_no_blank (get_or xs n 0)) place ∙ passes_at_first is_no_blank xs 0 below) in
+    let index : i ≡ position_or_len is_no_blank xs = index_found is_no_blank xs i is in
+    let below : position_or_len is_no_blank xs < length xs = omega (arith, index, within) in
+    let filled : is_blank (get_or xs i 0) ≡ false = not-true (is_blank (get_or xs i 0)) (ap (λ n. is_no_blank (get_or xs n 0)) index ∙ passes_at_first is_no_blank xs 0 below) in
     let start : drop i xs ≡ get_or xs i 0 ∷ drop (suc i) xs = drop-cons xs i 0 within in
     let some = fields_parted (get_or xs i 0 ∷ drop (suc i) xs) (past_start (get_or xs i 0) (drop (suc i) xs) filled other) in
     let wrong : fields_of (uncommented (get_or xs i 0 ∷ drop (suc i) xs)) ≡ [] =
-    ap (λ ys. fields_of (uncommented ys)) (sym start) ∙ (ap (λ n. fields_of (uncommented (drop n xs))) place ∙ (uncommented-start xs ∙ nothing)) in
+    ap (λ ys. fields_of (uncommented ys)) (sym start) ∙ (ap (λ n. fields_of (uncommented (drop n xs))) index ∙ (uncommented-start xs ∙ nothing)) in
     cc
 
 -- ---- the next number of a line
@@ -254,14 +254,14 @@ pub next_number_read : (line text : List ℕ) (start : ℕ) (read : Option (ℤ 
     → MatchOption read (HasNoNumber (numbers_of (uncommented line))) (λ parts. (z : ℤ) × (parts.0 ≡ clamped z) × (numbers_of (uncommented line) ≡ Some z ∷ numbers_of (uncommented parts.1.now)))
 next_number_read line text start read is within cut leads = by read leads
   where
-    place : start ≡ position_or_len is_no_blank line
-    place = place_found is_no_blank line start is
+    index : start ≡ position_or_len is_no_blank line
+    index = index_found is_no_blank line start is
 
     same : numbers_of (uncommented text) ≡ numbers_of (uncommented line)
-    same = ap (map number) (ap (λ ys. fields_of (uncommented ys)) cut ∙ (ap (λ n. fields_of (uncommented (drop n line))) place ∙ uncommented-start line))
+    same = ap (map number) (ap (λ ys. fields_of (uncommented ys)) cut ∙ (ap (λ n. fields_of (uncommented (drop n line))) index ∙ uncommented-start line))
 
     filled : 0 < position_or_len is_blank text
-    filled = rw (cut, place) (start_is_filled line (omega (arith, place, within)))
+    filled = rw (cut, index) (start_is_filled line (omega (arith, index, within)))
 
     by : (r : Option (ℤ × Bor (List ℕ))) → MatchOption r (number (first_field text) ≡ None) (λ parts. LeadsTo text parts.0 parts.1.now)
         → MatchOption r (HasNoNumber (numbers_of (uncommented line))) (λ parts. (z : ℤ) × (parts.0 ≡ clamped z) × (numbers_of (uncommented line) ≡ Some z ∷ numbers_of (uncommented parts.1.now)))

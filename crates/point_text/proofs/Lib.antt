@@ -1,4 +1,4 @@
-pub mod Places
+pub mod FirstIndices
 pub mod FieldCuts
 pub mod Clamping
 pub mod FieldLaws

@@ -1,32 +1,32 @@
-//! Places in a text, and fields cut off a line.
+//! Indices in a text, and fields cut off a line.
 ghost use Rattle.std.specs.Prelude.{◌≡◌, ◌≢◌, ℕ, Bool, true, false, ◌<◌, ◌==◌, [], ◌∷◌, not, length, slice_index_or, IfSome, MatchOption};
 ghost use Rattle.std.specs.List.{before_first, after_first, position_from};
 ghost use Rattle.std.specs.Str.Lines.{strip_carriage_return};
 ghost use Rattle.bounds_model.specs.PointText.{is_blank, fields_of};
 ghost use Rattle.point_text.specs.Lines.{uncommented, are_behind_field};
 
-/// What stands before this place and what stands after it, or all and nothing without a place.
-fn parted(text: &[u8], place: Option<usize>) -> (&[u8], &[u8])
-    requires { IfSome place (λ i. i < length text.now) }
-    ensures before { (p : ℕ → Bool) → place ≡ position_from p 0 text.now → result.0.now ≡ before_first p text.now }
-    ensures after { (p : ℕ → Bool) → place ≡ position_from p 0 text.now → result.1.now ≡ after_first p text.now }
+/// What stands before this index and what stands after it, or all and nothing without an index.
+fn parted(text: &[u8], index: Option<usize>) -> (&[u8], &[u8])
+    requires { IfSome index (λ i. i < length text.now) }
+    ensures before { (p : ℕ → Bool) → index ≡ position_from p 0 text.now → result.0.now ≡ before_first p text.now }
+    ensures after { (p : ℕ → Bool) → index ≡ position_from p 0 text.now → result.1.now ≡ after_first p text.now }
 {
-    match place {
-        Some(place) => (&text[..place], &text[place + 1..]),
+    match index {
+        Some(index) => (&text[..index], &text[index + 1..]),
         None => (text, &[]),
     }
 }
 
-/// The place of the first byte of this value.
-pub(crate) fn place_of(text: &[u8], byte: u8) -> Option<usize>
-    ensures place { result ≡ position_from (λ b. b == byte) 0 text.now }
+/// The index of the first byte of this value.
+pub(crate) fn index_of(text: &[u8], byte: u8) -> Option<usize>
+    ensures index { result ≡ position_from (λ b. b == byte) 0 text.now }
     ensures within { IfSome result (λ i. i < length text.now) }
 {
     text.iter().position(|b| *b == byte)
 }
 
-/// A place of a byte of this value, the last one.
-pub(crate) fn last_place_of(text: &[u8], byte: u8) -> Option<usize>
+/// An index of a byte of this value, the last one.
+pub(crate) fn last_index_of(text: &[u8], byte: u8) -> Option<usize>
     ensures within { IfSome result (λ i. i < length text.now) }
     ensures here { IfSome result (λ i. slice_index_or text.now i 0 ≡ byte) }
 {
@@ -39,7 +39,7 @@ fn cut(text: &[u8], byte: u8) -> (&[u8], &[u8])
     ensures before { result.0.now ≡ before_first (λ b. b == byte) text.now }
     ensures after { result.1.now ≡ after_first (λ b. b == byte) text.now }
 {
-    parted(text, place_of(text, byte))
+    parted(text, index_of(text, byte))
 }
 
 /// The line without a carriage return at its end.
@@ -76,17 +76,17 @@ pub(crate) fn ends_field(rest: &[u8]) -> bool
     }
 }
 
-/// The place of the first byte that is no blank.
+/// The index of the first byte that is no blank.
 pub(crate) fn field_start(text: &[u8]) -> Option<usize>
-    ensures place { result ≡ position_from (λ b. not (is_blank b)) 0 text.now }
+    ensures index { result ≡ position_from (λ b. not (is_blank b)) 0 text.now }
     ensures within { IfSome result (λ i. i < length text.now) }
 {
     text.iter().position(|b| !parts_fields(*b))
 }
 
-/// The place of the first blank.
+/// The index of the first blank.
 fn field_end(text: &[u8]) -> Option<usize>
-    ensures place { result ≡ position_from is_blank 0 text.now }
+    ensures index { result ≡ position_from is_blank 0 text.now }
     ensures within { IfSome result (λ i. i < length text.now) }
 {
     text.iter().position(|b| parts_fields(*b))

@@ -10,7 +10,7 @@ ghost use Rattle.point_text.specs.Refusals.{Answers};
 ghost use Rattle.point_text.specs.Judged.{lines_judged};
 ghost use Rattle.point_text.specs.Keeping.{KeepsPoint};
 
-use crate::cuts::{last_place_of, place_of};
+use crate::cuts::{last_index_of, index_of};
 use crate::judgement::Judgement;
 use crate::line_in_hand::LineInHand;
 use crate::{OwnedSets, TextFault};
@@ -100,13 +100,13 @@ impl Reader {
         if !self.judgement.has_fault() {
             return piece;
         }
-        match last_place_of(piece, b'\n') {
+        match last_index_of(piece, b'\n') {
             None => piece,
-            Some(place) => {
-                self.taken += place as u32 + 1;
+            Some(index) => {
+                self.taken += index as u32 + 1;
                 self.line = LineInHand::new();
                 self.begun = false;
-                &piece[place + 1..]
+                &piece[index + 1..]
             }
         }
     }
@@ -124,9 +124,9 @@ impl Reader {
         ensures stays { HasFailed self.old → HasFailed self.new }
     {
         let mut rest = self.pass_lines(piece);
-        'lines: while let Some(place) = place_of(rest, b'\n') {
-            self.end_line(&rest[..place]);
-            rest = &rest[place + 1..];
+        'lines: while let Some(index) = index_of(rest, b'\n') {
+            self.end_line(&rest[..index]);
+            rest = &rest[index + 1..];
         }
         self.go_on(rest);
         if self.judgement.has_failed() {

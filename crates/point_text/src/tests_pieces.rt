@@ -41,20 +41,20 @@ fn in_pieces(
     reader.finish()
 }
 
-/// What the text gives, cut once at this place.
+/// What the text gives, cut once at this index.
 fn cut_once(
     rt: &impl Abort,
     alloc: Global,
     text: &[u8],
-    place: usize,
+    index: usize,
 ) -> Result<OwnedSets, TextFault> {
     let mut reader = Reader::new(alloc, &Ask::Circle);
-    match text.split_at_checked(place) {
+    match text.split_at_checked(index) {
         Some((before, after)) => {
             feed(rt, &mut reader, before);
             feed(rt, &mut reader, after);
         }
-        None => panic!(rt; "no place {place}"),
+        None => panic!(rt; "no index {index}"),
     }
     reader.finish()
 }
@@ -66,8 +66,8 @@ fn a_text_may_be_cut_anywhere(rt: HostRuntime) {
     for size in [1, 2, 3, 5] {
         has_points(&rt, in_pieces(&rt, alloc, SURVEY, size), SURVEY, &points);
     }
-    for place in 0..=SURVEY.len() {
-        has_points(&rt, cut_once(&rt, alloc, SURVEY, place), SURVEY, &points);
+    for index in 0..=SURVEY.len() {
+        has_points(&rt, cut_once(&rt, alloc, SURVEY, index), SURVEY, &points);
     }
 }
 
@@ -78,8 +78,8 @@ fn faults_are_found_behind_any_cut(rt: HostRuntime) {
         for size in [1, 2, 3, 5] {
             has_fault(&rt, in_pieces(&rt, alloc, text, size), text, fault);
         }
-        for place in 0..=text.len() {
-            has_fault(&rt, cut_once(&rt, alloc, text, place), text, fault);
+        for index in 0..=text.len() {
+            has_fault(&rt, cut_once(&rt, alloc, text, index), text, fault);
         }
     }
 }

@@ -7,7 +7,7 @@ use Rattle.std.proofs.lemmas.List.Elements.{Contains-get_or}
 use Rattle.integers.proofs.Identities.{den-ring, read, polys}
 use Rattle.bounds_model.specs.Plane.{PlanePoint, point_at, origin, vector, cross, turn, IsBefore, IsLeastPoint}
 use Rattle.bounds_model.specs.Hull.{around}
-use Rattle.bounds_model.specs.CornerTest.{CornersPass, FirstIsOnce, HoldAll}
+use Rattle.bounds_model.specs.CornerTest.{CornersPass, FirstIsOnce, SurroundAll}
 use Rattle.polygon_check.specs.HullTests.{IsEdgeAt}
 
 -- a number below the next one of i is below i, or i
@@ -62,25 +62,25 @@ turn_along a b c = identity a.x a.y b.x b.y c.x c.y
     identity p q r s t u = read (p ∷ q ∷ r ∷ s ∷ t ∷ u ∷ []) (λ xs a b c d e f. simp (a, b, c, d, e, f, polys) (den-ring xs _ _ tt))
 
 -- what one corner, two and more hold
-pub hold_one : (points corners : List PlanePoint) (a : PlanePoint) → length corners ≡ 1 → a ≡ point_at corners 0 → All (λ p. p ≡ a) points ↔ HoldAll points corners
-hold_one points [] a one e = absurd (omega (arith, one))
-hold_one points (b ∷ []) a one e = (subst (λ q. All (λ p. p ≡ q) points) e, subst (λ q. All (λ p. p ≡ q) points) (sym e))
-hold_one points (b ∷ c ∷ rest) a one e = absurd (omega (arith, one))
+pub surround_one : (points corners : List PlanePoint) (a : PlanePoint) → length corners ≡ 1 → a ≡ point_at corners 0 → All (λ p. p ≡ a) points ↔ SurroundAll points corners
+surround_one points [] a one e = absurd (omega (arith, one))
+surround_one points (b ∷ []) a one e = (subst (λ q. All (λ p. p ≡ q) points) e, subst (λ q. All (λ p. p ≡ q) points) (sym e))
+surround_one points (b ∷ c ∷ rest) a one e = absurd (omega (arith, one))
 
-pub hold_two : (points corners : List PlanePoint) (a b : PlanePoint) → length corners ≡ 2 → a ≡ point_at corners 0 → b ≡ point_at corners 1 → Contains points b
-    → (All (λ p. IsBefore p b) points × All (λ p. turn a b p ≡ pos 0) points) ↔ HoldAll points corners
-hold_two points [] a b two e f listed = absurd (omega (arith, two))
-hold_two points (p ∷ []) a b two e f listed = absurd (omega (arith, two))
-hold_two points (p ∷ q ∷ []) a b two e f listed = (
+pub surround_two : (points corners : List PlanePoint) (a b : PlanePoint) → length corners ≡ 2 → a ≡ point_at corners 0 → b ≡ point_at corners 1 → Contains points b
+    → (All (λ p. IsBefore p b) points × All (λ p. turn a b p ≡ pos 0) points) ↔ SurroundAll points corners
+surround_two points [] a b two e f listed = absurd (omega (arith, two))
+surround_two points (p ∷ []) a b two e f listed = absurd (omega (arith, two))
+surround_two points (p ∷ q ∷ []) a b two e f listed = (
   λ h. record {
     to_greatest = record { listed = subst (Contains points) f listed; greatest = subst (λ z. All (λ x. IsBefore x z) points) f h.0 };
     on_line = subst (λ z. All (λ x. turn p z x ≡ pos 0) points) f (subst (λ z. All (λ x. turn z b x ≡ pos 0) points) e h.1);
   },
   λ h. (subst (λ z. All (λ x. IsBefore x z) points) (sym f) h.to_greatest.greatest, subst (λ z. All (λ x. turn z b x ≡ pos 0) points) (sym e) (subst (λ z. All (λ x. turn p z x ≡ pos 0) points) (sym f) h.on_line)),
 )
-hold_two points (p ∷ q ∷ r ∷ rest) a b two e f listed = absurd (omega (arith, two))
+surround_two points (p ∷ q ∷ r ∷ rest) a b two e f listed = absurd (omega (arith, two))
 
-pub hold_cycle : (points corners : List PlanePoint) (n : ℕ) → n ≡ length corners → 3 ≤ n → ((i : ℕ) → i < n → IsEdgeAt points corners i) ↔ HoldAll points corners
+pub hold_cycle : (points corners : List PlanePoint) (n : ℕ) → n ≡ length corners → 3 ≤ n → ((i : ℕ) → i < n → IsEdgeAt points corners i) ↔ SurroundAll points corners
 hold_cycle points [] n is three = absurd (omega (arith, is, three))
 hold_cycle points (a ∷ []) n is three = absurd (omega (arith, is, three))
 hold_cycle points (a ∷ b ∷ []) n is three = absurd (omega (arith, is, three))
@@ -111,5 +111,5 @@ pub edges_more : (P : ℕ → Type 0) (i : ℕ) → ((k : ℕ) → k < i → P k
 edges_more P i before here k low = elim (below_or_at k i low) [ inl less ↦ before k less | inr same ↦ subst P (sym same) here ]
 
 -- what is left to ask of corners that begin with the least point, which stands once
-pub pass_if : {yes : Bool} (points corners : List PlanePoint) → IsLeastPoint points (around corners 0) → FirstIsOnce corners → (IsTrue yes ↔ HoldAll points corners) → IsTrue yes ↔ CornersPass points corners
-pass_if points corners least once h = (λ t. record { from_least = least; once = once; hold = h.0 t }, λ p. h.1 p.hold)
+pub pass_if : {yes : Bool} (points corners : List PlanePoint) → IsLeastPoint points (around corners 0) → FirstIsOnce corners → (IsTrue yes ↔ SurroundAll points corners) → IsTrue yes ↔ CornersPass points corners
+pass_if points corners least once h = (λ t. record { from_least = least; once = once; surround = h.0 t }, λ p. h.1 p.surround)

@@ -1,6 +1,6 @@
 pub mod Areas
 pub mod HullReads
 pub mod PassingPolygons
-pub mod PotentialPlaces
+pub mod ReadPotentials
 pub mod RowLists
 pub mod Greatest

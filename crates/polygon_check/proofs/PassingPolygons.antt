@@ -9,16 +9,16 @@ use Rattle.integers.proofs.Lists.{All-unmap}
 use Rattle.integers.proofs.Order.{mul_le_left, le_of_mul_le, nonneg_from_positive, positive_from_one}
 use Rattle.bounds_model.specs.Plane.{PlanePoint, point_at}
 use Rattle.bounds_model.specs.Fractions.{Fraction, SameValue}
-use Rattle.bounds_model.specs.Places.{IsFraction, IsNatural, point_limit}
+use Rattle.bounds_model.specs.Ranges.{IsFraction, IsNatural, point_limit}
 use Rattle.bounds_model.specs.CornerTest.{CornersPass}
 use Rattle.bounds_model.specs.Kgon.{twice_area, kgon_size}
-use Rattle.bounds_model.specs.KgonAnswer.{KgonAnswer, PassesKgon, KgonPlaces, corner_points}
+use Rattle.bounds_model.specs.KgonAnswer.{KgonAnswer, PassesKgon, KgonRanges, corner_points}
 use Rattle.polygon_check.specs.PolygonLimits.{HasPolygonLimits, RaisesAll, IsTable}
 
 -- what is shown of a polygon, one thing after another
 pub record ShowsBest (k : ℕ) (points : List PlanePoint) (a : KgonAnswer) : Type 0 where
   pub limits : HasPolygonLimits k (length points) a
-  pub place : IsFraction a.size
+  pub range : IsFraction a.size
   pub size : SameValue a.size (kgon_size (corner_points points a) a.chosen)
   pub naturals : All IsNatural a.potentials
   pub under : All (λ u. (u *ℤ a.size.d) ≤ℤ (pos 2 *ℤ a.size.n)) a.potentials
@@ -32,10 +32,10 @@ under-min k n h = grind arith
 few-layers : {layers : ℕ} (k n : ℕ) → k ≤ 12 → layers ≡ min k n - 2 → layers ≤ 10
 few-layers k n h e = omega (arith, e, under-min k n h)
 
--- numbers within their limits are in their places
-places : (k : ℕ) (points : List PlanePoint) (a : KgonAnswer) → k ≤ 12 → length points ≤ 10000 → ShowsBest k points a → KgonPlaces a
-places k points a few many s = record {
-  size = s.place;
+-- numbers within their limits are in their ranges
+ranges : (k : ℕ) (points : List PlanePoint) (a : KgonAnswer) → k ≤ 12 → length points ≤ 10000 → ShowsBest k points a → KgonRanges a
+ranges k points a few many s = record {
+  size = s.range;
   corner_count = s.limits.numbers.as_many;
   corners = All-weaker (λ n. n < length points) (λ n. n ≤ point_limit) (λ n h. number h many) a.corners s.limits.numbers.below;
   chosen_count = record { at_least = s.limits.choice.as_many.at_least; at_most = omega (arith, s.limits.choice.as_many.at_most, under-min k (length a.corners) few) };
@@ -54,7 +54,7 @@ places k points a few many s = record {
 -- what is shown is all that is asked
 pub passes_if : (k : ℕ) (points : List PlanePoint) (a : KgonAnswer) → k ≤ 12 → length points ≤ 10000 → ShowsBest k points a → PassesKgon k points a
 passes_if k points a few many s = record {
-  places = places k points a few many s;
+  ranges = ranges k points a few many s;
   numbers = s.limits.numbers.below;
   corners = s.corners;
   chosen = record {
@@ -106,7 +106,7 @@ under_size {area} us size some e all =
     (λ u h. subst (λ z. (pos u *ℤ size.d) ≤ℤ z) (sym (over_denominator size.n size.d area e)) (subst (λ z. z ≤ℤ (size.d *ℤ area)) (*ℤ_comm size.d (pos u)) (mul_le_left size.d (nonneg_from_positive (positive_from_one some)) h)))
     us all)
 
--- numbers that are at most the area are small, and in their places
+-- numbers that are at most the area are small, and in their ranges
 pub small_under : {area : ℤ} (us : List ℕ) → area ≤ℤ pos (2 ^ 43) → All (λ u. pos u ≤ℤ area) us → All (λ u. u ≤ℤ pos (2 ^ 43)) (map pos us)
 small_under {area} us h all = All-map (λ u. u ≤ℤ pos (2 ^ 43)) pos us (All-weaker (λ u. pos u ≤ℤ area) (λ u. pos u ≤ℤ pos (2 ^ 43)) (λ u k. through k h) us all)
   where

@@ -66,8 +66,8 @@ rows-are a us first count start none zeros rows empty potentials is begins low h
     positive : (k : ℕ) → nat_lt 0 (suc k) ≡ true
     positive k = first_of (search rules, grind arith)
 
-    place : (p q l w j : ℕ) → p ≡ q → p + (l * w + j) ≡ q + (suc l - 1) * w + (first + 1 + j - first - 1)
-    place p q l w j e = ap (λ n. n + (l * w + j)) e ∙ apart q (l * w) j ∙ ap₂ (λ m n. q + m * w + n) (back l) (step j)
+    index : (p q l w j : ℕ) → p ≡ q → p + (l * w + j) ≡ q + (suc l - 1) * w + (first + 1 + j - first - 1)
+    index p q l w j e = ap (λ n. n + (l * w + j)) e ∙ apart q (l * w) j ∙ ap₂ (λ m n. q + m * w + n) (back l) (step j)
       where
         apart : (x y z : ℕ) → x + (y + z) ≡ x + y + z
         apart x y z = omega arith
@@ -84,7 +84,7 @@ rows-are a us first count start none zeros rows empty potentials is begins low h
     in_layer (suc l) j some below =
         ap (at rows) (behind l (count - 1 - first) j ∙ ap (λ n. n + (l * (count - 1 - first) + j)) (sym wide))
         ∙ high.each (l * (count - 1 - first) + j) (within l (count - 1 - first) j (a.layers * (count - 1 - first)) below (mul-le-mul_right (count - 1 - first) some))
-        ∙ ap₂ at potentials (place start (a.layers * pairs_before (length a.corners) first) l (count - 1 - first) j begins)
+        ∙ ap₂ at potentials (index start (a.layers * pairs_before (length a.corners) first) l (count - 1 - first) j begins)
         ∙ ap (λ n. at a.potentials (a.layers * pairs_before (length a.corners) first + (suc l - 1) * (n - 1 - first) + (first + 1 + j - first - 1))) is
         ∙ sym (ap (λ yes. if yes then at a.potentials (a.layers * pairs_before (length a.corners) first + (suc l - 1) * (length a.corners - 1 - first) + (first + 1 + j - first - 1)) else pos 0) (positive l))
 
@@ -145,9 +145,9 @@ raised_as {yes} corners a first last rows areas listed count is same r t rising 
     (subst (λ xs. IsTrue yes ↔ AreRaised xs rows a.layers (count - 1 - first)) same h) in
     (λ y. law.0 (here.0 y), λ all. here.1 (law.1 all))
 
--- a place in the layer above one of the layers
-pub place_above : {layer layers width n total : ℕ} → layer < layers → n < width → total ≡ (layers + 1) * width → (layer + 1) * width + n < total
-place_above {layer} {layers} {width} {n} {total} low in_row is = under ((layer + 1) * width) (next layer width) (mul-le-mul_right width (up low)) is in_row
+-- a index in the layer above one of the layers
+pub index_above : {layer layers width n total : ℕ} → layer < layers → n < width → total ≡ (layers + 1) * width → (layer + 1) * width + n < total
+index_above {layer} {layers} {width} {n} {total} low in_row is = under ((layer + 1) * width) (next layer width) (mul-le-mul_right width (up low)) is in_row
   where
     up : layer < layers → layer + 2 ≤ layers + 1
     up h = omega arith

@@ -5,7 +5,7 @@ use Rattle.bounds_model.specs.Numbers.{EachBelow}
 use Rattle.bounds_model.specs.Plane.{PlanePoint, point_at, turn}
 use Rattle.bounds_model.specs.KgonAnswer.{KgonAnswer, potential}
 
--- the number at this place
+-- the number at this index
 abbrev pub at : List ℤ → ℕ → ℤ
 at numbers i = slice_index_or numbers i (pos 0)
 
@@ -28,7 +28,7 @@ pub record AreAreas (corners : List PlanePoint) (first last : ℕ) (areas : List
   pub each : EachBelow (length areas) (λ j. at areas j ≡ turn (point_at corners first) (point_at corners (first + 1 + j)) (point_at corners last))
   pub small : All (Size (2 ^ 39)) areas
 
--- no number from a place on comes with its area to more than this
+-- no number from an index on comes with its area to more than this
 abbrev pub AreBelow : List ℤ → List ℤ → ℕ → ℤ → Type 0
 AreBelow areas rows start most = EachBelow (length areas) (λ j. (at rows (start + j) +ℤ at areas j) ≤ℤ most)
 

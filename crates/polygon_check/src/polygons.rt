@@ -4,7 +4,7 @@ ghost use Rattle.std.specs.List.Sorted.{IsStrictlyIncreasing};
 ghost use Rattle.integers.specs.Size.{Size};
 ghost use Rattle.bounds_model.specs.Plane.{point_at};
 ghost use Rattle.bounds_model.specs.Fractions.{SameValue};
-ghost use Rattle.bounds_model.specs.Places.{IsFraction};
+ghost use Rattle.bounds_model.specs.Ranges.{IsFraction};
 ghost use Rattle.bounds_model.specs.Kgon.{twice_area};
 ghost use Rattle.bounds_model.specs.Asks.{ask_kgon, plane};
 ghost use Rattle.bounds_model.specs.Answers.{Passes, IsBest, kgon};

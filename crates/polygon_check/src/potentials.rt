@@ -85,7 +85,7 @@ fn areas(
 fn are_raised(areas: &[i64], rows: &[i64], layers: usize, width: usize) -> bool
     requires layers { layers ≤ 10 }
     requires width { width ≤ 127 }
-    requires place { length areas.now < width }
+    requires index { length areas.now < width }
     requires as_many { length rows.now ≡ (layers + 1) * width }
     requires areas { All (Size (2 ^ 39)) areas.now }
     requires rows { All (Size (2 ^ 43)) rows.now }

@@ -23,14 +23,14 @@ fn push_zeros(rows: &mut Rows, count: usize)
     }
 }
 
-/// Adds so many potentials, from this place on.
+/// Adds so many potentials, from this index on.
 fn push_potentials(rows: &mut Rows, potentials: &[u128], start: usize, count: usize)
     requires room { length rows.old.items + count ≤ 1397 }
     requires within { start + count ≤ length potentials.now }
     requires small { All (λ u. u ≤ℤ pos (2 ^ 43)) (map pos potentials.now) }
     ensures { Adds (2 ^ 43) (λ j. at (map pos potentials.now) (start + j)) count rows.old.items rows.new.items }
 {
-    'places: for j in 0..count {
+    'numbers: for j in 0..count {
         rows.push(potentials[start + j] as i64);
     }
 }

@@ -1,5 +1,5 @@
 pub mod Listing
 pub mod SupportSums
-pub mod HeldDistances
+pub mod DeterminedDistances
 pub mod Passing
 pub mod Settled

@@ -5,25 +5,25 @@ use Rattle.std.proofs.lemmas.Int.{ints}
 use Rattle.bounds_model.specs.Numbers.{HasCount}
 use Rattle.bounds_model.specs.Space.{SpacePoint, point_at, vector, dot, SamePlace}
 use Rattle.bounds_model.specs.Fractions.{SameValue}
-use Rattle.bounds_model.specs.Places.{IsFraction, IsSpaceRatio}
+use Rattle.bounds_model.specs.Ranges.{IsFraction, IsSpaceRatio}
 use Rattle.bounds_model.specs.AnnulusAnswer.{WeightedPair, pair_sum}
 use Rattle.bounds_model.specs.DistanceAnswer.{DistanceAnswer, IsDirectionOf, PassesDistance}
 use Rattle.kernel_laws.specs.Limits.{IsVectorWithin}
 use Rattle.pair_sums.specs.declared.sums.PairSums.{PairSums}
 use Rattle.pair_sums.specs.Sums.{AreSums, pull_of}
 use Rattle.pair_sums.specs.Means.{mean_of, product_ratio}
-use Rattle.pair_sums.proofs.PairWeights.{in_places, some_weight}
+use Rattle.pair_sums.proofs.PairWeights.{in_ranges, some_weight}
 use Rattle.pair_sums.proofs.Products.{pull_is, first_product_is, product_nonneg, product_ratio_is}
 use Rattle.pair_sums.proofs.WeightedMeans.{first_mean_is, second_mean_is, are_numbers}
 use Rattle.polytope_distance.proofs.Listing.{past_the_end}
-use Rattle.polytope_distance.proofs.HeldDistances.{HoldsDistance}
+use Rattle.polytope_distance.proofs.DeterminedDistances.{DetermineDistance}
 
 -- 1 to 4 pairs of listed points hold the distance, with these sums, the first pair naming these two points
 pub record AreSupportItems (ps qs : List SpacePoint) (pairs : List WeightedPair) (s : PairSums) (p q : SpacePoint) : Type 0 where
   pub count : HasCount 1 4 pairs
   pub numbers : All (λ pair. (pair.first < length ps) × (pair.second < length qs)) pairs
   pub weight_limit : pair_sum pairs ≤ℤ pos (2 ^ 66)
-  pub holds : HoldsDistance ps qs pairs
+  pub holds : DetermineDistance ps qs pairs
   pub sums : AreSums ps qs pairs s
   pub first : point_at ps (get_or pairs 0 past_the_end).first ≡ p
   pub second : point_at qs (get_or pairs 0 past_the_end).second ≡ q
@@ -49,7 +49,7 @@ pub passes : {ps qs : List SpacePoint} {s : PairSums} {p q : SpacePoint} (a : Di
 passes {ps} {qs} {s} {p} {q} a few_first few_second h size value from at_from to at_to direction within =
     let numbers = are_numbers within in
     record {
-      places = record {
+      ranges = record {
         size = size;
         from = from;
         to = to;
@@ -57,7 +57,7 @@ passes {ps} {qs} {s} {p} {q} a few_first few_second h size value from at_from to
         direction_y = numbers.1;
         direction_z = numbers.2;
         count = h.count;
-        pairs = in_places (length ps) (length qs) a.pairs few_first few_second h.numbers h.holds.weights h.weight_limit;
+        pairs = in_ranges (length ps) (length qs) a.pairs few_first few_second h.numbers h.holds.weights h.weight_limit;
       };
       numbers = h.numbers;
       weights = h.holds.weights;

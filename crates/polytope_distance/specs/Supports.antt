@@ -7,7 +7,7 @@ use Rattle.corral.specs.Supported.{supports_of}
 
 -- a support as a weighted pair of points
 abbrev pub weighted_pair : WeightedItem → WeightedPair
-weighted_pair held = record { first = held.id.first; second = held.id.second; weight = pos held.weight }
+weighted_pair members = record { first = members.id.first; second = members.id.second; weight = pos members.weight }
 
 -- all supports, in order
 abbrev pub weighted_pairs : {K P : Type 0} {g : _} → Support K P g → List WeightedPair

@@ -24,7 +24,7 @@ pub(crate) fn is_right(rt: &HostRuntime, table: &Table, row: &Row) -> Result<boo
         }
     }
     if row.words.is_empty() {
-        print_place(rt, table, row)?;
+        print_row(rt, table, row)?;
         println!(rt; "it has no words")?;
     }
     Ok(!row.words.is_empty())
@@ -41,14 +41,14 @@ fn is_right_in_pieces(
     for length in row.cut.from..=row.cut.to {
         let ending = run_row(rt, table, row, words.as_slice(), length, piece.max(1))?;
         if !is_wanted(row, &ending) {
-            print_place(rt, table, row)?;
+            print_row(rt, table, row)?;
             println!(rt; "{line} ends with status {}", ending.status)?;
             print_bytes(rt, "out", ending.out.as_slice())?;
             print_bytes(rt, "told", ending.err.as_slice())?;
             return Ok(false);
         }
         if row.is_checked && !is_passing(rt.alloc(), table, row, words.as_slice(), &ending)? {
-            print_place(rt, table, row)?;
+            print_row(rt, table, row)?;
             println!(rt; "check says no to what {line} answers")?;
             print_bytes(rt, "out", ending.out.as_slice())?;
             return Ok(false);
@@ -91,7 +91,7 @@ fn is_passing(
     Ok(said.status == 0)
 }
 
-fn print_place(rt: &HostRuntime, table: &Table, row: &Row) -> io::Result<()> {
+fn print_row(rt: &HostRuntime, table: &Table, row: &Row) -> io::Result<()> {
     let line = row.line;
     print!(rt; "{}, line {line}, {}: ", table.name, row.name)
 }

@@ -8,8 +8,8 @@ pub mod ValueLaws
 pub mod FormLaws
 pub mod BodyLaws
 pub mod FactorLaws
-pub mod PlaceLaws
-pub mod ListPlaces
+pub mod RangeLaws
+pub mod ListRanges
 pub mod LengthLaws
 pub mod AnswerLaws
 pub mod SpelledLaws

@@ -1,7 +1,7 @@
 //! The laws of the answer text: a text and the answer that it spells determine each other.
 ghost use Rattle.text_laws.specs.Laws.{ReadsWhatIsSpelled, SpellsOne, BeginsNoOther, IsSpelledShort};
 
-/// A text reads as an answer exactly where it is the spelling of that answer, which keeps its places.
+/// A text reads as an answer exactly where it is the spelling of that answer, which keeps its ranges.
 pub fn reads_what_is_spelled()
     ensures { ReadsWhatIsSpelled }
 {}

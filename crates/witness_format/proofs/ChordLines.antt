@@ -35,7 +35,7 @@ pub lines_more : (cones : List HalfCone) (chords : List Chord) (i : ℕ) (cone :
     → chord_lines (drop i cones) (drop i chords) ≡ format_line (untitled chorded_fields) (chorded_values (get_or cones i cone, get_or chords i chord)) ++ chord_lines (drop (i + 1) cones) (drop (i + 1) chords)
 lines_more cones chords i cone chord l m = λ j. chord_lines (drop_more cones i cone l j) (drop_more chords i chord m j)
 
--- the chord at the last place is the last one
+-- the chord at the last index is the last one
 pub last_is : (chords : List Chord) (n : ℕ) (d : Chord) → length chords ≡ n + 1 → get_or chords n d ≡ last_chord chords
 last_is [] n d e = absurd (omega arith)
 last_is (k ∷ []) zero d e = refl

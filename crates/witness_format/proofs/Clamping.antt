@@ -5,9 +5,9 @@ use Rattle.std.specs.List.{before_first, after_first}
 use Rattle.std.specs.Option.{option_map}
 use Rattle.std.proofs.lemmas.Int.{ints}
 use Rattle.std.proofs.lemmas.Bool.Decides.{nat_tests}
-use Rattle.bounds_model.specs.Places.{number_limit}
+use Rattle.bounds_model.specs.Ranges.{number_limit}
 use Rattle.bounds_model.specs.AnswerText.Numerals.{whole_number}
-use Rattle.bounds_model.specs.AnswerText.Fields.{number, fraction, plane_ratio, space_ratio, is_in_place}
+use Rattle.bounds_model.specs.AnswerText.Fields.{number, fraction, plane_ratio, space_ratio, is_in_range}
 use Rattle.text_laws.proofs.AnswerTexts.NumberLaws.{both_true}
 use Rattle.witness_format.specs.Clamps.{clamped_size, clamped}
 use Rattle.witness_format.specs.Judging.{judged_by, judged_field, field_at}
@@ -45,20 +45,20 @@ clamped-same (negsuc n) small =
     ap (λ m. neg_ℤ (pos m)) same
 
 -- two values of which both or none is within the limit, and which are one where they are
-by_limit : {A : Type 0} (small other : Bool) (place : A → Bool) (v w : A) → small ≡ other → (other ≡ true → v ≡ w) → judged_by small (place v) v ≡ judged_by other (place w) w
-by_limit true true place v w same one = ap (λ x. judged_by true (place x) x) (one refl)
-by_limit false false place v w same one = refl
-by_limit true false place v w same one = absurd cc
-by_limit false true place v w same one = absurd cc
+by_limit : {A : Type 0} (small other : Bool) (in_range : A → Bool) (v w : A) → small ≡ other → (other ≡ true → v ≡ w) → judged_by small (in_range v) v ≡ judged_by other (in_range w) w
+by_limit true true in_range v w same one = ap (λ x. judged_by true (in_range x) x) (one refl)
+by_limit false false in_range v w same one = refl
+by_limit true false in_range v w same one = absurd cc
+by_limit false true in_range v w same one = absurd cc
 
 -- a clamped number
 pub number-clamped : (z : ℤ) → judged_field number (clamped z) ≡ judged_field number z
-number-clamped z = by_limit _ _ (is_in_place number) (clamped z) z (λ i. within-clamped z i && true) (λ small. clamped-same z (both_true (within z) true small).0)
+number-clamped z = by_limit _ _ (is_in_range number) (clamped z) z (λ i. within-clamped z i && true) (λ small. clamped-same z (both_true (within z) true small).0)
 
 -- the clamped numbers of a fraction
 pub fraction-clamped : (n d : ℤ) → judged_field fraction (record { n = clamped n; d = clamped d }) ≡ judged_field fraction (record { n = n; d = d })
 fraction-clamped n d =
-    by_limit _ _ (is_in_place fraction) (record { n = clamped n; d = clamped d }) (record { n = n; d = d }) (λ i. within-clamped n i && (within-clamped d i && true))
+    by_limit _ _ (is_in_range fraction) (record { n = clamped n; d = clamped d }) (record { n = n; d = d }) (λ i. within-clamped n i && (within-clamped d i && true))
     (λ small.
     let first = both_true (within n) (within d && true) small in
     let second = both_true (within d) true first.1 in
@@ -67,7 +67,7 @@ fraction-clamped n d =
 -- those of a point of the plane
 pub plane_ratio-clamped : (x y w : ℤ) → judged_field plane_ratio (record { x = clamped x; y = clamped y; w = clamped w }) ≡ judged_field plane_ratio (record { x = x; y = y; w = w })
 plane_ratio-clamped x y w =
-    by_limit _ _ (is_in_place plane_ratio) (record { x = clamped x; y = clamped y; w = clamped w }) (record { x = x; y = y; w = w }) (λ i. within-clamped x i && (within-clamped y i && (within-clamped w i && true)))
+    by_limit _ _ (is_in_range plane_ratio) (record { x = clamped x; y = clamped y; w = clamped w }) (record { x = x; y = y; w = w }) (λ i. within-clamped x i && (within-clamped y i && (within-clamped w i && true)))
     (λ small.
     let first = both_true (within x) (within y && (within w && true)) small in
     let second = both_true (within y) (within w && true) first.1 in
@@ -77,7 +77,7 @@ plane_ratio-clamped x y w =
 -- those of a point of space
 pub space_ratio-clamped : (x y z w : ℤ) → judged_field space_ratio (record { x = clamped x; y = clamped y; z = clamped z; w = clamped w }) ≡ judged_field space_ratio (record { x = x; y = y; z = z; w = w })
 space_ratio-clamped x y z w =
-    by_limit _ _ (is_in_place space_ratio) (record { x = clamped x; y = clamped y; z = clamped z; w = clamped w }) (record { x = x; y = y; z = z; w = w })
+    by_limit _ _ (is_in_range space_ratio) (record { x = clamped x; y = clamped y; z = clamped z; w = clamped w }) (record { x = x; y = y; z = z; w = w })
     (λ i. within-clamped x i && (within-clamped y i && (within-clamped z i && (within-clamped w i && true))))
     (λ small.
     let first = both_true (within x) (within y && (within z && (within w && true))) small in

@@ -7,33 +7,33 @@ use Rattle.std.proofs.lemmas.Int.{to_z-of_z, ints}
 use Rattle.bounds_model.specs.Fractions.{Fraction}
 use Rattle.bounds_model.specs.Plane.{PlaneRatio}
 use Rattle.bounds_model.specs.Space.{SpaceRatio}
-use Rattle.bounds_model.specs.Places.{number_limit, IsFraction, IsPlaneRatio, IsSpaceRatio}
-use Rattle.bounds_model.specs.AnswerText.Fields.{Field, fraction, plane_ratio, space_ratio, Value, is_small, is_in_place}
-use Rattle.text_laws.proofs.AnswerTexts.PlaceLaws.{FieldPlace, is_limited, field_place, field_passes, two_true}
-use Rattle.witness_format.specs.declared.judging.Flaw.TheVariants.{OutOfPlace}
+use Rattle.bounds_model.specs.Ranges.{number_limit, IsFraction, IsPlaneRatio, IsSpaceRatio}
+use Rattle.bounds_model.specs.AnswerText.Fields.{Field, fraction, plane_ratio, space_ratio, Value, is_small, is_in_range}
+use Rattle.text_laws.proofs.AnswerTexts.RangeLaws.{IsFieldInRange, is_limited, field_in_range, field_passes, two_true}
+use Rattle.witness_format.specs.declared.judging.Flaw.TheVariants.{OutOfRange}
 use Rattle.witness_format.specs.Judging.{Judged, judged_by, judged_field}
 
 -- both tests pass
-by_tests : {A : Type 0} (small place : Bool) (v : A) → small ≡ true → place ≡ true → judged_by small place v ≡ Ok v
+by_tests : {A : Type 0} (small in_range : Bool) (v : A) → small ≡ true → in_range ≡ true → judged_by small in_range v ≡ Ok v
 by_tests true true v s p = refl
 by_tests true false v s p = absurd cc
-by_tests false place v s p = absurd cc
+by_tests false in_range v s p = absurd cc
 
 -- the first test passes and the second does not
-by_first_test : {A : Type 0} (small place : Bool) (v : A) → small ≡ true → (place ≡ true → ⊥) → judged_by small place v ≡ Err OutOfPlace
+by_first_test : {A : Type 0} (small in_range : Bool) (v : A) → small ≡ true → (in_range ≡ true → ⊥) → judged_by small in_range v ≡ Err OutOfRange
 by_first_test true true v s p = absurd (p refl)
 by_first_test true false v s p = refl
-by_first_test false place v s p = absurd cc
+by_first_test false in_range v s p = absurd cc
 
--- a field that keeps the range of its place
-pub judged-kept : (field : Field) (v : Value field) → is_limited field ≡ true → FieldPlace field v → judged_field field v ≡ Ok v
-judged-kept field v limited place =
-    let passes = field_passes field v limited place in
-    by_tests (is_small field v) (is_in_place field v) v passes.0 passes.1
+-- a field that keeps the range of its in_range
+pub judged-kept : (field : Field) (v : Value field) → is_limited field ≡ true → IsFieldInRange field v → judged_field field v ≡ Ok v
+judged-kept field v limited in_range =
+    let passes = field_passes field v limited in_range in
+    by_tests (is_small field v) (is_in_range field v) v passes.0 passes.1
 
 -- a field whose numbers are within the limit, and that does not keep its range
-pub judged-out : (field : Field) (v : Value field) → is_small field v ≡ true → (FieldPlace field v → ⊥) → judged_field field v ≡ Err OutOfPlace
-judged-out field v small none = by_first_test (is_small field v) (is_in_place field v) v small (λ place. none (field_place field v small place))
+pub judged-out : (field : Field) (v : Value field) → is_small field v ≡ true → (IsFieldInRange field v → ⊥) → judged_field field v ≡ Err OutOfRange
+judged-out field v small none = by_first_test (is_small field v) (is_in_range field v) v small (λ in_range. none (field_in_range field v small in_range))
 
 -- numbers whose machine words are the same
 pub same_number : (a b : ℤ) → FitsSigned w128 a → FitsSigned w128 b → of_z w128 a ≡ of_z w128 b → a ≡ b
@@ -60,7 +60,7 @@ fraction-kept v n d a b lowest p q e f n-low d-low =
     sym (judged-kept fraction v refl lowest) ∙ ap (judged_field fraction) same
 
 -- numbers that no fraction in lowest terms has
-pub fraction-out : (n d : ℤ) → nat_abs n ≤ 2 ^ 126 → nat_abs d ≤ 2 ^ 126 → (IsFraction (record { n = n; d = d }) → ⊥) → ◌≡◌ {A = Judged Fraction} (Err OutOfPlace) (judged_field fraction (record { n = n; d = d }))
+pub fraction-out : (n d : ℤ) → nat_abs n ≤ 2 ^ 126 → nat_abs d ≤ 2 ^ 126 → (IsFraction (record { n = n; d = d }) → ⊥) → ◌≡◌ {A = Judged Fraction} (Err OutOfRange) (judged_field fraction (record { n = n; d = d }))
 fraction-out n d n-small d-small none =
     sym (judged-out fraction (record { n = n; d = d }) (two_true _ _ (small_number n n-small) (two_true _ _ (small_number d d-small) refl)) none)
 
@@ -68,7 +68,7 @@ fraction-out n d n-small d-small none =
 
 -- numbers that no point in lowest terms has
 pub plane_ratio-out : (x y w : ℤ) → nat_abs x ≤ 2 ^ 126 → nat_abs y ≤ 2 ^ 126 → nat_abs w ≤ 2 ^ 126 → (IsPlaneRatio (record { x = x; y = y; w = w }) → ⊥)
-    → ◌≡◌ {A = Judged PlaneRatio} (Err OutOfPlace) (judged_field plane_ratio (record { x = x; y = y; w = w }))
+    → ◌≡◌ {A = Judged PlaneRatio} (Err OutOfRange) (judged_field plane_ratio (record { x = x; y = y; w = w }))
 plane_ratio-out x y w x-small y-small w-small none =
     sym (judged-out plane_ratio (record { x = x; y = y; w = w }) (two_true _ _ (small_number x x-small) (two_true _ _ (small_number y y-small) (two_true _ _ (small_number w w-small) refl))) none)
 
@@ -76,7 +76,7 @@ plane_ratio-out x y w x-small y-small w-small none =
 
 -- numbers that no point in lowest terms has
 pub space_ratio-out : (x y z w : ℤ) → nat_abs x ≤ 2 ^ 126 → nat_abs y ≤ 2 ^ 126 → nat_abs z ≤ 2 ^ 126 → nat_abs w ≤ 2 ^ 126 → (IsSpaceRatio (record { x = x; y = y; z = z; w = w }) → ⊥)
-    → ◌≡◌ {A = Judged SpaceRatio} (Err OutOfPlace) (judged_field space_ratio (record { x = x; y = y; z = z; w = w }))
+    → ◌≡◌ {A = Judged SpaceRatio} (Err OutOfRange) (judged_field space_ratio (record { x = x; y = y; z = z; w = w }))
 space_ratio-out x y z w x-small y-small z-small w-small none =
     sym (judged-out space_ratio (record { x = x; y = y; z = z; w = w })
     (two_true _ _ (small_number x x-small) (two_true _ _ (small_number y y-small) (two_true _ _ (small_number z z-small) (two_true _ _ (small_number w w-small) refl)))) none)

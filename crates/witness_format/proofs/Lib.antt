@@ -1,6 +1,6 @@
 pub mod Digits
 pub mod Clamping
-pub mod Places
+pub mod FirstIndices
 pub mod FieldJudgements
 pub mod LineCuts
 pub mod FirstLines

@@ -5,13 +5,13 @@ use Rattle.std.specs.Option.{option_map}
 use Rattle.std.proofs.lemmas.List.{map-append}
 use Rattle.bounds_model.specs.AnswerText.Lines.{words_of}
 use Rattle.bounds_model.specs.AnswerText.Numerals as steps
-use Rattle.bounds_model.specs.AnswerText.Fields.{Field, Value, value_of, is_small, is_in_place}
-use Rattle.bounds_model.specs.AnswerText.LineFormats.{LineFormat, untitled, Values, after_words, values_of, are_small, are_in_place}
+use Rattle.bounds_model.specs.AnswerText.Fields.{Field, Value, value_of, is_small, is_in_range}
+use Rattle.bounds_model.specs.AnswerText.LineFormats.{LineFormat, untitled, Values, after_words, values_of, are_small, are_in_range}
 use Rattle.bounds_model.specs.AnswerText.Formats.{Refusal, bad_answer, big_number, Unread, ◌>>=◌, judged, line_at, lines_at}
 use Rattle.text_laws.proofs.AnswerTexts.FormLaws.{read_is}
 use Rattle.witness_format.specs.declared.fault.ReadFault.{ReadFault}
 use Rattle.witness_format.specs.declared.fault.ReadFault.TheVariants.{BadAnswer, BigNumber, OutOfMemory}
-use Rattle.witness_format.specs.declared.judging.Flaw.TheVariants.{PastLimit, OutOfPlace}
+use Rattle.witness_format.specs.declared.judging.Flaw.TheVariants.{PastLimit, OutOfRange}
 use Rattle.witness_format.specs.Judging.{Judged, judged_by, both, seen, judged_field, fields_at, said}
 use Rattle.witness_format.specs.Lines.{decided, numbered_words, first_words, next_words}
 use Rattle.witness_format.specs.Outcomes.{Finds, RefusesOr, Refuses, Reads}
@@ -30,7 +30,7 @@ both_judged false p t q x y = refl
 
 -- several values
 abbrev pub judged_values : (fields : List Field) → Values fields → Judged (Values fields)
-judged_values fields values = judged_by (are_small fields values) (are_in_place fields values) values
+judged_values fields values = judged_by (are_small fields values) (are_in_range fields values) values
 
 -- the fields behind the first
 abbrev judged_rest : (field : Field) (fields : List Field) → Value field → Option (Values fields) → Option (Judged (Values (field ∷ fields)))
@@ -40,7 +40,7 @@ judged_rest field fields v others = steps.◌>>=◌ {B = Judged (Values (field �
 first_and_rest : (field : Field) (fields : List Field) (v : Value field) (others : Option (Values fields))
     → steps.◌>>=◌ {B = Judged (Values (field ∷ fields))} (steps.◌>>=◌ {B = Judged (Values fields)} others (λ vs. Some (judged_values fields vs))) (λ js. Some (both (judged_field field v) js)) ≡ judged_rest field fields v others
 first_and_rest field fields v None = refl
-first_and_rest field fields v (Some vs) = ap (λ (j : Judged (Values (field ∷ fields))). Some j) (both_judged (is_small field v) (is_in_place field v) (are_small fields vs) (are_in_place fields vs) v vs)
+first_and_rest field fields v (Some vs) = ap (λ (j : Judged (Values (field ∷ fields))). Some j) (both_judged (is_small field v) (is_in_range field v) (are_small fields vs) (are_in_range fields vs) v vs)
 
 -- fields are judged one by one as they are together
 pub fields_judged : (fields : List Field) (words : List (List ℕ)) → fields_at fields words ≡ steps.◌>>=◌ {B = Judged (Values fields)} (values_of fields words) (λ vs. Some (judged_values fields vs))
@@ -57,16 +57,16 @@ fields_judged (field ∷ fields) words = by_first (λ rest. fields_judged fields
 -- ---- one line
 
 -- the order of causes
-by_causes : {A : Type 0} (small place : Bool) (number : ℕ) (v : A)
-    → decided number (Some (judged_by small place v)) ≡ (if not small then Err (big_number number) else if not place then Err (bad_answer number) else Ok v)
+by_causes : {A : Type 0} (small in_range : Bool) (number : ℕ) (v : A)
+    → decided number (Some (judged_by small in_range v)) ≡ (if not small then Err (big_number number) else if not in_range then Err (bad_answer number) else Ok v)
 by_causes true true number v = refl
 by_causes true false number v = refl
-by_causes false place number v = refl
+by_causes false in_range number v = refl
 
 -- the fields of a line
 by_values : (fields : List Field) (number : ℕ) (values : Option (Values fields)) → decided number (steps.◌>>=◌ {B = Judged (Values fields)} values (λ vs. Some (judged_values fields vs))) ≡ judged fields number values
 by_values fields number None = refl
-by_values fields number (Some vs) = by_causes (are_small fields vs) (are_in_place fields vs) number vs
+by_values fields number (Some vs) = by_causes (are_small fields vs) (are_in_range fields vs) number vs
 
 -- the words of a line
 by_words : (format : LineFormat) (number : ℕ) (rest : Option (List (List ℕ)))
@@ -118,7 +118,7 @@ pub decided_seen : {X Y : Type 0} (view : X → Y) (number : ℕ) (says : Option
 decided_seen view number None after = refl
 decided_seen view number (Some (Ok x)) after = refl
 decided_seen view number (Some (Err PastLimit)) after = refl
-decided_seen view number (Some (Err OutOfPlace)) after = refl
+decided_seen view number (Some (Err OutOfRange)) after = refl
 
 -- a line whose words say this
 pub line_read : {X : Type 0} (format : LineFormat) (values : X → Values format.fields) (text : Unread) (words : List (List ℕ)) (after : Unread) (says : Option (Judged X)) (result : Result X ReadFault)

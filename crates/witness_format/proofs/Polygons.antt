@@ -10,25 +10,25 @@ use Rattle.answers.specs.declared.polygons.KgonAnswer.{KgonAnswer}
 use Rattle.witness_format.specs.declared.field_value.Position.{Position}
 use Rattle.witness_format.proofs.SaidAnswers.{polygon_is}
 
--- a place in a list of corners
-abbrev pub place_values : Position → Values (bounded 0 127 ∷ [])
-place_values p = (p.place, tt)
+-- a number in a list of corners
+abbrev pub position_values : Position → Values (bounded 0 127 ∷ [])
+position_values p = (p.number, tt)
 
 -- the number of a corner
 abbrev pub corner_values : ℕ → Values (point_number ∷ [])
 corner_values n = (n, tt)
 
--- the values of places are those of positions
-places_are : (positions : List Position) → map {B = Values (bounded 0 127 ∷ [])} (λ n. (n, tt)) (map (λ p. p.place) positions) ≡ map place_values positions
-places_are [] = refl
-places_are (p ∷ positions) = ap (λ (vs : List (Values (bounded 0 127 ∷ []))). place_values p ∷ vs) (places_are positions)
+-- the values of numbers_of are those of positions
+positions_are : (positions : List Position) → map {B = Values (bounded 0 127 ∷ [])} (λ n. (n, tt)) (map (λ p. p.number) positions) ≡ map position_values positions
+positions_are [] = refl
+positions_are (p ∷ positions) = ap (λ (vs : List (Values (bounded 0 127 ∷ []))). position_values p ∷ vs) (positions_are positions)
 
--- a polygon whose places were read as positions
-pub read_polygon_is : (a : KgonAnswer) (positions : List Position) → a.chosen.items ≡ map (λ p. p.place) positions
-    → kgon_kind.answer a.size (map corner_values a.corners, (map place_values positions, (a.layers, (map pos a.potentials, tt)))) ≡ kgon (polygon_of a)
+-- a polygon whose numbers_of were read as positions
+pub read_polygon_is : (a : KgonAnswer) (positions : List Position) → a.chosen.items ≡ map (λ p. p.number) positions
+    → kgon_kind.answer a.size (map corner_values a.corners, (map position_values positions, (a.layers, (map pos a.potentials, tt)))) ≡ kgon (polygon_of a)
 read_polygon_is a positions chosen =
-    let places : map place_values positions ≡ map {B = Values (bounded 0 127 ∷ [])} (λ n. (n, tt)) a.chosen.items = sym (places_are positions) ∙ ap (map {B = Values (bounded 0 127 ∷ [])} (λ n. (n, tt))) (sym chosen) in
-    (λ i. kgon_kind.answer a.size (map corner_values a.corners, (places i, (a.layers, (map pos a.potentials, tt))))) ∙ polygon_is a
+    let numbers_of : map position_values positions ≡ map {B = Values (bounded 0 127 ∷ [])} (λ n. (n, tt)) a.chosen.items = sym (positions_are positions) ∙ ap (map {B = Values (bounded 0 127 ∷ [])} (λ n. (n, tt))) (sym chosen) in
+    (λ i. kgon_kind.answer a.size (map corner_values a.corners, (numbers_of i, (a.layers, (map pos a.potentials, tt))))) ∙ polygon_is a
 
 -- the longest row has a number for each corner behind the first
 pub longest_row : (corners : List ℕ) (longest layers : ℕ) → longest ≡ length corners - 1 → triangle (length (map corner_values corners) + 0 - 1) layers ≡ triangle longest layers

@@ -6,21 +6,21 @@ use Rattle.std.specs.Option.{option_map}
 use Rattle.std.proofs.Math.Nat.{mul-le-mul}
 use Rattle.std.proofs.lemmas.Bool.{le-leb, eq-eqb}
 use Rattle.std.proofs.lemmas.List.{append-nil, map-append}
-use Rattle.bounds_model.specs.Places.{number_limit}
+use Rattle.bounds_model.specs.Ranges.{number_limit}
 use Rattle.bounds_model.specs.AnswerText.Numerals as steps
 use Rattle.bounds_model.specs.AnswerText.Numerals.{natural_number}
-use Rattle.bounds_model.specs.AnswerText.Fields.{natural, naturals, naturals_of, is_in_place}
+use Rattle.bounds_model.specs.AnswerText.Fields.{natural, naturals, naturals_of, is_in_range}
 use Rattle.bounds_model.specs.AnswerText.LineFormats.{Values, values_of}
 use Rattle.bounds_model.specs.AnswerText.Formats.{Refusal, bad_answer, big_number, ◌>>=◌, Unread, line_at, rows_at}
 use Rattle.bounds_model.specs.AnswerText.Kinds.{triangle}
 use Rattle.bounds_model.specs.AnswerText.Written.{row_format}
 use Rattle.text_laws.proofs.AnswerTexts.FormLaws.{read_is}
 use Rattle.text_laws.proofs.AnswerTexts.NumberLaws.{some_is, bind_some}
-use Rattle.text_laws.proofs.AnswerTexts.PlaceLaws.{two_true}
+use Rattle.text_laws.proofs.AnswerTexts.RangeLaws.{two_true}
 use Rattle.witness_format.specs.declared.fault.ReadFault.{ReadFault}
 use Rattle.witness_format.specs.declared.fault.ReadFault.TheVariants.{BadAnswer, BigNumber, OutOfMemory}
 use Rattle.witness_format.specs.declared.judging.Flaw.{Flaw}
-use Rattle.witness_format.specs.declared.judging.Flaw.TheVariants.{PastLimit, OutOfPlace}
+use Rattle.witness_format.specs.declared.judging.Flaw.TheVariants.{PastLimit, OutOfRange}
 use Rattle.witness_format.specs.Judging.{Judged, judged_by, seen, judged_field, field_at, fields_at}
 use Rattle.witness_format.specs.Lines.{decided, next_words}
 use Rattle.witness_format.specs.Outcomes.{Finds, RefusesOr, ReadsOr, Reads}
@@ -178,21 +178,21 @@ one_by_one s front (suc count) (word ∷ words) = by_number (λ t ys. one_by_one
         ∙ ap (λ (j : Judged (List ℤ)). naturals_behind j count words) (put_judged s (within (pos n) && true) front (pos n))
         ∙ rest (s && (within (pos n) && true)) (front ++ pos n ∷ []) ∙ taken_more s front n (naturals_of count words)
 
--- numbers that were read are in their places
-read_in_place : (count : ℕ) (words : List (List ℕ)) (x : List ℤ × List (List ℕ)) → naturals_of count words ≡ Some x → (length x.0 ≡ count) × (list_all (λ z. int_le (pos 0) z) x.0 ≡ true)
-read_in_place zero words x e = subst (λ (y : List ℤ × List (List ℕ)). (length y.0 ≡ 0) × (list_all (λ z. int_le (pos 0) z) y.0 ≡ true)) (some_is ([], words) x e) (refl, refl)
-read_in_place (suc count) [] x e = absurd cc
-read_in_place (suc count) (word ∷ words) x e =
+-- numbers that were read are in their ranges
+read_in_range : (count : ℕ) (words : List (List ℕ)) (x : List ℤ × List (List ℕ)) → naturals_of count words ≡ Some x → (length x.0 ≡ count) × (list_all (λ z. int_le (pos 0) z) x.0 ≡ true)
+read_in_range zero words x e = subst (λ (y : List ℤ × List (List ℕ)). (length y.0 ≡ 0) × (list_all (λ z. int_le (pos 0) z) y.0 ≡ true)) (some_is ([], words) x e) (refl, refl)
+read_in_range (suc count) [] x e = absurd cc
+read_in_range (suc count) (word ∷ words) x e =
     let r = bind_some (natural_number word) (λ n. steps.◌>>=◌ {B = List ℤ × List (List ℕ)} (naturals_of count words) (λ others. Some (pos n ∷ others.0, others.1))) x e in
     let q = bind_some {B = List ℤ × List (List ℕ)} (naturals_of count words) (λ others. Some (pos r.0 ∷ others.0, others.1)) x r.2 in
-    let others = read_in_place count words q.0 q.1 in
+    let others = read_in_range count words q.0 q.1 in
     let is : ◌≡◌ {A = List ℤ × List (List ℕ)} (pos r.0 ∷ q.0.0, q.0.1) x = some_is (pos r.0 ∷ q.0.0, q.0.1) x q.2 in
     subst (λ (y : List ℤ × List (List ℕ)). (length y.0 ≡ suc count) × (list_all (λ z. int_le (pos 0) z) y.0 ≡ true)) is (ap suc others.0, two_true _ _ (not_below r.0) others.1)
 
 -- a row as its format reads it, behind numbers
 pub row_says : (front : List ℤ) (count : ℕ) (words : List (List ℕ)) → naturals_behind (Ok front) count words ≡ option_map (seen (λ (v : Values (naturals count ∷ [])). front ++ v.0)) (fields_at (naturals count ∷ []) words)
 row_says front count words =
-    one_by_one true front count words ∙ by_read (naturals_of count words) (λ x e. read_in_place count words x e)
+    one_by_one true front count words ∙ by_read (naturals_of count words) (λ x e. read_in_range count words x e)
     ∙ sym (ap (λ (o : Option (Judged (Values (naturals count ∷ [])))). option_map (seen (λ (v : Values (naturals count ∷ [])). front ++ v.0)) o) (fields_judged (naturals count ∷ []) words))
   where
     by_tests : (s p : Bool) (zs : List ℤ) → p ≡ true → judged_by (true && s) true (front ++ zs) ≡ seen {A = Values (naturals count ∷ [])} (λ v. front ++ v.0) (judged_by (s && true) (p && true) (zs, tt))
@@ -200,19 +200,19 @@ row_says front count words =
     by_tests true false zs e = absurd cc
     by_tests false p zs e = refl
 
-    by_end : (zs : List ℤ) (p : is_in_place (naturals count) zs ≡ true) (v : Option (Values []))
+    by_end : (zs : List ℤ) (p : is_in_range (naturals count) zs ≡ true) (v : Option (Values []))
         → steps.◌>>=◌ {B = Judged (List ℤ)} v (λ w. Some (judged_by (true && list_all within zs) true (front ++ zs)))
         ≡ option_map (seen (λ (u : Values (naturals count ∷ [])). front ++ u.0)) (steps.◌>>=◌ {B = Judged (Values (naturals count ∷ []))} (steps.◌>>=◌ {B = Values (naturals count ∷ [])} v (λ others. Some (zs, others))) (λ vs. Some (judged_values (naturals count ∷ []) vs)))
     by_end zs p None = refl
-    by_end zs p (Some v) = ap (λ (j : Judged (List ℤ)). Some j) (by_tests (list_all within zs) (is_in_place (naturals count) zs) zs p)
+    by_end zs p (Some v) = ap (λ (j : Judged (List ℤ)). Some j) (by_tests (list_all within zs) (is_in_range (naturals count) zs) zs p)
 
     by_read : (r : Option (List ℤ × List (List ℕ))) → ((x : List ℤ × List (List ℕ)) → r ≡ Some x → (length x.0 ≡ count) × (list_all (λ z. int_le (pos 0) z) x.0 ≡ true))
         → all_taken true front r
         ≡ option_map (seen (λ (v : Values (naturals count ∷ [])). front ++ v.0)) (steps.◌>>=◌ {B = Judged (Values (naturals count ∷ []))} (steps.◌>>=◌ {B = Values (naturals count ∷ [])} r (λ first. steps.◌>>=◌ {B = Values (naturals count ∷ [])} (values_of [] first.1) (λ others. Some (first.0, others)))) (λ vs. Some (judged_values (naturals count ∷ []) vs)))
-    by_read None places = refl
-    by_read (Some x) places =
-        let place = places x refl in
-        by_end x.0 (two_true _ _ (eq-eqb (length x.0) count place.0) place.1) (values_of [] x.1)
+    by_read None ranges = refl
+    by_read (Some x) ranges =
+        let in_range = ranges x refl in
+        by_end x.0 (two_true _ _ (eq-eqb (length x.0) count in_range.0) in_range.1) (values_of [] x.1)
 
 -- ---- a loop over words
 
@@ -244,13 +244,13 @@ numbers_more front left (word ∷ words) total none some so_far = sym so_far ∙
 pub number_added : (numbers : List ℕ) (n : ℕ) (so_far : Judged (Unit {0})) → seen (λ u. map pos (numbers ++ n ∷ [])) so_far ≡ put_behind (seen (λ u. map pos numbers) so_far) (seen pos (Ok n))
 number_added numbers n (Ok u) = ap (λ (zs : List ℤ). Ok zs) (map-append pos numbers (n ∷ []))
 number_added numbers n (Err PastLimit) = refl
-number_added numbers n (Err OutOfPlace) = refl
+number_added numbers n (Err OutOfRange) = refl
 
 -- a number that has a flaw
 pub number_flawed : (numbers : List ℤ) (so_far : Judged (Unit {0})) (flaw : Flaw) → Err (worse_of so_far flaw) ≡ put_behind (seen (λ u. numbers) so_far) (Err flaw)
 number_flawed numbers (Ok u) flaw = refl
 number_flawed numbers (Err PastLimit) flaw = refl
-number_flawed numbers (Err OutOfPlace) flaw = refl
+number_flawed numbers (Err OutOfRange) flaw = refl
 
 -- ---- a row
 
@@ -260,7 +260,7 @@ by_said : (front : List ℤ) (width number : ℕ) (after : Unread) (s : Option (
 by_said front width number after None = refl
 by_said front width number after (Some (Ok v)) = refl
 by_said front width number after (Some (Err PastLimit)) = refl
-by_said front width number after (Some (Err OutOfPlace)) = refl
+by_said front width number after (Some (Err OutOfRange)) = refl
 
 -- where memory may be wanting, what reads without it reads too
 reads_weaker : {X Y : Type 0} (view : X → Y) (result : Result X ReadFault) (read : Result Y Refusal) → Reads view result read → ReadsOr (Unit {0}) view result read

@@ -2,7 +2,7 @@
 use Rattle.std.proofs.Common.{◌≡◌, ◌∙◌, refl, sym, ap, ℕ, ◌+◌, pos, List, [], ◌∷◌, ◌++◌, length, map, arith}
 use Rattle.std.specs.Prelude.{zip}
 use Rattle.std.proofs.lemmas.List.{length-map, length-append}
-use Rattle.bounds_model.specs.Answers.{HasPlaces, circle, sphere, rectangle, parallelogram, strip, annulus, empty, kgon, distance, centres}
+use Rattle.bounds_model.specs.Answers.{KeepsRanges, circle, sphere, rectangle, parallelogram, strip, annulus, empty, kgon, distance, centres}
 use Rattle.bounds_model.specs.AnswerText.Fields.{plane_ratio, point_number, bounded}
 use Rattle.bounds_model.specs.AnswerText.LineFormats.{Values}
 use Rattle.bounds_model.specs.AnswerText.Kinds.{circle_kind, sphere_kind, rectangle_kind, parallelogram_kind, strip_kind, annulus_kind, empty_kind, kgon_kind, distance_kind, centres_kind}
@@ -125,30 +125,30 @@ centres_is a = λ i. centres (record {
 
 -- ---- all kinds
 
--- a parallelogram that keeps its places has one chord more than cones
-pub one_chord_more : (a : ParaAnswer) → HasPlaces (parallelogram (parallelogram_of a)) → length a.chords ≡ length a.fan.cones + 1
-one_chord_more a places =
+-- a parallelogram that keeps its ranges has one chord more than cones
+pub one_chord_more : (a : ParaAnswer) → KeepsRanges (parallelogram (parallelogram_of a)) → length a.chords ≡ length a.fan.cones + 1
+one_chord_more a ranges =
     omega (
       arith,
-      places.chord_for_each,
+      ranges.chord_for_each,
       length-map a.chords chord_of,
       length-append (map (λ c. c.direction) (map half_cone_of a.fan.cones)) (vector_of a.fan.last ∷ []),
       length-map (map half_cone_of a.fan.cones) (λ c. c.direction),
       length-map a.fan.cones half_cone_of,
     )
 
--- what the format says of an answer that keeps its places is the answer
-said_is : (a : Answer) → HasPlaces (answer_of a) → (said_of a).kind.answer (said_of a).size (said_of a).body ≡ answer_of a
-said_is (Circle a) places = circle_is a
-said_is (Sphere a) places = sphere_is a
-said_is (Rectangle a) places = rectangle_is a
-said_is (Parallelogram a) places = parallelogram_is a (one_chord_more a places)
-said_is (Strip a) places = strip_is a
-said_is (Annulus a) places = annulus_is a
-said_is (Empty a) places = empty_is a
-said_is (Kgon a) places = polygon_is a
-said_is (Distance a) places = distance_is a
-said_is (Centres a) places = centres_is a
+-- what the format says of an answer that keeps its ranges is the answer
+said_is : (a : Answer) → KeepsRanges (answer_of a) → (said_of a).kind.answer (said_of a).size (said_of a).body ≡ answer_of a
+said_is (Circle a) ranges = circle_is a
+said_is (Sphere a) ranges = sphere_is a
+said_is (Rectangle a) ranges = rectangle_is a
+said_is (Parallelogram a) ranges = parallelogram_is a (one_chord_more a ranges)
+said_is (Strip a) ranges = strip_is a
+said_is (Annulus a) ranges = annulus_is a
+said_is (Empty a) ranges = empty_is a
+said_is (Kgon a) ranges = polygon_is a
+said_is (Distance a) ranges = distance_is a
+said_is (Centres a) ranges = centres_is a
 
 -- the kinds keep the laws of texts
 said_law : (a : Answer) → KindLaw (said_of a).kind
@@ -164,5 +164,5 @@ said_law (Distance a) = distance_law
 said_law (Centres a) = centres_law
 
 -- the text of what the format says is the spelling of the answer
-pub said_spells : (bytes : List ℕ) (a : Answer) → HasPlaces (answer_of a) → bytes ≡ kind_bytes (said_of a).kind (said_of a).size (said_of a).body → Spells bytes (answer_of a)
-said_spells bytes a places text = record { places = places; spelled = text ∙ sym ((said_law a).spelled (said_of a).size (said_of a).body) ∙ ap spelling (said_is a places) }
+pub said_spells : (bytes : List ℕ) (a : Answer) → KeepsRanges (answer_of a) → bytes ≡ kind_bytes (said_of a).kind (said_of a).size (said_of a).body → Spells bytes (answer_of a)
+said_spells bytes a ranges text = record { ranges = ranges; spelled = text ∙ sym ((said_law a).spelled (said_of a).size (said_of a).body) ∙ ap spelling (said_is a ranges) }

@@ -1,6 +1,6 @@
 -- Numbers of any length, brought within the range of machine arithmetic.
 use Rattle.std.specs.Prelude.{ℕ, ℤ, pos, negsuc, neg_ℤ, ◌+◌, min}
-use Rattle.bounds_model.specs.Places.{number_limit}
+use Rattle.bounds_model.specs.Ranges.{number_limit}
 
 -- the number, or the first one past the limit where it is greater
 abbrev pub clamped_size : ℕ → ℕ

@@ -11,7 +11,7 @@ use Rattle.bounds_model.specs.AnswerText.Formats as model
 use Rattle.bounds_model.specs.AnswerText.Formats.{Refusal, bad_answer, big_number, ◌>>=◌}
 use Rattle.witness_format.specs.declared.lines.Unread.{Unread}
 use Rattle.witness_format.specs.declared.words.Words.{Words}
-use Rattle.witness_format.specs.declared.judging.Flaw.TheVariants.{PastLimit, OutOfPlace}
+use Rattle.witness_format.specs.declared.judging.Flaw.TheVariants.{PastLimit, OutOfRange}
 use Rattle.witness_format.specs.Judging.{Judged}
 
 -- the words of a text in which single blanks part them, or none
@@ -31,7 +31,7 @@ lines_left unread = record { number = unread.number; lines = lines_of unread.byt
 abbrev pub decided : {A : Type 0} → ℕ → Option (Judged A) → Result A Refusal
 decided number None = Err (bad_answer number)
 decided number (Some (Err PastLimit)) = Err (big_number number)
-decided number (Some (Err OutOfPlace)) = Err (bad_answer number)
+decided number (Some (Err OutOfRange)) = Err (bad_answer number)
 decided number (Some (Ok value)) = Ok value
 
 -- the words of the line of this number, where it ends with a line feed

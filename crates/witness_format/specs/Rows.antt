@@ -11,7 +11,7 @@ use Rattle.bounds_model.specs.AnswerText.Kinds.{triangle}
 use Rattle.bounds_model.specs.AnswerText.Written.{row_format}
 use Rattle.witness_format.specs.declared.row_widths.RowWidths.{RowWidths}
 use Rattle.witness_format.specs.declared.judging.Flaw.{Flaw}
-use Rattle.witness_format.specs.declared.judging.Flaw.TheVariants.{PastLimit, OutOfPlace}
+use Rattle.witness_format.specs.declared.judging.Flaw.TheVariants.{PastLimit, OutOfRange}
 use Rattle.witness_format.specs.Judging.{Judged, both, seen, field_at}
 
 -- so many rows of this width, and so many of each smaller one
@@ -38,7 +38,7 @@ put_behind front n = seen (λ x. x.0 ++ x.1 ∷ []) (both front n)
 -- what is wrong with numbers of which the last has a flaw
 abbrev pub worse_of : Judged (Unit {0}) → Flaw → Flaw
 worse_of (Err PastLimit) flaw = PastLimit
-worse_of (Err OutOfPlace) flaw = flaw
+worse_of (Err OutOfRange) flaw = flaw
 worse_of (Ok u) flaw = flaw
 
 -- numbers, and so many behind them that take all words

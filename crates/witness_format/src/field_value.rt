@@ -55,27 +55,27 @@ impl FieldValue for u32 {
     ghost written = { λ x. tt };
 }
 
-/// The place of a corner in the list of a hull's corners.
+/// The number of a corner in the list of a hull's corners.
 #[derive(Clone, Copy, Debug, Default, PartialEq, Eq)]
 pub(crate) struct Position {
-    pub(crate) place: u32,
+    pub(crate) number: u32,
 }
 
 impl FieldValue for Position {
     ghost field = { bounded 0 127 };
 
-    ghost value = { λ p. p.place };
+    ghost value = { λ p. p.number };
 
     fn read(words: Words<'_>) -> Option<(Judged<Position>, Words<'_>)> {
-        let (place, words) = fields::position(words)?;
-        match place {
-            Ok(place) => Some((Ok(Position { place }), words)),
+        let (number, words) = fields::position(words)?;
+        match number {
+            Ok(number) => Some((Ok(Position { number }), words)),
             Err(flaw) => Some((Err(flaw), words)),
         }
     }
 
     fn print(&self, text: &mut Vec<u8>) -> Result<(), AllocError> {
-        push_natural(text, u128::from(self.place))
+        push_natural(text, u128::from(self.number))
     }
 
     ghost written = { λ x. tt };

@@ -1,4 +1,4 @@
-//! The fields of a line: for each, its form, the limit of its numbers and the range of its place.
+//! The fields of a line: for each, its form, the limit of its numbers and its range.
 ghost use Rattle.std.specs.Prelude.{◌≡◌, ◌≤◌, pos, IfSome, IfOk};
 ghost use Rattle.bounds_model.specs.EmptyAnswer.Blocker.{point as side_point};
 ghost use Rattle.bounds_model.specs.AnswerText.Fields as model;
@@ -16,7 +16,7 @@ use exact_fractions::{Frac, Homog2, Homog3};
 /// The greatest number of a point.
 const POINT_LIMIT: u32 = 9999;
 
-/// The greatest place in a list of a hull's corners.
+/// The greatest number in a list of a hull's corners.
 const POSITION_LIMIT: u32 = 127;
 
 /// A number without a sign from a least to a greatest one.
@@ -40,7 +40,7 @@ fn judged_bounded(n: u128, low: u32, high: u32) -> Judged<u32>
         return Err(Flaw::PastLimit);
     }
     if n < u128::from(low) || n > u128::from(high) {
-        return Err(Flaw::OutOfPlace);
+        return Err(Flaw::OutOfRange);
     }
     Ok(n as u32)
 }
@@ -52,7 +52,7 @@ pub(crate) fn point_number(words: Words<'_>) -> Option<(Judged<u32>, Words<'_>)>
     bounded(words, 0, POINT_LIMIT)
 }
 
-/// The place of a corner in the list of a hull's corners.
+/// The number of a corner in the list of a hull's corners.
 pub(crate) fn position(words: Words<'_>) -> Option<(Judged<u32>, Words<'_>)>
     ensures { Finds (λ x. (x.0, words_left x.1)) result (field_at (model.bounded 0 127) (words_left words.entry)) }
 {
@@ -142,12 +142,12 @@ fn judged_fraction(n: i128, d: i128) -> Judged<Frac>
         return Err(Flaw::PastLimit);
     }
     if n < 0 || d < 1 {
-        return Err(Flaw::OutOfPlace);
+        return Err(Flaw::OutOfRange);
     }
     let (n, d) = (n as u128, d as u128);
     let value = Frac::new(n, d);
     if value.num() != n || value.den() != d {
-        return Err(Flaw::OutOfPlace);
+        return Err(Flaw::OutOfRange);
     }
     Ok(value)
 }
@@ -172,11 +172,11 @@ fn judged_plane_ratio(x: i128, y: i128, w: i128) -> Judged<Homog2>
         return Err(Flaw::PastLimit);
     }
     if w < 1 {
-        return Err(Flaw::OutOfPlace);
+        return Err(Flaw::OutOfRange);
     }
     let value = Homog2::new(x, y, w);
     if value.x() != x || value.y() != y || value.w() != w {
-        return Err(Flaw::OutOfPlace);
+        return Err(Flaw::OutOfRange);
     }
     Ok(value)
 }
@@ -207,11 +207,11 @@ fn judged_space_ratio(x: i128, y: i128, z: i128, w: i128) -> Judged<Homog3>
         return Err(Flaw::PastLimit);
     }
     if w < 1 {
-        return Err(Flaw::OutOfPlace);
+        return Err(Flaw::OutOfRange);
     }
     let value = Homog3::new(x, y, z, w);
     if value.x() != x || value.y() != y || value.z() != z || value.w() != w {
-        return Err(Flaw::OutOfPlace);
+        return Err(Flaw::OutOfRange);
     }
     Ok(value)
 }

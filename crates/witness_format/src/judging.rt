@@ -1,4 +1,4 @@
-//! The order of causes on one line: its form, then the limit of all numbers, then the range of each place.
+//! The order of causes on one line: its form, then the limit of all numbers, then the range of each number.
 ghost use Rattle.std.specs.Prelude.{◌≡◌, Some, Ok, IfOk};
 ghost use Rattle.witness_format.specs.Judging.{both};
 ghost use Rattle.witness_format.specs.Lines.{decided};
@@ -11,8 +11,8 @@ use crate::ReadFault;
 pub(crate) enum Flaw {
     /// One is past the limit of all numbers.
     PastLimit,
-    /// One is outside the range of its place.
-    OutOfPlace,
+    /// One is outside its range.
+    OutOfRange,
 }
 
 /// A value, or what is wrong with its numbers.
@@ -25,7 +25,7 @@ pub(crate) fn both<A: Copy, B: Copy>(a: Judged<A>, b: Judged<B>) -> Judged<(A, B
     match (a, b) {
         (Ok(x), Ok(y)) => Ok((x, y)),
         (Err(Flaw::PastLimit), _) | (_, Err(Flaw::PastLimit)) => Err(Flaw::PastLimit),
-        _ => Err(Flaw::OutOfPlace),
+        _ => Err(Flaw::OutOfRange),
     }
 }
 
@@ -37,7 +37,7 @@ pub(crate) fn decide<T: Copy>(number: u32, says: Option<Judged<T>>) -> Result<T,
     match says {
         None => Err(ReadFault::BadAnswer(number)),
         Some(Err(Flaw::PastLimit)) => Err(ReadFault::BigNumber(number)),
-        Some(Err(Flaw::OutOfPlace)) => Err(ReadFault::BadAnswer(number)),
+        Some(Err(Flaw::OutOfRange)) => Err(ReadFault::BadAnswer(number)),
         Some(Ok(value)) => Ok(value),
     }
 }

@@ -234,7 +234,7 @@ impl Line for Side {
     }
 }
 
-/// The sides of an upright rectangle.
+/// The sides of an axis-parallel rectangle.
 #[derive(Clone, Copy, Debug, PartialEq, Eq)]
 pub(crate) struct Edges {
     pub(crate) left: i128,

@@ -3,7 +3,7 @@ ghost use Rattle.std.specs.Prelude.{◌≡◌, ◌+◌, ◌≤◌, ◌^◌, leng
 ghost use Rattle.witness_format.specs.Outcomes.{Reads};
 
 use crate::ReadFault;
-use crate::words::{Words, place_of};
+use crate::words::{Words, index_of};
 
 /// The lines of a text that are not yet read, and the number of the first of them.
 #[derive(Drop)]
@@ -29,12 +29,12 @@ impl<'a> Unread<'a> {
     pub(crate) fn next_line(&mut self) -> Result<Words<'a>, ReadFault>
         ensures { Reads (λ words. (words_left words, lines_left self.new)) result (next_words (lines_left self.old)) }
     {
-        match place_of(self.bytes, b'\n') {
-            Some(place) => {
-                let line = &self.bytes[..place];
+        match index_of(self.bytes, b'\n') {
+            Some(index) => {
+                let line = &self.bytes[..index];
                 *self = Unread {
                     number: self.number + 1,
-                    bytes: &self.bytes[place + 1..],
+                    bytes: &self.bytes[index + 1..],
                 };
                 Ok(Words::new(line))
             }

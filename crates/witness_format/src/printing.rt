@@ -1,6 +1,6 @@
 //! The one text of an answer, line by line.
 ghost use Rattle.std.specs.Prelude.{◌≡◌, ◌+◌, ℕ, List, [], ◌++◌, length, IfOk, OnOk};
-ghost use Rattle.bounds_model.specs.Answers.{HasPlaces};
+ghost use Rattle.bounds_model.specs.Answers.{KeepsRanges};
 ghost use Rattle.bounds_model.specs.AnswerText.Kinds.{circle_kind, sphere_kind, rectangle_kind, parallelogram_kind, strip_kind, annulus_kind, empty_kind, kgon_kind, distance_kind, centres_kind};
 ghost use Rattle.bounds_model.specs.AnswerText.Spelling.{Spells};
 ghost use Rattle.bounds_model.specs.AnswerText.Written.{body_bytes, kind_bytes};
@@ -40,10 +40,10 @@ impl AnswerBytes {
     }
 }
 
-/// The one text of an answer that keeps the ranges of its places, as every answer does that was read
+/// The one text of an answer that keeps its ranges, as every answer does that was read
 /// or that a solver gave.
 pub fn print(alloc: Global, answer: &Answer) -> Result<AnswerBytes, OutOfMemory>
-    requires { HasPlaces (answer_of answer.now) }
+    requires { KeepsRanges (answer_of answer.now) }
     ensures { IfOk result (λ text. Spells text (answer_of answer.now)) }
 {
     match answer_text(alloc, answer) {
@@ -53,7 +53,7 @@ pub fn print(alloc: Global, answer: &Answer) -> Result<AnswerBytes, OutOfMemory>
 }
 
 fn answer_text(alloc: Global, answer: &Answer) -> Result<Vec<u8>, AllocError>
-    requires { HasPlaces (answer_of answer.now) }
+    requires { KeepsRanges (answer_of answer.now) }
     ensures { IfOk result (λ text. let said = said_of answer.now in text.items ≡ kind_bytes said.kind said.size said.body) }
 {
     let mut text = Vec::new(alloc);
@@ -84,7 +84,7 @@ fn name(answer: &Answer) -> &'static [u8]
 
 /// The lines between that of the size and the last one.
 fn push_body(text: &mut Vec<u8>, answer: &Answer) -> Result<(), AllocError>
-    requires { HasPlaces (answer_of answer.now) }
+    requires { KeepsRanges (answer_of answer.now) }
     ensures { OnOk result (let said = said_of answer.now in text.new.items ≡ text.old.items ++ body_bytes said.kind.body [] said.body) }
 {
     match answer {

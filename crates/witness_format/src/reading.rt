@@ -28,7 +28,7 @@ use exact_fractions::Frac;
 use std::alloc::Global;
 
 /// Reads an answer text. The first line that is refused decides, and on one line its form goes before a
-/// number past the limit, and that before a number outside the range of its place. Memory may be wanting for
+/// number past the limit, and that before a number outside its range. Memory may be wanting for
 /// the lists of fans and polygons, and for nothing else.
 pub fn read(alloc: Global, bytes: &[u8]) -> Result<Answer, ReadFault>
     requires { length bytes.now ≤ 2 ^ 23 }
@@ -207,21 +207,21 @@ fn read_kgon(alloc: Global, text: &mut Unread<'_>, size: Frac) -> Result<Answer,
     Ok(Answer::Kgon(KgonAnswer {
         size,
         corners,
-        chosen: places(&chosen),
+        chosen: numbers_of(&chosen),
         layers,
         potentials,
     }))
 }
 
-/// The places of these positions.
-fn places(positions: &ArrayVec<Position, 12>) -> ArrayVec<u32, 12>
-    ensures { result.items ≡ map (λ p. p.place) positions.now.items }
+/// The numbers of these positions.
+fn numbers_of(positions: &ArrayVec<Position, 12>) -> ArrayVec<u32, 12>
+    ensures { result.items ≡ map (λ p. p.number) positions.now.items }
 {
-    let mut places = ArrayVec::new();
+    let mut numbers = ArrayVec::new();
     for position in positions.as_slice() {
-        places.push(position.place);
+        numbers.push(position.number);
     }
-    places
+    numbers
 }
 
 fn read_distance(text: &mut Unread<'_>, size: Frac) -> Result<Answer, ReadFault>

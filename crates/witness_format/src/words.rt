@@ -31,8 +31,8 @@ impl<'a> Words<'a> {
             (λ parts. words_left self.entry ≡ parts.0.now ∷ words_left parts.1) }
     {
         let text = self.text?;
-        match place_of(text, b' ') {
-            Some(place) => Some((&text[..place], Words::new(&text[place + 1..]))),
+        match index_of(text, b' ') {
+            Some(index) => Some((&text[..index], Words::new(&text[index + 1..]))),
             None => Some((text, Words { text: None })),
         }
     }
@@ -96,9 +96,9 @@ impl<'a> Words<'a> {
     }
 }
 
-/// The place of the first byte of this value.
-pub(crate) fn place_of(text: &[u8], byte: u8) -> Option<usize>
-    ensures place { result ≡ position_from (λ b. b == byte) 0 text.now }
+/// The index of the first byte of this value.
+pub(crate) fn index_of(text: &[u8], byte: u8) -> Option<usize>
+    ensures index { result ≡ position_from (λ b. b == byte) 0 text.now }
     ensures within { IfSome result (λ i. i < length text.now) }
 {
     memchr(byte, text)
@@ -110,8 +110,8 @@ pub(crate) fn cut(text: &[u8], byte: u8) -> (&[u8], &[u8])
     ensures before { result.0.now ≡ before_first (λ b. b == byte) text.now }
     ensures after { result.1.now ≡ after_first (λ b. b == byte) text.now }
 {
-    match place_of(text, byte) {
-        Some(place) => (&text[..place], &text[place + 1..]),
+    match index_of(text, byte) {
+        Some(index) => (&text[..index], &text[index + 1..]),
         None => (text, &[]),
     }
 }

@@ -1,4 +1,4 @@
--- The kinds of fields, each of one word or several: their form, the numbers in them, and the ranges of their places.
+-- The kinds of fields, each of one word or several: their form, the numbers in them, and the ranges of their ranges.
 use Rattle.std.specs.Prelude.{ℕ, zero, suc, ◌%◌, ℤ, pos, int_le, nat_abs, nat_le, Bool, true, ◌&&◌, ◌==◌, List, [], ◌∷◌, length, Option, Some, None}
 use Rattle.std.specs.List.{list_all}
 use Rattle.std.specs.Str.{bytes_eq}
@@ -7,7 +7,7 @@ use Rattle.bounds_model.specs.Fractions.{Fraction}
 use Rattle.bounds_model.specs.Plane.{PlaneRatio}
 use Rattle.bounds_model.specs.Space.{SpaceRatio}
 use Rattle.bounds_model.specs.EmptyAnswer.{Blocker, side, point}
-use Rattle.bounds_model.specs.Places.{number_limit, point_limit}
+use Rattle.bounds_model.specs.Ranges.{number_limit, point_limit}
 use Rattle.bounds_model.specs.AnswerText.Numerals.{◌>>=◌, natural_number, whole_number, fraction_number}
 
 -- what may stand in a line
@@ -126,13 +126,13 @@ abbrev pub is_blocker : Blocker → Bool
 is_blocker side = true
 is_blocker (point n) = nat_le n point_limit
 
--- the field is in the range of its place
-abbrev pub is_in_place : (field : Field) → Value field → Bool
-is_in_place number z = true
-is_in_place natural z = int_le (pos 0) z
-is_in_place (naturals count) zs = length zs == count && list_all (λ z. int_le (pos 0) z) zs
-is_in_place (bounded low high) n = nat_le low n && nat_le n high
-is_in_place fraction a = int_le (pos 0) a.n && is_lowest a.d (a.n ∷ a.d ∷ [])
-is_in_place plane_ratio c = is_lowest c.w (c.x ∷ c.y ∷ c.w ∷ [])
-is_in_place space_ratio c = is_lowest c.w (c.x ∷ c.y ∷ c.z ∷ c.w ∷ [])
-is_in_place blocker b = is_blocker b
+-- the field is in its range
+abbrev pub is_in_range : (field : Field) → Value field → Bool
+is_in_range number z = true
+is_in_range natural z = int_le (pos 0) z
+is_in_range (naturals count) zs = length zs == count && list_all (λ z. int_le (pos 0) z) zs
+is_in_range (bounded low high) n = nat_le low n && nat_le n high
+is_in_range fraction a = int_le (pos 0) a.n && is_lowest a.d (a.n ∷ a.d ∷ [])
+is_in_range plane_ratio c = is_lowest c.w (c.x ∷ c.y ∷ c.w ∷ [])
+is_in_range space_ratio c = is_lowest c.w (c.x ∷ c.y ∷ c.z ∷ c.w ∷ [])
+is_in_range blocker b = is_blocker b

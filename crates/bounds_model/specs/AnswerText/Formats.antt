@@ -1,11 +1,11 @@
 -- Formats of lists of lines, and what lines read as under them, up to the first refused line.
 use Rattle.std.specs.Prelude.{ℕ, zero, suc, ◌+◌, ◌-◌, ℤ, not, if◌then◌else◌, List, [], ◌∷◌, ◌++◌, length, Option, Some, None, Result, Ok, Err}
 use Rattle.bounds_model.specs.AnswerText.Fields.{Field, bounded, naturals}
-use Rattle.bounds_model.specs.AnswerText.LineFormats.{LineFormat, titled, untitled, Values, form_of, are_small, are_in_place}
+use Rattle.bounds_model.specs.AnswerText.LineFormats.{LineFormat, titled, untitled, Values, form_of, are_small, are_in_range}
 
 -- why a text is refused, and at which line
 pub data Refusal : Type 0 where
-  bad_answer : ℕ → Refusal  -- the line is not what the lines before it call for, or a number is outside the range of its place
+  bad_answer : ℕ → Refusal  -- the line is not what the lines before it call for, or a number is outside its range
   big_number : ℕ → Refusal  -- a number of the line is past the limit
 
 -- one step after another, up to the first refusal
@@ -16,11 +16,11 @@ abbrev pub ◌>>=◌ : {A B : Type 0} → Result A Refusal → (A → Result B R
 
 -- ---- the lines of a text, one after the other
 
--- the order of causes on one line: its form, then a number past the limit, then a number outside the range of its place
+-- the order of causes on one line: its form, then a number past the limit, then a number outside its range
 abbrev pub judged : (fields : List Field) → ℕ → Option (Values fields) → Result (Values fields) Refusal
 judged fields number None = Err (bad_answer number)
 judged fields number (Some values) =
-    if not (are_small fields values) then Err (big_number number) else if not (are_in_place fields values) then Err (bad_answer number) else Ok values
+    if not (are_small fields values) then Err (big_number number) else if not (are_in_range fields values) then Err (bad_answer number) else Ok values
 
 -- the lines that are not yet read, and the number of the first of them
 pub record Unread : Type 0 where

@@ -3,7 +3,7 @@ use Rattle.std.specs.Prelude.{ℕ, zero, suc, ◌-◌, List, [], ◌∷◌, ◌+
 use Rattle.bounds_model.specs.Fractions.{Fraction}
 use Rattle.bounds_model.specs.Plane.{PlanePoint}
 use Rattle.bounds_model.specs.Strip.{Span}
-use Rattle.bounds_model.specs.Places.{fan_limit}
+use Rattle.bounds_model.specs.Ranges.{fan_limit}
 use Rattle.bounds_model.specs.Fans.{HalfCone, QuarterCone}
 use Rattle.bounds_model.specs.BallAnswer.{Weighted}
 use Rattle.bounds_model.specs.ParallelogramAnswer.{Chord}

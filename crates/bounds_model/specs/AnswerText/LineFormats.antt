@@ -3,7 +3,7 @@ use Rattle.std.specs.Prelude.{ℕ, Bool, true, ◌&&◌, if◌then◌else◌, Li
 use Rattle.std.specs.Str.{bytes_eq}
 use Rattle.bounds_model.specs.AnswerText.Numerals.{◌>>=◌}
 use Rattle.bounds_model.specs.AnswerText.Lines.{words_of}
-use Rattle.bounds_model.specs.AnswerText.Fields.{Field, Value, value_of, is_small, is_in_place}
+use Rattle.bounds_model.specs.AnswerText.Fields.{Field, Value, value_of, is_small, is_in_range}
 
 -- words, and fields behind them
 pub record LineFormat : Type 0 where
@@ -50,7 +50,7 @@ abbrev pub are_small : (fields : List Field) → Values fields → Bool
 are_small [] values = true
 are_small (field ∷ fields) values = is_small field values.0 && are_small fields values.1
 
--- each field is in the range of its place
-abbrev pub are_in_place : (fields : List Field) → Values fields → Bool
-are_in_place [] values = true
-are_in_place (field ∷ fields) values = is_in_place field values.0 && are_in_place fields values.1
+-- each field is in its range
+abbrev pub are_in_range : (fields : List Field) → Values fields → Bool
+are_in_range [] values = true
+are_in_range (field ∷ fields) values = is_in_range field values.0 && are_in_range fields values.1

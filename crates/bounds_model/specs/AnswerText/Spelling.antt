@@ -13,7 +13,7 @@ use Rattle.bounds_model.specs.AnnulusAnswer.{WeightedPair, AnnulusAnswer}
 use Rattle.bounds_model.specs.EmptyAnswer.{Blocker, side, point, EmptyAnswer}
 use Rattle.bounds_model.specs.KgonAnswer.{KgonAnswer}
 use Rattle.bounds_model.specs.DistanceAnswer.{DistanceAnswer}
-use Rattle.bounds_model.specs.Answers.{Answer, HasPlaces, circle, sphere, rectangle, parallelogram, strip, annulus, empty, kgon, distance, centres}
+use Rattle.bounds_model.specs.Answers.{Answer, KeepsRanges, circle, sphere, rectangle, parallelogram, strip, annulus, empty, kgon, distance, centres}
 use Rattle.bounds_model.specs.AnswerText.SpelledParts.{pair_text, points_text, first_line, size_line, count_line, pair_line, four_line, fraction_line, plane_ratio_line, direction_line, index_line, last_line}
 use Rattle.bounds_model.specs.AnswerText.SpelledCentres.{centres_spelling}
 
@@ -189,7 +189,7 @@ spelling (kgon a) = kgon_spelling a
 spelling (distance a) = distance_spelling a
 spelling (centres a) = centres_spelling a
 
--- the bytes are the spelling of the answer, which keeps its places
+-- the bytes are the spelling of the answer, which keeps its ranges
 pub record Spells (bytes : List ℕ) (answer : Answer) : Type 0 where
-  pub places : HasPlaces answer
+  pub ranges : KeepsRanges answer
   pub spelled : bytes ≡ spelling answer

@@ -12,7 +12,7 @@ use Rattle.bounds_model.specs.AnswerText.Formats.{Refusal, ◌>>=◌, Unread, li
 use Rattle.bounds_model.specs.AnswerText.Kinds.{Kind, kinds, first_format, size_format, last_format}
 use Rattle.bounds_model.specs.AnswerText.Reading.{ended, answer_at, kind_of, answer_of, all_lines, reading_of}
 use Rattle.bounds_model.specs.AnswerText.Spelling.{spelling}
-use Rattle.bounds_model.specs.Answers.{HasPlaces}
+use Rattle.bounds_model.specs.Answers.{KeepsRanges}
 use Rattle.bounds_model.specs.AnswerText.Written.{format_line, body_bytes, kind_bytes}
 use Rattle.text_laws.proofs.AnswerTexts.NumberLaws.{some_is}
 use Rattle.text_laws.proofs.AnswerTexts.ValueLaws.{Fits, none_fit}
@@ -119,12 +119,12 @@ text_length kind size body size-fits body-fits =
 
 -- ---- the laws of a kind, and of an answer
 
--- a kind whose format is sound, whose name is found, whose spelling is its text, and whose answers keep their places
+-- a kind whose format is sound, whose name is found, whose spelling is its text, and whose answers keep their ranges
 pub record KindLaw (kind : Kind) : Type 0 where
   pub sound : IsKind kind
   pub named : (lines : List (List ℕ)) → kind_of kinds (record { number = 1; lines = format_line (first_format kind.name) tt ∷ lines }) ≡ Some kind
   pub spelled : (size : Fraction) (body : Body kind.body) → spelling (kind.answer size body) ≡ kind_bytes kind size body
-  pub places : (size : Fraction) (body : Body kind.body) → Fits (fraction ∷ []) (size, tt) → BodyFits kind.body [] body → HasPlaces (kind.answer size body)
+  pub ranges : (size : Fraction) (body : Body kind.body) → Fits (fraction ∷ []) (size, tt) → BodyFits kind.body [] body → KeepsRanges (kind.answer size body)
   pub short : (body : Body kind.body) → BodyFits kind.body [] body → text_bound kind body < 2 ^ 23
 
 -- an answer as a size and a body of its kind

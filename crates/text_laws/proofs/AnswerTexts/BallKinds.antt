@@ -3,7 +3,7 @@ use Rattle.std.proofs.Common.{◌≡◌, ℕ, List, [], ◌∷◌, length, map, 
 use Rattle.std.specs.Prelude.{codes}
 use Rattle.std.proofs.lemmas.List.{append-nil}
 use Rattle.bounds_model.specs.Fractions.{Fraction}
-use Rattle.bounds_model.specs.BallAnswer.{Weighted, CircleAnswer, SphereAnswer, IsSupportPlace, CirclePlaces, SpherePlaces}
+use Rattle.bounds_model.specs.BallAnswer.{Weighted, CircleAnswer, SphereAnswer, IsSupportInRange, CircleRanges, SphereRanges}
 use Rattle.bounds_model.specs.Answers.{circle, sphere}
 use Rattle.bounds_model.specs.AnswerText.Fields.{fraction, plane_ratio, space_ratio, natural, point_number}
 use Rattle.bounds_model.specs.AnswerText.LineFormats.{Values}
@@ -12,8 +12,8 @@ use Rattle.bounds_model.specs.AnswerText.Kinds.{circle_kind, sphere_kind, weight
 use Rattle.bounds_model.specs.AnswerText.Spelling.{spelling, weighted_line}
 use Rattle.bounds_model.specs.AnswerText.Written.{kind_bytes}
 use Rattle.text_laws.proofs.AnswerTexts.AnswerLaws.{KindLaw, Written}
-use Rattle.text_laws.proofs.AnswerTexts.PlaceLaws.{line_places, line_fits}
-use Rattle.text_laws.proofs.AnswerTexts.ListPlaces.{all_places, all_fit, count_places, count_fits, map_back}
+use Rattle.text_laws.proofs.AnswerTexts.RangeLaws.{line_ranges, line_fits}
+use Rattle.text_laws.proofs.AnswerTexts.ListRanges.{all_ranges, all_fit, count_ranges, count_fits, map_back}
 use Rattle.text_laws.proofs.AnswerTexts.SpelledLaws.{first_is, size_is, last_is, plane_ratio_is, space_ratio_is, weighted_is, counted_are, made_length_all}
 
 -- ---- supports
@@ -49,30 +49,30 @@ circle_law = record {
   named = λ lines. refl;
   spelled = circle_spelled;
   short = λ b fits. omega arith;
-  places = λ size b size-fits fits. record {
-    size = (line_places (fraction ∷ []) (size, tt) size-fits).0;
-    centre = (line_places (plane_ratio ∷ []) b.0 fits.0).0;
-    count = count_places weighted 1 3 0 b.1.0 fits.1.0.0 (omega arith);
-    supports = all_places (point_number ∷ natural ∷ []) weighted IsSupportPlace b.1.0 (λ v p. (p.0.1, p.1.0)) fits.1.0.1;
+  ranges = λ size b size-fits fits. record {
+    size = (line_ranges (fraction ∷ []) (size, tt) size-fits).0;
+    centre = (line_ranges (plane_ratio ∷ []) b.0 fits.0).0;
+    count = count_ranges weighted 1 3 0 b.1.0 fits.1.0.0 (omega arith);
+    supports = all_ranges (point_number ∷ natural ∷ []) weighted IsSupportInRange b.1.0 (λ v p. (p.0.1, p.1.0)) fits.1.0.1;
   };
 }
 
--- a circle that keeps its places is one that its format writes
-pub circle_written : (a : CircleAnswer) → CirclePlaces a → Written (circle a)
+-- a circle that keeps its ranges is one that its format writes
+pub circle_written : (a : CircleAnswer) → CircleRanges a → Written (circle a)
 unfolding support_parts
-circle_written a places = record {
+circle_written a ranges = record {
   kind = circle_kind;
   law = circle_law;
   size = a.size;
   body = ((a.centre, tt), (map support_parts a.supports, tt));
   is = ap (λ (xs : List Weighted). circle (record { size = a.size; centre = a.centre; supports = xs })) (map_back weighted support_parts a.supports support_back);
-  size_fits = line_fits (fraction ∷ []) (a.size, tt) refl (places.size, tt);
+  size_fits = line_fits (fraction ∷ []) (a.size, tt) refl (ranges.size, tt);
   body_fits = (
-    line_fits (plane_ratio ∷ []) (a.centre, tt) refl (places.centre, tt),
+    line_fits (plane_ratio ∷ []) (a.centre, tt) refl (ranges.centre, tt),
     (
       (
-        count_fits support_parts 1 3 0 a.supports refl (omega (arith, places.count.at_least)) (omega (arith, places.count.at_most)),
-        all_fit (point_number ∷ natural ∷ []) support_parts IsSupportPlace a.supports refl (λ s p. ((omega arith, p.0), (p.1, tt))) places.supports,
+        count_fits support_parts 1 3 0 a.supports refl (omega (arith, ranges.count.at_least)) (omega (arith, ranges.count.at_most)),
+        all_fit (point_number ∷ natural ∷ []) support_parts IsSupportInRange a.supports refl (λ s p. ((omega arith, p.0), (p.1, tt))) ranges.supports,
       ),
       tt,
     ),
@@ -80,9 +80,9 @@ circle_written a places = record {
 }
 
 -- its kind
-pub kind-circle_written : (a : CircleAnswer) (places : CirclePlaces a) → (circle_written a places).kind ≡ circle_kind
+pub kind-circle_written : (a : CircleAnswer) (ranges : CircleRanges a) → (circle_written a ranges).kind ≡ circle_kind
 unfolding circle_written
-kind-circle_written a places = refl
+kind-circle_written a ranges = refl
 
 -- ---- sphere
 
@@ -102,30 +102,30 @@ sphere_law = record {
   named = λ lines. refl;
   spelled = sphere_spelled;
   short = λ b fits. omega arith;
-  places = λ size b size-fits fits. record {
-    size = (line_places (fraction ∷ []) (size, tt) size-fits).0;
-    centre = (line_places (space_ratio ∷ []) b.0 fits.0).0;
-    count = count_places weighted 1 4 0 b.1.0 fits.1.0.0 (omega arith);
-    supports = all_places (point_number ∷ natural ∷ []) weighted IsSupportPlace b.1.0 (λ v p. (p.0.1, p.1.0)) fits.1.0.1;
+  ranges = λ size b size-fits fits. record {
+    size = (line_ranges (fraction ∷ []) (size, tt) size-fits).0;
+    centre = (line_ranges (space_ratio ∷ []) b.0 fits.0).0;
+    count = count_ranges weighted 1 4 0 b.1.0 fits.1.0.0 (omega arith);
+    supports = all_ranges (point_number ∷ natural ∷ []) weighted IsSupportInRange b.1.0 (λ v p. (p.0.1, p.1.0)) fits.1.0.1;
   };
 }
 
--- a sphere that keeps its places is one that its format writes
-pub sphere_written : (a : SphereAnswer) → SpherePlaces a → Written (sphere a)
+-- a sphere that keeps its ranges is one that its format writes
+pub sphere_written : (a : SphereAnswer) → SphereRanges a → Written (sphere a)
 unfolding support_parts
-sphere_written a places = record {
+sphere_written a ranges = record {
   kind = sphere_kind;
   law = sphere_law;
   size = a.size;
   body = ((a.centre, tt), (map support_parts a.supports, tt));
   is = ap (λ (xs : List Weighted). sphere (record { size = a.size; centre = a.centre; supports = xs })) (map_back weighted support_parts a.supports support_back);
-  size_fits = line_fits (fraction ∷ []) (a.size, tt) refl (places.size, tt);
+  size_fits = line_fits (fraction ∷ []) (a.size, tt) refl (ranges.size, tt);
   body_fits = (
-    line_fits (space_ratio ∷ []) (a.centre, tt) refl (places.centre, tt),
+    line_fits (space_ratio ∷ []) (a.centre, tt) refl (ranges.centre, tt),
     (
       (
-        count_fits support_parts 1 4 0 a.supports refl (omega (arith, places.count.at_least)) (omega (arith, places.count.at_most)),
-        all_fit (point_number ∷ natural ∷ []) support_parts IsSupportPlace a.supports refl (λ s p. ((omega arith, p.0), (p.1, tt))) places.supports,
+        count_fits support_parts 1 4 0 a.supports refl (omega (arith, ranges.count.at_least)) (omega (arith, ranges.count.at_most)),
+        all_fit (point_number ∷ natural ∷ []) support_parts IsSupportInRange a.supports refl (λ s p. ((omega arith, p.0), (p.1, tt))) ranges.supports,
       ),
       tt,
     ),
@@ -133,6 +133,6 @@ sphere_written a places = record {
 }
 
 -- its kind
-pub kind-sphere_written : (a : SphereAnswer) (places : SpherePlaces a) → (sphere_written a places).kind ≡ sphere_kind
+pub kind-sphere_written : (a : SphereAnswer) (ranges : SphereRanges a) → (sphere_written a ranges).kind ≡ sphere_kind
 unfolding sphere_written
-kind-sphere_written a places = refl
+kind-sphere_written a ranges = refl

@@ -104,7 +104,7 @@ rows_back (width ∷ widths) from zs to e =
 
 -- ---- parts
 
--- the numbers of a part are within the limit and in the ranges of their places
+-- the numbers of a part are within the limit and in the ranges of their ranges
 abbrev pub PartFits : (part : Part) → List ℕ → PartValue part → Type 0
 PartFits (line format) counts values = Fits format.fields values
 PartFits (counted c less fields) counts vs = Fits (bounded c.low c.high ∷ []) (length vs + less, tt) × AllFit (untitled fields) vs

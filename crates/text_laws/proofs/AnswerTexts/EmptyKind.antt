@@ -3,7 +3,7 @@ use Rattle.std.proofs.Common.{◌≡◌, ℕ, List, [], ◌∷◌, refl, append_
 use Rattle.std.specs.Prelude.{codes}
 use Rattle.std.proofs.lemmas.List.{append-nil}
 use Rattle.bounds_model.specs.Fractions.{Fraction}
-use Rattle.bounds_model.specs.EmptyAnswer.{Blocker, EmptyAnswer, EmptyPlaces}
+use Rattle.bounds_model.specs.EmptyAnswer.{Blocker, EmptyAnswer, EmptyRanges}
 use Rattle.bounds_model.specs.Answers.{empty}
 use Rattle.bounds_model.specs.AnswerText.Fields.{fraction, blocker}
 use Rattle.bounds_model.specs.AnswerText.LineFormats.{titled}
@@ -12,7 +12,7 @@ use Rattle.bounds_model.specs.AnswerText.Kinds.{empty_kind, side_fields}
 use Rattle.bounds_model.specs.AnswerText.Spelling.{spelling, blocker_line}
 use Rattle.bounds_model.specs.AnswerText.Written.{format_line, kind_bytes}
 use Rattle.text_laws.proofs.AnswerTexts.AnswerLaws.{KindLaw, Written}
-use Rattle.text_laws.proofs.AnswerTexts.PlaceLaws.{line_places, line_fits}
+use Rattle.text_laws.proofs.AnswerTexts.RangeLaws.{line_ranges, line_fits}
 use Rattle.text_laws.proofs.AnswerTexts.SpelledLaws.{first_is, size_is, last_is, four_is}
 
 -- the spelled line of a blocker is that of its format
@@ -39,37 +39,37 @@ empty_law = record {
   named = λ lines. refl;
   spelled = empty_spelled;
   short = λ b fits. omega arith;
-  places = λ size b size-fits fits.
-      let box = line_places side_fields b.0 fits.0 in
+  ranges = λ size b size-fits fits.
+      let box = line_ranges side_fields b.0 fits.0 in
       record {
-        size = (line_places (fraction ∷ []) (size, tt) size-fits).0;
+        size = (line_ranges (fraction ∷ []) (size, tt) size-fits).0;
         box_left = box.0;
         box_bottom = box.1.0;
         box_right = box.1.1.0;
         box_top = box.1.1.1.0;
-        left = (line_places (blocker ∷ []) b.1.0 fits.1.0).0;
-        bottom = (line_places (blocker ∷ []) b.1.1.0 fits.1.1.0).0;
-        right = (line_places (blocker ∷ []) b.1.1.1.0 fits.1.1.1.0).0;
-        top = (line_places (blocker ∷ []) b.1.1.1.1.0 fits.1.1.1.1.0).0;
+        left = (line_ranges (blocker ∷ []) b.1.0 fits.1.0).0;
+        bottom = (line_ranges (blocker ∷ []) b.1.1.0 fits.1.1.0).0;
+        right = (line_ranges (blocker ∷ []) b.1.1.1.0 fits.1.1.1.0).0;
+        top = (line_ranges (blocker ∷ []) b.1.1.1.1.0 fits.1.1.1.1.0).0;
       };
 }
 
--- an empty rectangle that keeps its places is one that its format writes
-pub empty_written : (a : EmptyAnswer) → EmptyPlaces a → Written (empty a)
-empty_written a places = record {
+-- an empty rectangle that keeps its ranges is one that its format writes
+pub empty_written : (a : EmptyAnswer) → EmptyRanges a → Written (empty a)
+empty_written a ranges = record {
   kind = empty_kind;
   law = empty_law;
   size = a.size;
   body = ((a.box.left, (a.box.bottom, (a.box.right, (a.box.top, tt)))), ((a.left, tt), ((a.bottom, tt), ((a.right, tt), ((a.top, tt), tt)))));
   is = refl;
-  size_fits = line_fits (fraction ∷ []) (a.size, tt) refl (places.size, tt);
+  size_fits = line_fits (fraction ∷ []) (a.size, tt) refl (ranges.size, tt);
   body_fits = (
-    line_fits side_fields (a.box.left, (a.box.bottom, (a.box.right, (a.box.top, tt)))) refl (places.box_left, (places.box_bottom, (places.box_right, (places.box_top, tt)))),
+    line_fits side_fields (a.box.left, (a.box.bottom, (a.box.right, (a.box.top, tt)))) refl (ranges.box_left, (ranges.box_bottom, (ranges.box_right, (ranges.box_top, tt)))),
     (
-      line_fits (blocker ∷ []) (a.left, tt) refl (places.left, tt),
+      line_fits (blocker ∷ []) (a.left, tt) refl (ranges.left, tt),
       (
-        line_fits (blocker ∷ []) (a.bottom, tt) refl (places.bottom, tt),
-        (line_fits (blocker ∷ []) (a.right, tt) refl (places.right, tt), (line_fits (blocker ∷ []) (a.top, tt) refl (places.top, tt), tt)),
+        line_fits (blocker ∷ []) (a.bottom, tt) refl (ranges.bottom, tt),
+        (line_fits (blocker ∷ []) (a.right, tt) refl (ranges.right, tt), (line_fits (blocker ∷ []) (a.top, tt) refl (ranges.top, tt), tt)),
       ),
     ),
   );

@@ -7,10 +7,10 @@ use Rattle.std.specs.Str.{bytes_eq}
 use Rattle.std.proofs.lemmas.Bool.{eqb-true, leb-true}
 use Rattle.std.proofs.lemmas.Bool.Decides.{nat_tests}
 use Rattle.bounds_model.specs.Fractions.{Fraction}
-use Rattle.bounds_model.specs.Places.{number_limit}
+use Rattle.bounds_model.specs.Ranges.{number_limit}
 use Rattle.bounds_model.specs.EmptyAnswer.{Blocker, side, point}
 use Rattle.bounds_model.specs.AnswerText.Numerals.{◌>>=◌, is_numeral, natural_number, whole_number}
-use Rattle.bounds_model.specs.AnswerText.Fields.{Field, number, natural, naturals, bounded, fraction, plane_ratio, space_ratio, blocker, Value, naturals_of, blocker_of, value_of, is_small, is_in_place}
+use Rattle.bounds_model.specs.AnswerText.Fields.{Field, number, natural, naturals, bounded, fraction, plane_ratio, space_ratio, blocker, Value, naturals_of, blocker_of, value_of, is_small, is_in_range}
 use Rattle.bounds_model.specs.AnswerText.SpelledParts.{fraction_text}
 use Rattle.bounds_model.specs.AnswerText.Spelling.{blocker_text}
 use Rattle.bounds_model.specs.AnswerText.Written.{field_words}
@@ -103,23 +103,23 @@ blocker_again (point n) small =
     ∙ ap (λ (r : Option ℕ). r >>= λ k. Some (point k)) (natural_again n digits)
 
 -- a field that was written is read again
-pub value_again : (field : Field) (v : Value field) (rest : List (List ℕ)) → is_small field v ≡ true → is_in_place field v ≡ true → value_of field (field_words field v ++ rest) ≡ Some (v, rest)
-value_again number z rest small place = ap (λ (r : Option ℤ). r >>= λ y. Some (y, rest)) (whole_again z (first_within z [] small))
-value_again natural (pos n) rest small place = ap (λ (r : Option ℕ). r >>= λ k. Some (pos k, rest)) (natural_again n (first_within (pos n) [] small))
-value_again natural (negsuc n) rest small place = absurd cc
-value_again (naturals count) zs rest small place =
-    let parts = both_true (length zs == count) (list_all (λ z. int_le (pos 0) z) zs) place in
+pub value_again : (field : Field) (v : Value field) (rest : List (List ℕ)) → is_small field v ≡ true → is_in_range field v ≡ true → value_of field (field_words field v ++ rest) ≡ Some (v, rest)
+value_again number z rest small range = ap (λ (r : Option ℤ). r >>= λ y. Some (y, rest)) (whole_again z (first_within z [] small))
+value_again natural (pos n) rest small range = ap (λ (r : Option ℕ). r >>= λ k. Some (pos k, rest)) (natural_again n (first_within (pos n) [] small))
+value_again natural (negsuc n) rest small range = absurd cc
+value_again (naturals count) zs rest small range =
+    let parts = both_true (length zs == count) (list_all (λ z. int_le (pos 0) z) zs) range in
     ap (λ (k : ℕ). naturals_of k (map signed_decimal zs ++ rest)) (sym (eqb-true (length zs) count parts.0)) ∙ naturals_again zs rest small parts.1
-value_again (bounded low high) n rest small place = ap (λ (r : Option ℕ). r >>= λ k. Some (k, rest)) (natural_again n (first_within (pos n) [] small))
-value_again fraction a rest small place =
+value_again (bounded low high) n rest small range = ap (λ (r : Option ℕ). r >>= λ k. Some (k, rest)) (natural_again n (first_within (pos n) [] small))
+value_again fraction a rest small range =
     ap (λ (r : Option Fraction). r >>= λ b. Some (b, rest)) (fraction_again a (first_within a.n (a.d ∷ []) small) (two_within a.n a.d [] small))
-value_again plane_ratio c rest small place =
+value_again plane_ratio c rest small range =
     step_again (whole_number (signed_decimal c.x)) c.x _ _ (whole_again c.x (first_within c.x (c.y ∷ c.w ∷ []) small))
     (step_again (whole_number (signed_decimal c.y)) c.y _ _ (whole_again c.y (two_within c.x c.y (c.w ∷ []) small))
     (step_again (whole_number (signed_decimal c.w)) c.w _ _ (whole_again c.w (three_within c.x c.y c.w [] small)) refl))
-value_again space_ratio c rest small place =
+value_again space_ratio c rest small range =
     step_again (whole_number (signed_decimal c.x)) c.x _ _ (whole_again c.x (first_within c.x (c.y ∷ c.z ∷ c.w ∷ []) small))
     (step_again (whole_number (signed_decimal c.y)) c.y _ _ (whole_again c.y (two_within c.x c.y (c.z ∷ c.w ∷ []) small))
     (step_again (whole_number (signed_decimal c.z)) c.z _ _ (whole_again c.z (three_within c.x c.y c.z (c.w ∷ []) small))
     (step_again (whole_number (signed_decimal c.w)) c.w _ _ (whole_again c.w (four_within c.x c.y c.z c.w [] small)) refl)))
-value_again blocker b rest small place = ap (λ (r : Option Blocker). r >>= λ k. Some (k, rest)) (blocker_again b small)
+value_again blocker b rest small range = ap (λ (r : Option Blocker). r >>= λ k. Some (k, rest)) (blocker_again b small)

@@ -8,8 +8,8 @@ use Rattle.std.proofs.lemmas.Slice.Eq.{bytes_eq-Decides}
 use Rattle.std.proofs.lemmas.Bool.{eqb-true}
 use Rattle.bounds_model.specs.AnswerText.Numerals as steps
 use Rattle.bounds_model.specs.AnswerText.Lines.{lines_of, words_of}
-use Rattle.bounds_model.specs.AnswerText.Fields.{Field, number, natural, naturals, bounded, fraction, plane_ratio, space_ratio, blocker, Value, is_in_place}
-use Rattle.bounds_model.specs.AnswerText.LineFormats.{LineFormat, Values, after_words, values_of, form_of, are_small, are_in_place}
+use Rattle.bounds_model.specs.AnswerText.Fields.{Field, number, natural, naturals, bounded, fraction, plane_ratio, space_ratio, blocker, Value, is_in_range}
+use Rattle.bounds_model.specs.AnswerText.LineFormats.{LineFormat, Values, after_words, values_of, form_of, are_small, are_in_range}
 use Rattle.bounds_model.specs.AnswerText.Formats.{Refusal, bad_answer, big_number, ◌>>=◌, judged, Unread, next_line, line_at}
 use Rattle.bounds_model.specs.AnswerText.Written.{field_words, values_words, line_bytes, line_words, format_line}
 use Rattle.text_laws.proofs.AnswerTexts.NumberLaws.{bind_some, some_is, step_again, both_true, is_word}
@@ -75,19 +75,19 @@ abbrev pub is_format : LineFormat → Bool
 is_format format = are_words format.words && has_word format.words format.fields
 
 -- a field has a word
-field_has_word : (field : Field) (v : Value field) (rest : List (List ℕ)) → takes_word field ≡ true → is_in_place field v ≡ true → 0 < length (field_words field v ++ rest)
-field_has_word number v rest takes place = omega arith
-field_has_word natural v rest takes place = omega arith
-field_has_word (naturals zero) v rest takes place = absurd cc
-field_has_word (naturals (suc count)) [] rest takes place =
-    let none : 0 ≡ suc count = eqb-true 0 (suc count) (both_true (0 == suc count) true place).0 in
+field_has_word : (field : Field) (v : Value field) (rest : List (List ℕ)) → takes_word field ≡ true → is_in_range field v ≡ true → 0 < length (field_words field v ++ rest)
+field_has_word number v rest takes range = omega arith
+field_has_word natural v rest takes range = omega arith
+field_has_word (naturals zero) v rest takes range = absurd cc
+field_has_word (naturals (suc count)) [] rest takes range =
+    let none : 0 ≡ suc count = eqb-true 0 (suc count) (both_true (0 == suc count) true range).0 in
     absurd (omega arith)
-field_has_word (naturals (suc count)) (z ∷ zs) rest takes place = omega arith
-field_has_word (bounded low high) v rest takes place = omega arith
-field_has_word fraction v rest takes place = omega arith
-field_has_word plane_ratio v rest takes place = omega arith
-field_has_word space_ratio v rest takes place = omega arith
-field_has_word blocker v rest takes place = omega arith
+field_has_word (naturals (suc count)) (z ∷ zs) rest takes range = omega arith
+field_has_word (bounded low high) v rest takes range = omega arith
+field_has_word fraction v rest takes range = omega arith
+field_has_word plane_ratio v rest takes range = omega arith
+field_has_word space_ratio v rest takes range = omega arith
+field_has_word blocker v rest takes range = omega arith
 
 -- a line has a word
 line_has_word : (words : List (List ℕ)) (fields : List Field) (values : Values fields) → has_word words fields ≡ true → Fits fields values → 0 < length (words ++ values_words fields values)
@@ -131,27 +131,27 @@ form_back format line values e small =
 -- fields that fit are accepted
 judged_again : (fields : List Field) (line : ℕ) (values : Values fields) → Fits fields values → judged fields line (Some values) ≡ Ok values
 judged_again fields line values fits =
-    ap (λ (t : Bool). choice t (choice_place (are_in_place fields values))) fits.small ∙ ap choice_place fits.place
+    ap (λ (t : Bool). choice t (choice_range (are_in_range fields values))) fits.small ∙ ap choice_range fits.range
   where
-    choice_place : Bool → Result (Values fields) Refusal
-    choice_place t = cond (not t) (Err (bad_answer line)) (Ok values)
+    choice_range : Bool → Result (Values fields) Refusal
+    choice_range t = cond (not t) (Err (bad_answer line)) (Ok values)
 
     choice : Bool → Result (Values fields) Refusal → Result (Values fields) Refusal
     choice t other = cond (not t) (Err (big_number line)) other
 
 -- what the tests of a line say
-judged_cases : (small place : Bool) (fields : List Field) (line : ℕ) (found values : Values fields) → cond (not small) (Err (big_number line)) (cond (not place) (Err (bad_answer line)) (Ok found)) ≡ Ok values
-    → (found ≡ values) × (small ≡ true) × (place ≡ true)
+judged_cases : (small range : Bool) (fields : List Field) (line : ℕ) (found values : Values fields) → cond (not small) (Err (big_number line)) (cond (not range) (Err (bad_answer line)) (Ok found)) ≡ Ok values
+    → (found ≡ values) × (small ≡ true) × (range ≡ true)
 judged_cases true true fields line found values e = (read_is found values e, refl, refl)
 judged_cases true false fields line found values e = absurd cc
-judged_cases false place fields line found values e = absurd cc
+judged_cases false range fields line found values e = absurd cc
 
 -- fields that were accepted fit
 judged_back : (fields : List Field) (line : ℕ) (found : Option (Values fields)) (values : Values fields) → judged fields line found ≡ Ok values → (found ≡ Some values) × Fits fields values
 judged_back fields line None values e = absurd cc
 judged_back fields line (Some found) values e =
-    let r = judged_cases (are_small fields found) (are_in_place fields found) fields line found values e in
-    (ap (λ (v : Values fields). Some v) r.0, subst (λ (v : Values fields). Fits fields v) r.0 (record { small = r.1; place = r.2 }))
+    let r = judged_cases (are_small fields found) (are_in_range fields found) fields line found values e in
+    (ap (λ (v : Values fields). Some v) r.0, subst (λ (v : Values fields). Fits fields v) r.0 (record { small = r.1; range = r.2 }))
 
 -- ---- the next line
 

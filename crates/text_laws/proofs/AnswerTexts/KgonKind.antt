@@ -9,8 +9,8 @@ use Rattle.std.proofs.lemmas.List.Folds.{list_all-append}
 use Rattle.std.proofs.lemmas.List.Elements.{All-nil, All-append, All-take, All-drop}
 use Rattle.std.proofs.lemmas.Bool.{lt-ltb}
 use Rattle.bounds_model.specs.Fractions.{Fraction}
-use Rattle.bounds_model.specs.Places.{IsNatural, point_limit}
-use Rattle.bounds_model.specs.KgonAnswer.{KgonAnswer, KgonPlaces, pairs_before}
+use Rattle.bounds_model.specs.Ranges.{IsNatural, point_limit}
+use Rattle.bounds_model.specs.KgonAnswer.{KgonAnswer, KgonRanges, pairs_before}
 use Rattle.bounds_model.specs.Answers.{kgon}
 use Rattle.bounds_model.specs.AnswerText.Fields.{fraction, naturals, bounded, point_number}
 use Rattle.bounds_model.specs.AnswerText.LineFormats.{Values}
@@ -21,8 +21,8 @@ use Rattle.bounds_model.specs.AnswerText.Spelling.{spelling, blank_numbers, pote
 use Rattle.bounds_model.specs.AnswerText.Written.{line_bytes, format_line, row_format, rows_bytes, kind_bytes}
 use Rattle.text_laws.proofs.AnswerTexts.BodyLaws.{RowsFit}
 use Rattle.text_laws.proofs.AnswerTexts.AnswerLaws.{KindLaw, Written}
-use Rattle.text_laws.proofs.AnswerTexts.PlaceLaws.{line_places, line_fits}
-use Rattle.text_laws.proofs.AnswerTexts.ListPlaces.{all_places, all_fit, count_places, count_fits, map_back}
+use Rattle.text_laws.proofs.AnswerTexts.RangeLaws.{line_ranges, line_fits}
+use Rattle.text_laws.proofs.AnswerTexts.ListRanges.{all_ranges, all_fit, count_ranges, count_fits, map_back}
 use Rattle.text_laws.proofs.AnswerTexts.SpelledLaws.{first_is, size_is, last_is, count_is, index_is, counted_are, made_length_all}
 
 -- ---- rows
@@ -58,8 +58,8 @@ layers_are : (layers width : ℕ) (more : List ℕ) (zs : List ℤ) → rows_byt
 layers_are zero width more zs = ap (λ (k : ℕ). rows_bytes more (drop k zs)) {x = 0} {y = 0 * width} (omega arith)
 layers_are (suc layers) width more zs =
     let others = layers_are layers width more (drop width zs) in
-    let place : width + layers * width ≡ suc layers * width = omega arith in
-    let behind : drop (layers * width) (drop width zs) ≡ drop (suc layers * width) zs = drop_twice (layers * width) width zs ∙ ap (λ (k : ℕ). drop k zs) place in
+    let range : width + layers * width ≡ suc layers * width = omega arith in
+    let behind : drop (layers * width) (drop width zs) ≡ drop (suc layers * width) zs = drop_twice (layers * width) width zs ∙ ap (λ (k : ℕ). drop k zs) range in
     (λ i. sym (potentials_are width (take width zs)) i ++ others i)
     ∙ sym (append_assoc (potentials_line (take width zs)) (layer_lines layers width (drop width zs)) (rows_bytes more (drop (layers * width) (drop width zs))))
     ∙ ap (λ (ys : List ℤ). potentials_line (take width zs) ++ layer_lines layers width (drop width zs) ++ rows_bytes more ys) behind
@@ -78,11 +78,11 @@ width_sum [] = 0
 width_sum (width ∷ widths) = width + width_sum widths
 
 -- rows that fit have as many numbers as their widths say
-rows_places : (widths : List ℕ) (zs : List ℤ) → RowsFit widths zs → (length zs ≡ width_sum widths) × All IsNatural zs
-rows_places [] zs fits = subst (λ (ys : List ℤ). (length ys ≡ 0) × All IsNatural ys) (sym fits) (refl, All-nil IsNatural)
-rows_places (width ∷ widths) zs fits =
-    let first = (line_places (naturals width ∷ []) (take width zs, tt) fits.0).0 in
-    let others = rows_places widths (drop width zs) fits.1 in
+rows_ranges : (widths : List ℕ) (zs : List ℤ) → RowsFit widths zs → (length zs ≡ width_sum widths) × All IsNatural zs
+rows_ranges [] zs fits = subst (λ (ys : List ℤ). (length ys ≡ 0) × All IsNatural ys) (sym fits) (refl, All-nil IsNatural)
+rows_ranges (width ∷ widths) zs fits =
+    let first = (line_ranges (naturals width ∷ []) (take width zs, tt) fits.0).0 in
+    let others = rows_ranges widths (drop width zs) fits.1 in
     let parts = take-append-drop width zs in
     let amount : length zs ≡ width + width_sum widths = omega (arith, ap length parts, length-append (take width zs) (drop width zs), first.0, others.0) in
     (amount, subst (λ (ys : List ℤ). All IsNatural ys) parts (All-append IsNatural (take width zs) (drop width zs) first.1 others.1))
@@ -113,7 +113,7 @@ sum_triangle : (longest layers : ℕ) → width_sum (triangle longest layers) �
 sum_triangle zero layers = omega arith
 sum_triangle (suc longest) layers = omega (arith, sum_replicate layers (suc longest) (triangle longest layers), sum_triangle longest layers)
 
--- the count of pairs is that of the places of potentials
+-- the count of pairs is that of the ranges of potentials
 pairs_are : (n : ℕ) → pairs_before (suc n) (suc n) ≡ pairs_up_to n
 pairs_are n =
     let inner : 2 * suc n - suc n - 1 ≡ n = omega arith in
@@ -188,21 +188,21 @@ kgon_law = record {
   named = λ lines. refl;
   spelled = kgon_spelled;
   short = λ b fits.
-      let corners = (line_places (bounded 1 128 ∷ []) (length b.0 + 0, tt) fits.0.0).0.1 in
-      let layers = (line_places (bounded 0 10 ∷ []) (b.1.1.0, tt) fits.1.1.0).0.1 in
-      let amount = (rows_places (triangle (length b.0 + 0 - 1) b.1.1.0) b.1.1.1.0 fits.1.1.1.0).0 in
+      let corners = (line_ranges (bounded 1 128 ∷ []) (length b.0 + 0, tt) fits.0.0).0.1 in
+      let layers = (line_ranges (bounded 0 10 ∷ []) (b.1.1.0, tt) fits.1.1.0).0.1 in
+      let amount = (rows_ranges (triangle (length b.0 + 0 - 1) b.1.1.0) b.1.1.1.0 fits.1.1.1.0).0 in
       let few = few_potentials (length b.0 + 0 - 1) b.1.1.0 (omega (arith, corners)) layers in
       omega (arith, few.0, few.1, amount);
-  places = λ size b size-fits fits.
-      let corners = count_places {Y = ℕ} (λ v. v.0) 1 128 0 b.0 fits.0.0 (omega arith) in
-      let rows = rows_places (triangle (length b.0 + 0 - 1) b.1.1.0) b.1.1.1.0 fits.1.1.1.0 in
+  ranges = λ size b size-fits fits.
+      let corners = count_ranges {Y = ℕ} (λ v. v.0) 1 128 0 b.0 fits.0.0 (omega arith) in
+      let rows = rows_ranges (triangle (length b.0 + 0 - 1) b.1.1.0) b.1.1.1.0 fits.1.1.1.0 in
       record {
-        size = (line_places (fraction ∷ []) (size, tt) size-fits).0;
+        size = (line_ranges (fraction ∷ []) (size, tt) size-fits).0;
         corner_count = corners;
-        corners = all_places (point_number ∷ []) (λ v. v.0) (λ n. n ≤ point_limit) b.0 (λ v p. p.0.1) fits.0.1;
-        chosen_count = count_places {Y = ℕ} (λ v. v.0) 1 12 0 b.1.0 fits.1.0.0 (omega arith);
-        chosen = all_places (bounded 0 127 ∷ []) (λ v. v.0) (λ n. n ≤ 127) b.1.0 (λ v p. p.0.1) fits.1.0.1;
-        layers = (line_places (bounded 0 10 ∷ []) (b.1.1.0, tt) fits.1.1.0).0.1;
+        corners = all_ranges (point_number ∷ []) (λ v. v.0) (λ n. n ≤ point_limit) b.0 (λ v p. p.0.1) fits.0.1;
+        chosen_count = count_ranges {Y = ℕ} (λ v. v.0) 1 12 0 b.1.0 fits.1.0.0 (omega arith);
+        chosen = all_ranges (bounded 0 127 ∷ []) (λ v. v.0) (λ n. n ≤ 127) b.1.0 (λ v p. p.0.1) fits.1.0.1;
+        layers = (line_ranges (bounded 0 10 ∷ []) (b.1.1.0, tt) fits.1.1.0).0.1;
         potential_count = rows.0 ∙ amount_is (length (map {B = ℕ} (λ v. v.0) b.0)) b.1.1.0 (length b.0 + 0 - 1) (omega (arith, corners.at_least, length-map {B = ℕ} b.0 (λ v. v.0)));
         potentials = rows.1;
       };
@@ -212,11 +212,11 @@ kgon_law = record {
 abbrev number_parts : ℕ → ℕ × Unit {0}
 number_parts n = (n, tt)
 
--- a polygon that keeps its places is one that its format writes
-pub kgon_written : (a : KgonAnswer) → KgonPlaces a → Written (kgon a)
-kgon_written a places =
+-- a polygon that keeps its ranges is one that its format writes
+pub kgon_written : (a : KgonAnswer) → KgonRanges a → Written (kgon a)
+kgon_written a ranges =
     let longest : ℕ = length (map number_parts a.corners) + 0 - 1 in
-    let corners : length a.corners ≡ suc longest = omega (arith, places.corner_count.at_least, length-map a.corners number_parts) in
+    let corners : length a.corners ≡ suc longest = omega (arith, ranges.corner_count.at_least, length-map a.corners number_parts) in
     record {
       kind = kgon_kind;
       law = kgon_law;
@@ -229,20 +229,20 @@ kgon_written a places =
         layers = a.layers;
         potentials = a.potentials;
       });
-      size_fits = line_fits (fraction ∷ []) (a.size, tt) refl (places.size, tt);
+      size_fits = line_fits (fraction ∷ []) (a.size, tt) refl (ranges.size, tt);
       body_fits = (
         (
-          count_fits number_parts 1 128 0 a.corners refl (omega (arith, places.corner_count.at_least)) (omega (arith, places.corner_count.at_most)),
-          all_fit (point_number ∷ []) number_parts (λ n. n ≤ point_limit) a.corners refl (λ n p. ((omega arith, p), tt)) places.corners,
+          count_fits number_parts 1 128 0 a.corners refl (omega (arith, ranges.corner_count.at_least)) (omega (arith, ranges.corner_count.at_most)),
+          all_fit (point_number ∷ []) number_parts (λ n. n ≤ point_limit) a.corners refl (λ n p. ((omega arith, p), tt)) ranges.corners,
         ),
         (
           (
-            count_fits number_parts 1 12 0 a.chosen refl (omega (arith, places.chosen_count.at_least)) (omega (arith, places.chosen_count.at_most)),
-            all_fit (bounded 0 127 ∷ []) number_parts (λ n. n ≤ 127) a.chosen refl (λ n p. ((omega arith, p), tt)) places.chosen,
+            count_fits number_parts 1 12 0 a.chosen refl (omega (arith, ranges.chosen_count.at_least)) (omega (arith, ranges.chosen_count.at_most)),
+            all_fit (bounded 0 127 ∷ []) number_parts (λ n. n ≤ 127) a.chosen refl (λ n p. ((omega arith, p), tt)) ranges.chosen,
           ),
           (
-            line_fits (bounded 0 10 ∷ []) (a.layers, tt) refl ((omega arith, places.layers), tt),
-            (rows_fit (triangle longest a.layers) a.potentials (places.potential_count ∙ sym (amount_is (length a.corners) a.layers longest corners)) places.potentials, tt),
+            line_fits (bounded 0 10 ∷ []) (a.layers, tt) refl ((omega arith, ranges.layers), tt),
+            (rows_fit (triangle longest a.layers) a.potentials (ranges.potential_count ∙ sym (amount_is (length a.corners) a.layers longest corners)) ranges.potentials, tt),
           ),
         ),
       );

@@ -8,8 +8,8 @@ use Rattle.std.proofs.lemmas.List.{length-append, take-append-drop}
 use Rattle.std.proofs.lemmas.Bool.{eqb-true, leb-true}
 use Rattle.std.proofs.lemmas.Fmt.{length-decimal-le_wide}
 use Rattle.bounds_model.specs.EmptyAnswer.{Blocker, side, point}
-use Rattle.bounds_model.specs.Places.{number_limit}
-use Rattle.bounds_model.specs.AnswerText.Fields.{Field, number, natural, naturals, bounded, fraction, plane_ratio, space_ratio, blocker, Value, is_small, is_in_place}
+use Rattle.bounds_model.specs.Ranges.{number_limit}
+use Rattle.bounds_model.specs.AnswerText.Fields.{Field, number, natural, naturals, bounded, fraction, plane_ratio, space_ratio, blocker, Value, is_small, is_in_range}
 use Rattle.bounds_model.specs.AnswerText.LineFormats.{LineFormat, untitled, Values}
 use Rattle.bounds_model.specs.AnswerText.Formats.{count_format, Part, line, counted, count, rows, PartValue, counts_after, Body}
 use Rattle.bounds_model.specs.AnswerText.Spelling.{blocker_text}
@@ -18,7 +18,7 @@ use Rattle.text_laws.proofs.AnswerTexts.NumberLaws.{both_true}
 use Rattle.text_laws.proofs.AnswerTexts.FieldLaws.{within}
 use Rattle.text_laws.proofs.AnswerTexts.ValueLaws.{Fits, first_fits, rest_fits}
 use Rattle.text_laws.proofs.AnswerTexts.BodyLaws.{AllFit, RowsFit, PartFits, BodyFits}
-use Rattle.text_laws.proofs.AnswerTexts.PlaceLaws.{line_places}
+use Rattle.text_laws.proofs.AnswerTexts.RangeLaws.{line_ranges}
 
 -- the bytes of words, each with a byte behind it
 abbrev words_size : List (List ℕ) → ℕ
@@ -68,20 +68,20 @@ blocker_length side e = omega arith
 blocker_length (point n) e = decimal_length n (both_true (within (pos n)) true e).0
 
 -- the words of a field are no longer
-field_length : (field : Field) (v : Value field) → is_small field v ≡ true → is_in_place field v ≡ true → words_size (field_words field v) ≤ field_bound field
-field_length number z small place = numbers_length (z ∷ []) small
-field_length natural z small place = numbers_length (z ∷ []) small
-field_length (naturals amount) zs small place =
-    let is : length zs ≡ amount = eqb-true (length zs) amount (both_true (length zs == amount) (list_all (λ z. int_le (pos 0) z) zs) place).0 in
+field_length : (field : Field) (v : Value field) → is_small field v ≡ true → is_in_range field v ≡ true → words_size (field_words field v) ≤ field_bound field
+field_length number z small range = numbers_length (z ∷ []) small
+field_length natural z small range = numbers_length (z ∷ []) small
+field_length (naturals amount) zs small range =
+    let is : length zs ≡ amount = eqb-true (length zs) amount (both_true (length zs == amount) (list_all (λ z. int_le (pos 0) z) zs) range).0 in
     omega (arith, numbers_length zs small)
-field_length (bounded low high) n small place = omega (arith, decimal_length n (both_true (within (pos n)) true small).0)
-field_length fraction a small place =
+field_length (bounded low high) n small range = omega (arith, decimal_length n (both_true (within (pos n)) true small).0)
+field_length fraction a small range =
     let n = both_true (within a.n) (within a.d && true) small in
     let d = both_true (within a.d) true n.1 in
     omega (arith, length-append (signed_decimal a.n ++ 47 ∷ []) (signed_decimal a.d), length-append (signed_decimal a.n) (47 ∷ []), signed_length a.n n.0, signed_length a.d d.0)
-field_length plane_ratio c small place = numbers_length (c.x ∷ c.y ∷ c.w ∷ []) small
-field_length space_ratio c small place = numbers_length (c.x ∷ c.y ∷ c.z ∷ c.w ∷ []) small
-field_length blocker b small place = omega (arith, blocker_length b small)
+field_length plane_ratio c small range = numbers_length (c.x ∷ c.y ∷ c.w ∷ []) small
+field_length space_ratio c small range = numbers_length (c.x ∷ c.y ∷ c.z ∷ c.w ∷ []) small
+field_length blocker b small range = omega (arith, blocker_length b small)
 
 -- ---- lines
 
@@ -116,7 +116,7 @@ rows_length : (widths : List ℕ) (zs : List ℤ) → RowsFit widths zs → leng
 rows_length [] zs fits = omega arith
 rows_length (width ∷ widths) zs fits =
     let row = line_length (row_format width) (take width zs, tt) fits.0 in
-    let amount = (line_places (naturals width ∷ []) (take width zs, tt) fits.0).0.0 in
+    let amount = (line_ranges (naturals width ∷ []) (take width zs, tt) fits.0).0.0 in
     let whole : length zs ≡ width + length (drop width zs) = omega (arith, ap length (take-append-drop width zs), length-append (take width zs) (drop width zs)) in
     omega (arith, length-append (format_line (row_format width) (take width zs, tt)) (rows_bytes widths (drop width zs)), rows_length widths (drop width zs) fits.1)
 
@@ -133,7 +133,7 @@ part_bound (rows widths) counts zs = length (widths counts) + 40 * length zs
 part_length : (part : Part) (counts : List ℕ) (v : PartValue part) → PartFits part counts v → length (part_bytes part counts v) ≤ part_bound part counts v
 part_length (line format) counts values fits = line_length format values fits
 part_length (counted c less fields) counts vs fits =
-    let range = (line_places (bounded c.low c.high ∷ []) (length vs + less, tt) fits.0).0 in
+    let range = (line_ranges (bounded c.low c.high ∷ []) (length vs + less, tt) fits.0).0 in
     let most : length vs ≤ c.high = omega (arith, range.1) in
     omega (arith, length-append (format_line (count_format c) (length vs + less, tt)) (flat_map (format_line (untitled fields)) vs), line_length (count_format c) (length vs + less, tt) fits.0, lines_length (untitled fields) vs fits.1, mul-le-mul_left (line_bound (untitled fields)) most)
 part_length (count c) counts n fits = line_length (count_format c) (n, tt) fits

@@ -4,10 +4,10 @@ use Rattle.std.proofs.lemmas.List.{append-nil}
 use Rattle.bounds_model.specs.Fractions.{Fraction}
 use Rattle.bounds_model.specs.Plane.{PlaneRatio}
 use Rattle.bounds_model.specs.Space.{SpacePoint}
-use Rattle.bounds_model.specs.Places.{IsPlaneRatio, point_limit}
-use Rattle.bounds_model.specs.AnnulusAnswer.{WeightedPair, AnnulusAnswer, IsPairPlace, AnnulusPlaces}
-use Rattle.bounds_model.specs.DistanceAnswer.{DistanceAnswer, DistancePlaces}
-use Rattle.bounds_model.specs.CentresAnswer.{Leaf, CentresAnswer, CentresPlaces}
+use Rattle.bounds_model.specs.Ranges.{IsPlaneRatio, point_limit}
+use Rattle.bounds_model.specs.AnnulusAnswer.{WeightedPair, AnnulusAnswer, IsPairInRange, AnnulusRanges}
+use Rattle.bounds_model.specs.DistanceAnswer.{DistanceAnswer, DistanceRanges}
+use Rattle.bounds_model.specs.CentresAnswer.{Leaf, CentresAnswer, CentresRanges}
 use Rattle.bounds_model.specs.Answers.{annulus, distance, centres}
 use Rattle.bounds_model.specs.AnswerText.Fields.{fraction, number, plane_ratio, space_ratio, natural, point_number}
 use Rattle.bounds_model.specs.AnswerText.LineFormats.{titled, untitled, Values}
@@ -17,8 +17,8 @@ use Rattle.bounds_model.specs.AnswerText.SpelledCentres.{square_line, leaf_line}
 use Rattle.bounds_model.specs.AnswerText.Spelling.{spelling, space_direction_line, weighted_pair_line}
 use Rattle.bounds_model.specs.AnswerText.Written.{format_line, kind_bytes}
 use Rattle.text_laws.proofs.AnswerTexts.AnswerLaws.{KindLaw, Written}
-use Rattle.text_laws.proofs.AnswerTexts.PlaceLaws.{line_places, line_fits}
-use Rattle.text_laws.proofs.AnswerTexts.ListPlaces.{all_places, all_fit, count_places, count_fits, map_back}
+use Rattle.text_laws.proofs.AnswerTexts.RangeLaws.{line_ranges, line_fits}
+use Rattle.text_laws.proofs.AnswerTexts.ListRanges.{all_ranges, all_fit, count_ranges, count_fits, map_back}
 use Rattle.text_laws.proofs.AnswerTexts.SpelledLaws.{first_is, size_is, last_is, fraction_is, plane_ratio_is, space_ratio_is, weighted_pair_is, counted_are, made_length_all}
 
 -- ---- pairs
@@ -56,36 +56,36 @@ annulus_law = record {
   named = λ lines. refl;
   spelled = annulus_spelled;
   short = λ b fits. omega arith;
-  places = λ size b size-fits fits. record {
-    size = (line_places (fraction ∷ []) (size, tt) size-fits).0;
-    centre = (line_places (plane_ratio ∷ []) b.0 fits.0).0;
-    inner = (line_places (fraction ∷ []) b.1.0 fits.1.0).0;
-    outer = (line_places (fraction ∷ []) b.1.1.0 fits.1.1.0).0;
-    count = count_places weighted_pair 1 3 0 b.1.1.1.0 fits.1.1.1.0.0 (omega arith);
-    pairs = all_places (point_number ∷ point_number ∷ natural ∷ []) weighted_pair IsPairPlace b.1.1.1.0 (λ v p. (p.0.1, p.1.0.1, p.1.1.0)) fits.1.1.1.0.1;
+  ranges = λ size b size-fits fits. record {
+    size = (line_ranges (fraction ∷ []) (size, tt) size-fits).0;
+    centre = (line_ranges (plane_ratio ∷ []) b.0 fits.0).0;
+    inner = (line_ranges (fraction ∷ []) b.1.0 fits.1.0).0;
+    outer = (line_ranges (fraction ∷ []) b.1.1.0 fits.1.1.0).0;
+    count = count_ranges weighted_pair 1 3 0 b.1.1.1.0 fits.1.1.1.0.0 (omega arith);
+    pairs = all_ranges (point_number ∷ point_number ∷ natural ∷ []) weighted_pair IsPairInRange b.1.1.1.0 (λ v p. (p.0.1, p.1.0.1, p.1.1.0)) fits.1.1.1.0.1;
   };
 }
 
--- an annulus that keeps its places is one that its format writes
-pub annulus_written : (a : AnnulusAnswer) → AnnulusPlaces a → Written (annulus a)
+-- an annulus that keeps its ranges is one that its format writes
+pub annulus_written : (a : AnnulusAnswer) → AnnulusRanges a → Written (annulus a)
 unfolding pair_parts
-annulus_written a places = record {
+annulus_written a ranges = record {
   kind = annulus_kind;
   law = annulus_law;
   size = a.size;
   body = ((a.centre, tt), ((a.inner, tt), ((a.outer, tt), (map pair_parts a.pairs, tt))));
   is = ap (λ (xs : List WeightedPair). annulus (record { size = a.size; centre = a.centre; inner = a.inner; outer = a.outer; pairs = xs })) (map_back weighted_pair pair_parts a.pairs pair_back);
-  size_fits = line_fits (fraction ∷ []) (a.size, tt) refl (places.size, tt);
+  size_fits = line_fits (fraction ∷ []) (a.size, tt) refl (ranges.size, tt);
   body_fits = (
-    line_fits (plane_ratio ∷ []) (a.centre, tt) refl (places.centre, tt),
+    line_fits (plane_ratio ∷ []) (a.centre, tt) refl (ranges.centre, tt),
     (
-      line_fits (fraction ∷ []) (a.inner, tt) refl (places.inner, tt),
+      line_fits (fraction ∷ []) (a.inner, tt) refl (ranges.inner, tt),
       (
-        line_fits (fraction ∷ []) (a.outer, tt) refl (places.outer, tt),
+        line_fits (fraction ∷ []) (a.outer, tt) refl (ranges.outer, tt),
         (
           (
-            count_fits pair_parts 1 3 0 a.pairs refl (omega (arith, places.count.at_least)) (omega (arith, places.count.at_most)),
-            all_fit (point_number ∷ point_number ∷ natural ∷ []) pair_parts IsPairPlace a.pairs refl (λ s p. ((omega arith, p.0), ((omega arith, p.1), (p.2, tt)))) places.pairs,
+            count_fits pair_parts 1 3 0 a.pairs refl (omega (arith, ranges.count.at_least)) (omega (arith, ranges.count.at_most)),
+            all_fit (point_number ∷ point_number ∷ natural ∷ []) pair_parts IsPairInRange a.pairs refl (λ s p. ((omega arith, p.0), ((omega arith, p.1), (p.2, tt)))) ranges.pairs,
           ),
           tt,
         ),
@@ -119,40 +119,40 @@ distance_law = record {
   named = λ lines. refl;
   spelled = distance_spelled;
   short = λ b fits. omega arith;
-  places = λ size b size-fits fits.
-      let direction = line_places (number ∷ number ∷ number ∷ []) b.1.1.0 fits.1.1.0 in
+  ranges = λ size b size-fits fits.
+      let direction = line_ranges (number ∷ number ∷ number ∷ []) b.1.1.0 fits.1.1.0 in
       record {
-        size = (line_places (fraction ∷ []) (size, tt) size-fits).0;
-        from = (line_places (space_ratio ∷ []) b.0 fits.0).0;
-        to = (line_places (space_ratio ∷ []) b.1.0 fits.1.0).0;
+        size = (line_ranges (fraction ∷ []) (size, tt) size-fits).0;
+        from = (line_ranges (space_ratio ∷ []) b.0 fits.0).0;
+        to = (line_ranges (space_ratio ∷ []) b.1.0 fits.1.0).0;
         direction_x = direction.0;
         direction_y = direction.1.0;
         direction_z = direction.1.1.0;
-        count = count_places weighted_pair 1 4 0 b.1.1.1.0 fits.1.1.1.0.0 (omega arith);
-        pairs = all_places (point_number ∷ point_number ∷ natural ∷ []) weighted_pair IsPairPlace b.1.1.1.0 (λ v p. (p.0.1, p.1.0.1, p.1.1.0)) fits.1.1.1.0.1;
+        count = count_ranges weighted_pair 1 4 0 b.1.1.1.0 fits.1.1.1.0.0 (omega arith);
+        pairs = all_ranges (point_number ∷ point_number ∷ natural ∷ []) weighted_pair IsPairInRange b.1.1.1.0 (λ v p. (p.0.1, p.1.0.1, p.1.1.0)) fits.1.1.1.0.1;
       };
 }
 
--- a distance that keeps its places is one that its format writes
-pub distance_written : (a : DistanceAnswer) → DistancePlaces a → Written (distance a)
+-- a distance that keeps its ranges is one that its format writes
+pub distance_written : (a : DistanceAnswer) → DistanceRanges a → Written (distance a)
 unfolding pair_parts
-distance_written a places = record {
+distance_written a ranges = record {
   kind = distance_kind;
   law = distance_law;
   size = a.size;
   body = ((a.from, tt), ((a.to, tt), ((a.direction.x, (a.direction.y, (a.direction.z, tt))), (map pair_parts a.pairs, tt))));
   is = ap (λ (xs : List WeightedPair). distance (record { size = a.size; from = a.from; to = a.to; direction = a.direction; pairs = xs })) (map_back weighted_pair pair_parts a.pairs pair_back);
-  size_fits = line_fits (fraction ∷ []) (a.size, tt) refl (places.size, tt);
+  size_fits = line_fits (fraction ∷ []) (a.size, tt) refl (ranges.size, tt);
   body_fits = (
-    line_fits (space_ratio ∷ []) (a.from, tt) refl (places.from, tt),
+    line_fits (space_ratio ∷ []) (a.from, tt) refl (ranges.from, tt),
     (
-      line_fits (space_ratio ∷ []) (a.to, tt) refl (places.to, tt),
+      line_fits (space_ratio ∷ []) (a.to, tt) refl (ranges.to, tt),
       (
-        line_fits (number ∷ number ∷ number ∷ []) (a.direction.x, (a.direction.y, (a.direction.z, tt))) refl (places.direction_x, (places.direction_y, (places.direction_z, tt))),
+        line_fits (number ∷ number ∷ number ∷ []) (a.direction.x, (a.direction.y, (a.direction.z, tt))) refl (ranges.direction_x, (ranges.direction_y, (ranges.direction_z, tt))),
         (
           (
-            count_fits pair_parts 1 4 0 a.pairs refl (omega (arith, places.count.at_least)) (omega (arith, places.count.at_most)),
-            all_fit (point_number ∷ point_number ∷ natural ∷ []) pair_parts IsPairPlace a.pairs refl (λ s p. ((omega arith, p.0), ((omega arith, p.1), (p.2, tt)))) places.pairs,
+            count_fits pair_parts 1 4 0 a.pairs refl (omega (arith, ranges.count.at_least)) (omega (arith, ranges.count.at_most)),
+            all_fit (point_number ∷ point_number ∷ natural ∷ []) pair_parts IsPairInRange a.pairs refl (λ s p. ((omega arith, p.0), ((omega arith, p.1), (p.2, tt)))) ranges.pairs,
           ),
           tt,
         ),
@@ -191,8 +191,8 @@ unfolding leaf_line
 leaf_is v = simp append_assoc
 
 -- the numbers of a leaf are those of points
-abbrev IsLeafPlace : Leaf → Type 0
-IsLeafPlace l = (l.first ≤ point_limit) × (l.second ≤ point_limit)
+abbrev IsLeafInRange : Leaf → Type 0
+IsLeafInRange l = (l.first ≤ point_limit) × (l.second ≤ point_limit)
 
 -- the spelling of centres is the text of their format
 centres_spelled : (size : Fraction) (b : Body centres_kind.body) → spelling (centres_kind.answer size b) ≡ kind_bytes centres_kind size b
@@ -210,34 +210,34 @@ centres_law = record {
   named = λ lines. refl;
   spelled = centres_spelled;
   short = λ b fits. omega arith;
-  places = λ size b size-fits fits. record {
-    size = (line_places (fraction ∷ []) (size, tt) size-fits).0;
-    square_count = count_places (λ v. v.0) 1 3 0 b.0 fits.0.0 (omega arith);
-    squares = all_places (plane_ratio ∷ []) (λ v. v.0) IsPlaneRatio b.0 (λ v p. p.0) fits.0.1;
-    leaf_count = count_places leaf 0 16 0 b.1.0 fits.1.0.0 (omega arith);
-    leaves = all_places (point_number ∷ point_number ∷ []) leaf IsLeafPlace b.1.0 (λ v p. (p.0.1, p.1.0.1)) fits.1.0.1;
+  ranges = λ size b size-fits fits. record {
+    size = (line_ranges (fraction ∷ []) (size, tt) size-fits).0;
+    square_count = count_ranges (λ v. v.0) 1 3 0 b.0 fits.0.0 (omega arith);
+    squares = all_ranges (plane_ratio ∷ []) (λ v. v.0) IsPlaneRatio b.0 (λ v p. p.0) fits.0.1;
+    leaf_count = count_ranges leaf 0 16 0 b.1.0 fits.1.0.0 (omega arith);
+    leaves = all_ranges (point_number ∷ point_number ∷ []) leaf IsLeafInRange b.1.0 (λ v p. (p.0.1, p.1.0.1)) fits.1.0.1;
   };
 }
 
--- centres that keep their places are some that their format writes
-pub centres_written : (a : CentresAnswer) → CentresPlaces a → Written (centres a)
+-- centres that keep their ranges are some that their format writes
+pub centres_written : (a : CentresAnswer) → CentresRanges a → Written (centres a)
 unfolding square_parts leaf_parts
-centres_written a places = record {
+centres_written a ranges = record {
   kind = centres_kind;
   law = centres_law;
   size = a.size;
   body = (map square_parts a.squares, (map leaf_parts a.leaves, tt));
   is = λ i. centres (record { size = a.size; squares = map_back {Y = PlaneRatio} (λ v. v.0) square_parts a.squares (λ c. refl) i; leaves = map_back leaf leaf_parts a.leaves leaf_back i });
-  size_fits = line_fits (fraction ∷ []) (a.size, tt) refl (places.size, tt);
+  size_fits = line_fits (fraction ∷ []) (a.size, tt) refl (ranges.size, tt);
   body_fits = (
     (
-      count_fits square_parts 1 3 0 a.squares refl (omega (arith, places.square_count.at_least)) (omega (arith, places.square_count.at_most)),
-      all_fit (plane_ratio ∷ []) square_parts IsPlaneRatio a.squares refl (λ c p. (p, tt)) places.squares,
+      count_fits square_parts 1 3 0 a.squares refl (omega (arith, ranges.square_count.at_least)) (omega (arith, ranges.square_count.at_most)),
+      all_fit (plane_ratio ∷ []) square_parts IsPlaneRatio a.squares refl (λ c p. (p, tt)) ranges.squares,
     ),
     (
       (
-        count_fits leaf_parts 0 16 0 a.leaves refl (omega arith) (omega (arith, places.leaf_count.at_most)),
-        all_fit (point_number ∷ point_number ∷ []) leaf_parts IsLeafPlace a.leaves refl (λ l p. ((omega arith, p.0), ((omega arith, p.1), tt))) places.leaves,
+        count_fits leaf_parts 0 16 0 a.leaves refl (omega arith) (omega (arith, ranges.leaf_count.at_most)),
+        all_fit (point_number ∷ point_number ∷ []) leaf_parts IsLeafInRange a.leaves refl (λ l p. ((omega arith, p.0), ((omega arith, p.1), tt))) ranges.leaves,
       ),
       tt,
     ),
@@ -245,6 +245,6 @@ centres_written a places = record {
 }
 
 -- their kind
-pub kind-centres_written : (a : CentresAnswer) (places : CentresPlaces a) → (centres_written a places).kind ≡ centres_kind
+pub kind-centres_written : (a : CentresAnswer) (ranges : CentresRanges a) → (centres_written a ranges).kind ≡ centres_kind
 unfolding centres_written
-kind-centres_written a places = refl
+kind-centres_written a ranges = refl

@@ -6,9 +6,9 @@ use Rattle.std.proofs.lemmas.List.{append-nil, length-map, length-append}
 use Rattle.std.proofs.lemmas.List.Elements.{All-nil, All-cons, All-head, All-tail, All-append, All-same}
 use Rattle.bounds_model.specs.Fractions.{Fraction}
 use Rattle.bounds_model.specs.Plane.{PlanePoint}
-use Rattle.bounds_model.specs.Places.{IsPair, point_limit}
+use Rattle.bounds_model.specs.Ranges.{IsDirection, point_limit}
 use Rattle.bounds_model.specs.Fans.{HalfCone}
-use Rattle.bounds_model.specs.ParallelogramAnswer.{Chord, ChordPlaces, ParallelogramAnswer, ParallelogramPlaces}
+use Rattle.bounds_model.specs.ParallelogramAnswer.{Chord, ChordRanges, ParallelogramAnswer, ParallelogramRanges}
 use Rattle.bounds_model.specs.Answers.{parallelogram}
 use Rattle.bounds_model.specs.AnswerText.Fields.{fraction, bounded}
 use Rattle.bounds_model.specs.AnswerText.LineFormats.{untitled, Values}
@@ -19,8 +19,8 @@ use Rattle.bounds_model.specs.AnswerText.Spelling.{spelling, chorded_line, last_
 use Rattle.bounds_model.specs.AnswerText.Written.{format_line, kind_bytes}
 use Rattle.text_laws.proofs.AnswerTexts.BodyLaws.{AllFit}
 use Rattle.text_laws.proofs.AnswerTexts.AnswerLaws.{KindLaw, Written}
-use Rattle.text_laws.proofs.AnswerTexts.PlaceLaws.{FieldPlaces, line_places, line_fits}
-use Rattle.text_laws.proofs.AnswerTexts.ListPlaces.{all_places, count_places}
+use Rattle.text_laws.proofs.AnswerTexts.RangeLaws.{FieldRanges, line_ranges, line_fits}
+use Rattle.text_laws.proofs.AnswerTexts.ListRanges.{all_ranges, count_ranges}
 use Rattle.text_laws.proofs.AnswerTexts.SpelledLaws.{first_is, size_is, last_is, four_is, count_is, made_length}
 use Rattle.text_laws.proofs.AnswerTexts.FanKinds.{fan_count, directions_of_all, all_directions}
 
@@ -30,13 +30,13 @@ use Rattle.text_laws.proofs.AnswerTexts.FanKinds.{fan_count, directions_of_all, 
 chord_parts : Chord → Values chord_fields
 chord_parts k = (k.a, (k.b, (k.c, (k.beta, (k.gamma, (k.k, tt))))))
 
--- a chord of such fields keeps its places
-chord_place : (v : Values chord_fields) → FieldPlaces chord_fields v → ChordPlaces (chord v)
-chord_place v p = record { a = p.0.1; b = p.1.0.1; c = p.1.1.0.1; beta = p.1.1.1.0; gamma = p.1.1.1.1.0; k = p.1.1.1.1.1.0 }
+-- a chord of such fields keeps its ranges
+chord_range : (v : Values chord_fields) → FieldRanges chord_fields v → ChordRanges (chord v)
+chord_range v p = record { a = p.0.1; b = p.1.0.1; c = p.1.1.0.1; beta = p.1.1.1.0; gamma = p.1.1.1.1.0; k = p.1.1.1.1.1.0 }
 
--- the fields of a chord that keeps its places
-chord_fields_place : (v : Values chord_fields) → ChordPlaces (chord v) → FieldPlaces chord_fields v
-chord_fields_place v p = ((omega arith, p.a), ((omega arith, p.b), ((omega arith, p.c), (p.beta, (p.gamma, (p.k, tt))))))
+-- the fields of a chord that keeps its ranges
+chord_fields_range : (v : Values chord_fields) → ChordRanges (chord v) → FieldRanges chord_fields v
+chord_fields_range v p = ((omega arith, p.a), ((omega arith, p.b), ((omega arith, p.c), (p.beta, (p.gamma, (p.k, tt))))))
 
 -- the spelled line of a cone and a chord is that of its format
 chorded_is : (v : Values chorded_fields) → chorded_line (chorded_cone v) (cone_chord v) ≡ format_line (untitled chorded_fields) v
@@ -75,26 +75,26 @@ parallelogram_law = record {
   named = λ lines. refl;
   spelled = parallelogram_spelled;
   short = λ b fits. omega arith;
-  places = λ size b size-fits fits.
-      let one = line_places side_fields b.0 fits.0 in
-      let two = line_places side_fields b.1.0 fits.1.0 in
-      let last = line_places last_fields b.1.1.1.0 fits.1.1.1.0 in
+  ranges = λ size b size-fits fits.
+      let one = line_ranges side_fields b.0 fits.0 in
+      let two = line_ranges side_fields b.1.0 fits.1.0 in
+      let last = line_ranges last_fields b.1.1.1.0 fits.1.1.1.0 in
       let vs = b.1.1.0 in
       record {
-        size = (line_places (fraction ∷ []) (size, tt) size-fits).0;
+        size = (line_ranges (fraction ∷ []) (size, tt) size-fits).0;
         first = record { x = one.0; y = one.1.0 };
         first_bounds = record { low = one.1.1.0; high = one.1.1.1.0 };
         second = record { x = two.0; y = two.1.0 };
         second_bounds = record { low = two.1.1.0; high = two.1.1.1.0 };
         fan = record {
-          count = count_places chorded_cone 2 10003 1 vs fits.1.1.0.0 (omega arith);
+          count = count_ranges chorded_cone 2 10003 1 vs fits.1.1.0.0 (omega arith);
           directions = all_directions (λ c. c.direction) (map chorded_cone vs) (last_vector b.1.1.1.0)
-              (all_places chorded_fields chorded_cone (λ c. IsPair c.direction) vs (λ v p. record { x = p.0; y = p.1.0 }) fits.1.1.0.1) (record { x = last.0; y = last.1.0 });
-          points = all_places chorded_fields chorded_cone HalfPoints vs (λ v p. (p.1.1.0.1, p.1.1.1.0.1)) fits.1.1.0.1;
+              (all_ranges chorded_fields chorded_cone (λ c. IsDirection c.direction) vs (λ v p. record { x = p.0; y = p.1.0 }) fits.1.1.0.1) (record { x = last.0; y = last.1.0 });
+          points = all_ranges chorded_fields chorded_cone HalfPoints vs (λ v p. (p.1.1.0.1, p.1.1.1.0.1)) fits.1.1.0.1;
         };
         chord_for_each = as_many vs b.1.1.1.0;
-        chords = All-append ChordPlaces (map cone_chord vs) (last_chord b.1.1.1.0 ∷ []) (all_places chorded_fields cone_chord ChordPlaces vs (λ v p. chord_place v.1.1.1.1 p.1.1.1.1) fits.1.1.0.1)
-            (All-cons ChordPlaces (last_chord b.1.1.1.0) [] (chord_place b.1.1.1.0.1.1 last.1.1) (All-nil ChordPlaces));
+        chords = All-append ChordRanges (map cone_chord vs) (last_chord b.1.1.1.0 ∷ []) (all_ranges chorded_fields cone_chord ChordRanges vs (λ v p. chord_range v.1.1.1.1 p.1.1.1.1) fits.1.1.0.1)
+            (All-cons ChordRanges (last_chord b.1.1.1.0) [] (chord_range b.1.1.1.0.1.1 last.1.1) (All-nil ChordRanges));
       };
 }
   where
@@ -125,28 +125,28 @@ chorded (c ∷ cones) (k ∷ chords) e =
       chords_are = ap (λ (xs : List Chord). k ∷ xs) others.chords_are;
     }
 
--- the cone keeps its places
-abbrev HalfPlace : HalfCone → Type 0
-HalfPlace c = IsPair c.direction × HalfPoints c
+-- the cone keeps its ranges
+abbrev IsHalfConeInRange : HalfCone → Type 0
+IsHalfConeInRange c = IsDirection c.direction × HalfPoints c
 
--- lines of cones and chords that keep their places fit
-chorded_fit : (vs : List (Values chorded_fields)) (left : Chord) → All HalfPlace (map chorded_cone vs) → All ChordPlaces (map cone_chord vs ++ left ∷ []) → AllFit (untitled chorded_fields) vs × ChordPlaces left
-chorded_fit [] left cones chords = (tt, All-head ChordPlaces left [] chords)
+-- lines of cones and chords that keep their ranges fit
+chorded_fit : (vs : List (Values chorded_fields)) (left : Chord) → All IsHalfConeInRange (map chorded_cone vs) → All ChordRanges (map cone_chord vs ++ left ∷ []) → AllFit (untitled chorded_fields) vs × ChordRanges left
+chorded_fit [] left cones chords = (tt, All-head ChordRanges left [] chords)
 chorded_fit (v ∷ vs) left cones chords =
-    let others = chorded_fit vs left (All-tail HalfPlace (chorded_cone v) (map chorded_cone vs) cones) (All-tail ChordPlaces (cone_chord v) (map cone_chord vs ++ left ∷ []) chords) in
-    let p = All-head HalfPlace (chorded_cone v) (map chorded_cone vs) cones in
-    let q = All-head ChordPlaces (cone_chord v) (map cone_chord vs ++ left ∷ []) chords in
-    ((line_fits chorded_fields v refl (p.0.x, (p.0.y, ((omega arith, p.1.0), ((omega arith, p.1.1), chord_fields_place v.1.1.1.1 q)))), others.0), others.1)
+    let others = chorded_fit vs left (All-tail IsHalfConeInRange (chorded_cone v) (map chorded_cone vs) cones) (All-tail ChordRanges (cone_chord v) (map cone_chord vs ++ left ∷ []) chords) in
+    let p = All-head IsHalfConeInRange (chorded_cone v) (map chorded_cone vs) cones in
+    let q = All-head ChordRanges (cone_chord v) (map cone_chord vs ++ left ∷ []) chords in
+    ((line_fits chorded_fields v refl (p.0.x, (p.0.y, ((omega arith, p.1.0), ((omega arith, p.1.1), chord_fields_range v.1.1.1.1 q)))), others.0), others.1)
 
--- a parallelogram that keeps its places is one that its format writes
-pub parallelogram_written : (a : ParallelogramAnswer) → ParallelogramPlaces a → Written (parallelogram a)
+-- a parallelogram that keeps its ranges is one that its format writes
+pub parallelogram_written : (a : ParallelogramAnswer) → ParallelogramRanges a → Written (parallelogram a)
 unfolding chord_parts
-parallelogram_written a places =
-    let directions = directions_of_all (λ (c : HalfCone). c.direction) a.fan.cones a.fan.last places.fan.directions in
-    let as-many : length a.chords ≡ suc (length a.fan.cones) = omega (arith, places.chord_for_each, length-append (map (λ (c : HalfCone). c.direction) a.fan.cones) (a.fan.last ∷ []), length-map a.fan.cones (λ (c : HalfCone). c.direction)) in
+parallelogram_written a ranges =
+    let directions = directions_of_all (λ (c : HalfCone). c.direction) a.fan.cones a.fan.last ranges.fan.directions in
+    let as-many : length a.chords ≡ suc (length a.fan.cones) = omega (arith, ranges.chord_for_each, length-append (map (λ (c : HalfCone). c.direction) a.fan.cones) (a.fan.last ∷ []), length-map a.fan.cones (λ (c : HalfCone). c.direction)) in
     let split = chorded a.fan.cones a.chords as-many in
-    let cones : All HalfPlace a.fan.cones = λ k d l. (directions.0 k d l, places.fan.points k d l) in
-    let fits = chorded_fit split.each split.left (All-same HalfPlace (map chorded_cone split.each) a.fan.cones split.cones_are cones) (All-same ChordPlaces (map cone_chord split.each ++ split.left ∷ []) a.chords split.chords_are places.chords) in
+    let cones : All IsHalfConeInRange a.fan.cones = λ k d l. (directions.0 k d l, ranges.fan.points k d l) in
+    let fits = chorded_fit split.each split.left (All-same IsHalfConeInRange (map chorded_cone split.each) a.fan.cones split.cones_are cones) (All-same ChordRanges (map cone_chord split.each ++ split.left ∷ []) a.chords split.chords_are ranges.chords) in
     let amount : length split.each ≡ length a.fan.cones = omega (arith, length-map split.each chorded_cone, ap length split.cones_are) in
     record {
       kind = parallelogram_kind;
@@ -162,14 +162,14 @@ parallelogram_written a places =
         fan = record { cones = split.cones_are i; last = a.fan.last };
         chords = split.chords_are i;
       });
-      size_fits = line_fits (fraction ∷ []) (a.size, tt) refl (places.size, tt);
+      size_fits = line_fits (fraction ∷ []) (a.size, tt) refl (ranges.size, tt);
       body_fits = (
-        line_fits side_fields (a.first.x, (a.first.y, (a.first_bounds.low, (a.first_bounds.high, tt)))) refl (places.first.x, (places.first.y, (places.first_bounds.low, (places.first_bounds.high, tt)))),
+        line_fits side_fields (a.first.x, (a.first.y, (a.first_bounds.low, (a.first_bounds.high, tt)))) refl (ranges.first.x, (ranges.first.y, (ranges.first_bounds.low, (ranges.first_bounds.high, tt)))),
         (
-          line_fits side_fields (a.second.x, (a.second.y, (a.second_bounds.low, (a.second_bounds.high, tt)))) refl (places.second.x, (places.second.y, (places.second_bounds.low, (places.second_bounds.high, tt)))),
+          line_fits side_fields (a.second.x, (a.second.y, (a.second_bounds.low, (a.second_bounds.high, tt)))) refl (ranges.second.x, (ranges.second.y, (ranges.second_bounds.low, (ranges.second_bounds.high, tt)))),
           (
-            (line_fits (bounded 2 10003 ∷ []) (length split.each + 1, tt) refl ((omega (arith, places.fan.count.at_least), omega (arith, places.fan.count.at_most)), tt), fits.0),
-            (line_fits last_fields (a.fan.last.x, (a.fan.last.y, chord_parts split.left)) refl (directions.1.x, (directions.1.y, chord_fields_place (chord_parts split.left) fits.1)), tt),
+            (line_fits (bounded 2 10003 ∷ []) (length split.each + 1, tt) refl ((omega (arith, ranges.fan.count.at_least), omega (arith, ranges.fan.count.at_most)), tt), fits.0),
+            (line_fits last_fields (a.fan.last.x, (a.fan.last.y, chord_parts split.left)) refl (directions.1.x, (directions.1.y, chord_fields_range (chord_parts split.left) fits.1)), tt),
           ),
         ),
       );

@@ -38,7 +38,7 @@ carriage_return = refl
 other_kind : reading (codes "answer 1 blob\nsize 25/4\ncenter 4 3 2\nsupports 2\n1 1\n2 1\nend\n") ≡ Err (bad_answer 1)
 other_kind = refl
 
--- a number past the limit in place of the word 1
+-- a number past the limit in range of the word 1
 big_version : reading (codes "answer 85070591730234615865843651857942052865 circle\nsize 25/4\ncenter 4 3 2\nsupports 2\n1 1\n2 1\nend\n") ≡ Err (bad_answer 1)
 big_version = refl
 
@@ -144,7 +144,7 @@ big_and_form = refl
 big_and_blank : reading (codes "answer 1 circle\nsize 25/4\ncenter 4 3 2\nsupports 2\n1  85070591730234615865843651857942052865\n2 1\nend\n") ≡ Err (bad_answer 5)
 big_and_blank = refl
 
--- ---- a number outside the range of its place
+-- ---- a number outside the range of its range
 
 -- a size that is not in lowest terms
 not_lowest : reading (codes "answer 1 circle\nsize 50/8\ncenter 4 3 2\nsupports 2\n1 1\n2 1\nend\n") ≡ Err (bad_answer 2)

@@ -10,7 +10,7 @@ use Rattle.bounds_model.specs.AnswerText.Kinds.{Kind, kinds, first_format}
 use Rattle.bounds_model.specs.AnswerText.Reading.{ended, kind_of, answer_of, all_lines, reading_of}
 use Rattle.bounds_model.specs.AnswerText.Spelling.{spelling}
 use Rattle.text_laws.specs.Laws.{ReadsWhatIsSpelled, SpellsOne, BeginsNoOther, IsSpelledShort}
-use Rattle.bounds_model.specs.Answers.{HasPlaces}
+use Rattle.bounds_model.specs.Answers.{KeepsRanges}
 use Rattle.bounds_model.specs.AnswerText.Spelling.{Spells}
 use Rattle.bounds_model.specs.AnswerText.Written.{kind_bytes}
 use Rattle.text_laws.proofs.AnswerTexts.LineLaws.{concat-lines_of}
@@ -23,18 +23,18 @@ use Rattle.text_laws.proofs.AnswerTexts.ParallelogramKind.{parallelogram_law, pa
 use Rattle.text_laws.proofs.AnswerTexts.EmptyKind.{empty_law, empty_written}
 use Rattle.text_laws.proofs.AnswerTexts.KgonKind.{kgon_law, kgon_written}
 
--- each answer that keeps its places is one of its kind
-pub written : (answer : Answer) → HasPlaces answer → Written answer
-written (circle a) places = circle_written a places
-written (sphere a) places = sphere_written a places
-written (rectangle a) places = rectangle_written a places
-written (parallelogram a) places = parallelogram_written a places
-written (strip a) places = strip_written a places
-written (annulus a) places = annulus_written a places
-written (empty a) places = empty_written a places
-written (kgon a) places = kgon_written a places
-written (distance a) places = distance_written a places
-written (centres a) places = centres_written a places
+-- each answer that keeps its ranges is one of its kind
+pub written : (answer : Answer) → KeepsRanges answer → Written answer
+written (circle a) ranges = circle_written a ranges
+written (sphere a) ranges = sphere_written a ranges
+written (rectangle a) ranges = rectangle_written a ranges
+written (parallelogram a) ranges = parallelogram_written a ranges
+written (strip a) ranges = strip_written a ranges
+written (annulus a) ranges = annulus_written a ranges
+written (empty a) ranges = empty_written a ranges
+written (kgon a) ranges = kgon_written a ranges
+written (distance a) ranges = distance_written a ranges
+written (centres a) ranges = centres_written a ranges
 
 -- all kinds keep the laws
 kind_laws : AllByRecursion KindLaw kinds
@@ -45,7 +45,7 @@ kind_laws = (circle_law, (sphere_law, (rectangle_law, (strip_law, (parallelogram
 -- the spelling of an answer reads as it
 read_again : (answer : Answer) (bytes : List ℕ) → Spells bytes answer → reading_of kinds bytes ≡ Ok answer
 read_again answer bytes s =
-    let again = written_again answer [] (written answer s.places) in
+    let again = written_again answer [] (written answer s.ranges) in
     ap (λ (x : List ℕ). reading_of kinds x) (s.spelled ∙ sym (append-nil (spelling answer))) ∙ again.1
 
 -- ---- what is read is spelled
@@ -53,7 +53,7 @@ read_again answer bytes s =
 -- a text that was read as an answer of a kind spells it
 found_spells : (kind : Kind) (bytes : List ℕ) (answer : Answer) → KindLaw kind → Found kind (concat (lines_of bytes)) answer → Spells bytes answer
 found_spells kind bytes answer law found = record {
-  places = subst HasPlaces found.is (law.places found.size found.body found.size_fits found.body_fits);
+  ranges = subst KeepsRanges found.is (law.ranges found.size found.body found.size_fits found.body_fits);
   spelled = sym (concat-lines_of bytes) ∙ found.text ∙ sym (law.spelled found.size found.body) ∙ ap spelling found.is;
 }
 
@@ -84,7 +84,7 @@ spells_one bytes a b s t = read_is a b (sym (read_again a bytes s) ∙ read_agai
 -- no spelling begins another
 pub begins_no_other : BeginsNoOther
 begins_no_other bytes more a b s t =
-    let again = written_again a more (written a s.places) in
+    let again = written_again a more (written a s.ranges) in
     let whole : reading_of kinds (bytes ++ more) ≡ ended a again.0 (lines_of more) = ap (λ (x : List ℕ). reading_of kinds (x ++ more)) s.spelled ∙ again.1 in
     let none = ended_back a b again.0 (lines_of more) (sym whole ∙ read_again b (bytes ++ more) t) in
     sym (concat-lines_of more) ∙ ap concat none.1
@@ -92,7 +92,7 @@ begins_no_other bytes more a b s t =
 -- spellings are short
 pub is_spelled_short : IsSpelledShort
 is_spelled_short bytes answer s =
-    let w = written answer s.places in
+    let w = written answer s.ranges in
     let text : bytes ≡ kind_bytes w.kind w.size w.body = s.spelled ∙ ap spelling (sym w.is) ∙ w.law.spelled w.size w.body in
     up_to _ _ _ _ (ap length text) (text_length w.kind w.size w.body w.size_fits w.body_fits) (w.law.short w.body w.body_fits)
   where

@@ -3,40 +3,40 @@ use Rattle.std.proofs.Common.{◌≡◌, ℕ, Bool, true, ◌&&◌, List, [], �
 use Rattle.std.specs.Prelude.{Option, Some}
 use Rattle.std.proofs.lemmas.List.Folds.{list_all-append}
 use Rattle.bounds_model.specs.AnswerText.Numerals as steps
-use Rattle.bounds_model.specs.AnswerText.Fields.{Field, Value, value_of, is_small, is_in_place}
-use Rattle.bounds_model.specs.AnswerText.LineFormats.{Values, values_of, are_small, are_in_place}
+use Rattle.bounds_model.specs.AnswerText.Fields.{Field, Value, value_of, is_small, is_in_range}
+use Rattle.bounds_model.specs.AnswerText.LineFormats.{Values, values_of, are_small, are_in_range}
 use Rattle.bounds_model.specs.AnswerText.Written.{field_words, values_words}
 use Rattle.text_laws.proofs.AnswerTexts.NumberLaws.{bind_some, some_is, step_again, both_true, is_word}
 use Rattle.text_laws.proofs.AnswerTexts.LineLaws.{are_words}
 use Rattle.text_laws.proofs.AnswerTexts.FieldLaws.{field_words_are_words, value_again}
 use Rattle.text_laws.proofs.AnswerTexts.FieldBack.{value_back}
 
--- the numbers of a line are within the limit and in the ranges of their places
+-- the numbers of a line are within the limit and in the ranges of their ranges
 pub record Fits (fields : List Field) (values : Values fields) : Type 0 where
   pub small : are_small fields values ≡ true
-  pub place : are_in_place fields values ≡ true
+  pub range : are_in_range fields values ≡ true
 
 -- the first field fits
-pub first_fits : (field : Field) (fields : List Field) (values : Values (field ∷ fields)) → Fits (field ∷ fields) values → (is_small field values.0 ≡ true) × (is_in_place field values.0 ≡ true)
-first_fits field fields values fits = ((both_true (is_small field values.0) (are_small fields values.1) fits.small).0, (both_true (is_in_place field values.0) (are_in_place fields values.1) fits.place).0)
+pub first_fits : (field : Field) (fields : List Field) (values : Values (field ∷ fields)) → Fits (field ∷ fields) values → (is_small field values.0 ≡ true) × (is_in_range field values.0 ≡ true)
+first_fits field fields values fits = ((both_true (is_small field values.0) (are_small fields values.1) fits.small).0, (both_true (is_in_range field values.0) (are_in_range fields values.1) fits.range).0)
 
 -- the fields behind the first fit
 pub rest_fits : (field : Field) (fields : List Field) (values : Values (field ∷ fields)) → Fits (field ∷ fields) values → Fits fields values.1
 rest_fits field fields values fits = record {
   small = (both_true (is_small field values.0) (are_small fields values.1) fits.small).1;
-  place = (both_true (is_in_place field values.0) (are_in_place fields values.1) fits.place).1;
+  range = (both_true (is_in_range field values.0) (are_in_range fields values.1) fits.range).1;
 }
 
 -- a field and the fields behind it
-pub both_fit : (field : Field) (fields : List Field) (values : Values (field ∷ fields)) → is_small field values.0 ≡ true → is_in_place field values.0 ≡ true → Fits fields values.1 → Fits (field ∷ fields) values
-both_fit field fields values small place fits = record {
+pub both_fit : (field : Field) (fields : List Field) (values : Values (field ∷ fields)) → is_small field values.0 ≡ true → is_in_range field values.0 ≡ true → Fits fields values.1 → Fits (field ∷ fields) values
+both_fit field fields values small range fits = record {
   small = ap (λ (t : Bool). t && are_small fields values.1) small ∙ fits.small;
-  place = ap (λ (t : Bool). t && are_in_place fields values.1) place ∙ fits.place;
+  range = ap (λ (t : Bool). t && are_in_range fields values.1) range ∙ fits.range;
 }
 
 -- no fields
 pub none_fit : Fits [] tt
-none_fit = record { small = refl; place = refl }
+none_fit = record { small = refl; range = refl }
 
 -- the fields are written as words
 pub values_are_words : (fields : List Field) (values : Values fields) → Fits fields values → are_words (values_words fields values) ≡ true

@@ -75,16 +75,16 @@ no_slash-signed (pos n) small = no_slash-decimal n small
 no_slash-signed (negsuc n) small = no_slash-decimal (suc n) small
 
 -- the first slash stands behind bytes that are none
-slash_place : (front : List ℕ) (back : List ℕ) → list_all (λ b. not (b == 47)) front ≡ true → position_or_len is_slash (front ++ 47 ∷ back) ≡ length front
-slash_place [] back e = refl
-slash_place (c ∷ front) back e =
+slash_index : (front : List ℕ) (back : List ℕ) → list_all (λ b. not (b == 47)) front ≡ true → position_or_len is_slash (front ++ 47 ∷ back) ≡ length front
+slash_index [] back e = refl
+slash_index (c ∷ front) back e =
     let parts = both_true (not (c == 47)) (list_all (λ b. not (b == 47)) front) e in
-    let more : 1 + position_or_len is_slash (front ++ 47 ∷ back) ≡ suc (length front) = omega (arith, slash_place front back parts.1) in
+    let more : 1 + position_or_len is_slash (front ++ 47 ∷ back) ≡ suc (length front) = omega (arith, slash_index front back parts.1) in
     ap (λ (t : Bool). cond t (1 + position_or_len is_slash (front ++ 47 ∷ back)) 0) parts.0 ∙ more
 
 -- what stands before the first slash
 before_slash : (front back : List ℕ) → list_all (λ b. not (b == 47)) front ≡ true → before_first is_slash (front ++ 47 ∷ back) ≡ front
-before_slash front back e = ap (λ k. take k (front ++ 47 ∷ back)) (slash_place front back e) ∙ take_at front (47 ∷ back) (length front) refl
+before_slash front back e = ap (λ k. take k (front ++ 47 ∷ back)) (slash_index front back e) ∙ take_at front (47 ∷ back) (length front) refl
 
 -- one byte more is left out
 drop_next : (k : ℕ) (xs : List ℕ) (x : ℕ) (ys : List ℕ) → drop k xs ≡ x ∷ ys → drop (suc k) xs ≡ ys
@@ -96,8 +96,8 @@ drop_next (suc k) (y ∷ xs) x ys e = drop_next k xs x ys e
 -- what stands behind the first slash
 after_slash : (front back : List ℕ) → list_all (λ b. not (b == 47)) front ≡ true → after_first is_slash (front ++ 47 ∷ back) ≡ back
 after_slash front back e =
-    let place : position_or_len is_slash (front ++ 47 ∷ back) + 1 ≡ suc (length front) = omega (arith, slash_place front back e) in
-    ap (λ k. drop k (front ++ 47 ∷ back)) place ∙ drop_next (length front) (front ++ 47 ∷ back) 47 back (drop_at front (47 ∷ back) (length front) refl)
+    let index : position_or_len is_slash (front ++ 47 ∷ back) + 1 ≡ suc (length front) = omega (arith, slash_index front back e) in
+    ap (λ k. drop k (front ++ 47 ∷ back)) index ∙ drop_next (length front) (front ++ 47 ∷ back) 47 back (drop_at front (47 ∷ back) (length front) refl)
 
 -- a fraction is two numbers around a slash
 fraction_text_is : (a : Fraction) → fraction_text a ≡ signed_decimal a.n ++ 47 ∷ signed_decimal a.d

@@ -8,7 +8,7 @@ use Rattle.bounds_model.specs.Answers.{annulus}
 use Rattle.bounded_coords.specs.Clouds.{points_of}
 use Rattle.answers.specs.declared.pairs.WeightedPair.{WeightedPair}
 use Rattle.answers.specs.Answers.{pair_of, annulus_of}
-use Rattle.annulus_check.specs.HeldAnnuli.{IsSmallPair, ratio_of}
+use Rattle.annulus_check.specs.DeterminedAnnuli.{IsSmallPair, ratio_of}
 use Rattle.integers.proofs.Lists.{clash}
 use Rattle.annulus_check.proofs.AnnulusPairs.{some_weight}
 use Rattle.annulus_check.proofs.AnnulusPassing.{annulus_decided, passing_pairs}
@@ -25,8 +25,8 @@ returns-then-not-are_small_pairs-clause-passes c = (
       c.if-not-are_small_pairs.true),
 )
 
-pub is_held-requires-clause-some : goal.is_held-requires-clause-some
-is_held-requires-clause-some c =
+pub is_determined-requires-clause-some : goal.is_determined-requires-clause-some
+is_determined-requires-clause-some c =
     let pairs = c.as_slice-pairs.result.now in
     let small = c.are_small_pairs.ensures.0 c.if-not-are_small_pairs.false in
     some_weight (map pair_of pairs) c.over-sums.result.weight (subst (λ n. 1 ≤ n) (sym (length-map pairs pair_of)) (not_empty pairs c.is_empty.ensures c.if-is_empty.false))
@@ -42,7 +42,7 @@ returns-clause-passes c =
     let a = c.args.a.now in
     annulus_decided points pairs a.pairs.items a.size a.inner a.outer a.center (ratio_of c.of-centre.result) c.of-powers.result c.over-sums.result c.as_slice-pairs.ensures.value c.of-centre.ensures.value c.args.cloud.limited
     (not_empty pairs c.is_empty.ensures c.if-is_empty.false) c.as_slice-pairs.ensures.fits (c.is_small_centre.ensures.0 c.if-not-is_small_centre.false)
-    (subst (λ n. All (IsSmallPair n) pairs) c.len.ensures.count (c.are_small_pairs.ensures.0 c.if-not-are_small_pairs.false)) c.if-sums-gt-WEIGHT_LIMIT.false c.over-sums.ensures.sums c.of-powers.ensures c.is_held.ensures
+    (subst (λ n. All (IsSmallPair n) pairs) c.len.ensures.count (c.are_small_pairs.ensures.0 c.if-not-are_small_pairs.false)) c.if-sums-gt-WEIGHT_LIMIT.false c.over-sums.ensures.sums c.of-powers.ensures c.is_determined.ensures
 
 pub returns-clause-best : goal.returns-clause-best
 returns-clause-best c = λ yes. c.passing_answers_are_best.ensures ask_annulus (plane (points_of c.args.cloud)) (annulus (annulus_of c.args.a.now)) ((returns-clause-passes c).0 yes)

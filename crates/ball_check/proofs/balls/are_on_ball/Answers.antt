@@ -23,7 +23,7 @@ returns-then-not-is_on g c =
     let supports = c.args.supports.now in
     let s : Weighted = get_or supports c.loop-s.s-index (record { point = 0; weight = 0 }) in
     let first = first_placed place points supports (record { point = 0; weight = 0 }) c.at-first.result.now (some_supports supports c.requires.limits.some) c.at-first.ensures in
-    let on = on_ball_by (map place points) (map weighted_of supports) c.args.held.now (place c.at-first.result.now) (place c.at.result.now) (weighted_of s) c.requires.held first (placed place points s.point c.at.result.now c.at.ensures) c.is_on.ensures in (
+    let on = on_ball_by (map place points) (map weighted_of supports) c.args.totals.now (place c.at-first.result.now) (place c.at.result.now) (weighted_of s) c.requires.totals first (placed place points s.point c.at.result.now c.at.ensures) c.is_on.ensures in (
       λ no. absurd (cc no),
       λ all. absurd (clash (on.1 (All-unmap (IsOnBall (map place points) (map weighted_of supports)) weighted_of supports all c.loop-s.s-index (record { point = 0; weight = 0 }) c.loop-s-test.true)) c.if-not-is_on.true),
     )
@@ -35,7 +35,7 @@ loop-s-preserved g c =
     let supports = c.args.supports.now in
     let s : Weighted = get_or supports c.loop-s.s-index (record { point = 0; weight = 0 }) in
     let first = first_placed place points supports (record { point = 0; weight = 0 }) c.at-first.result.now (some_supports supports c.requires.limits.some) c.at-first.ensures in
-    let on = on_ball_by (map place points) (map weighted_of supports) c.args.held.now (place c.at-first.result.now) (place c.at.result.now) (weighted_of s) c.requires.held first (placed place points s.point c.at.result.now c.at.ensures) c.is_on.ensures in
+    let on = on_ball_by (map place points) (map weighted_of supports) c.args.totals.now (place c.at-first.result.now) (place c.at.result.now) (weighted_of s) c.requires.totals first (placed place points s.point c.at.result.now c.at.ensures) c.is_on.ensures in
     All-more (λ s. IsOnBall (map place points) (map weighted_of supports) (weighted_of s)) supports c.loop-s.s-index (record { point = 0; weight = 0 }) c.loop-s-test.true c.loop-s.invariant (on.0 c.if-not-is_on.false)
 
 pub returns : goal.returns

@@ -8,7 +8,7 @@ use Rattle.bounded_coords.specs.Clouds.{points_of}
 use Rattle.answers.specs.Answers.{weighted_of, circle_of}
 use Rattle.answers.specs.declared.balls.Weighted.{Weighted}
 use Rattle.ball_check.proofs.Supports.{some_supports, names_point, first_placed}
-use Rattle.ball_check.proofs.BallPassing.{circle_decided, circle_holds}
+use Rattle.ball_check.proofs.BallPassing.{circle_decided, circle_determined}
 use Rattle.ball_check.proofs.balls.check_circle.Goals as goal
 
 pub at-requires : goal.at-requires
@@ -27,7 +27,7 @@ returns-in-Some-clause-passes c =
     let is : a ≡ circle_of c.args.a.now = ap (λ ss. let b : CircleAnswer = record { size = c.args.a.now.size; centre = c.args.a.now.center; supports = map weighted_of ss } in b) c.as_slice-supports.ensures.value in
     let first = first_placed flat points supports none c.at.result.now (some_supports supports c.in-Some.ensures.0.limits.some) c.at.ensures in
     let three = subst (λ n. n ≤ 3) (sym (length-map supports weighted_of)) c.as_slice-supports.ensures.fits in
-    subst (λ b. IsTrue c.is_plane_centre.result ↔ PassesCircle points b) is (circle_decided points a c.in-Some.held c.at.result.now c.args.cloud.limited three c.in-Some.ensures first c.is_plane_centre.ensures)
+    subst (λ b. IsTrue c.is_plane_centre.result ↔ PassesCircle points b) is (circle_decided points a c.in-Some.totals c.at.result.now c.args.cloud.limited three c.in-Some.ensures first c.is_plane_centre.ensures)
 
 pub returns-in-Some-clause-best : goal.returns-in-Some-clause-best
 returns-in-Some-clause-best c = λ yes. c.passing_answers_are_best.ensures ask_circle (plane (points_of c.args.cloud)) (circle (circle_of c.args.a.now)) ((returns-in-Some-clause-passes c).0 yes)
@@ -37,4 +37,4 @@ returns-in-None-clause-passes c =
     let points = points_of c.args.cloud in
     let a : CircleAnswer = record { size = c.args.a.now.size; centre = c.args.a.now.center; supports = map weighted_of c.as_slice-supports.result.now } in
     let is : a ≡ circle_of c.args.a.now = ap (λ ss. let b : CircleAnswer = record { size = c.args.a.now.size; centre = c.args.a.now.center; supports = map weighted_of ss } in b) c.as_slice-supports.ensures.value in
-    (λ yes. absurd (cc yes), λ p. absurd (c.in-None.ensures (circle_holds points a (subst (PassesCircle points) (sym is) p))))
+    (λ yes. absurd (cc yes), λ p. absurd (c.in-None.ensures (circle_determined points a (subst (PassesCircle points) (sym is) p))))

@@ -18,7 +18,7 @@ returns-then-is_outside g c =
     let points = points_of c.args.cloud in
     let supports = c.args.supports.now in
     let first = first_placed place points supports (record { point = 0; weight = 0 }) c.at-first.result.now (some_supports supports c.requires.limits.some) c.at-first.ensures in
-    let outside = outside_by (map place points) (map weighted_of supports) c.args.held.now (place c.at-first.result.now) (place c.at.result.now) c.requires.held first c.is_outside.ensures in (
+    let outside = outside_by (map place points) (map weighted_of supports) c.args.totals.now (place c.at-first.result.now) (place c.at.result.now) c.requires.totals first c.is_outside.ensures in (
       λ no. absurd (cc no),
       λ all. absurd (outside.0 c.if-is_outside.true (at_point (λ p. IsNotOutside (map place points) (map weighted_of supports) (place p)) points c.loop-i.i c.at.result.now c.at.ensures (All-unmap (IsNotOutside (map place points) (map weighted_of supports)) place points all))),
     )
@@ -29,7 +29,7 @@ loop-i-preserved g c =
     let points = points_of c.args.cloud in
     let supports = c.args.supports.now in
     let first = first_placed place points supports (record { point = 0; weight = 0 }) c.at-first.result.now (some_supports supports c.requires.limits.some) c.at-first.ensures in
-    let outside = outside_by (map place points) (map weighted_of supports) c.args.held.now (place c.at-first.result.now) (place c.at.result.now) c.requires.held first c.is_outside.ensures in
+    let outside = outside_by (map place points) (map weighted_of supports) c.args.totals.now (place c.at-first.result.now) (place c.at.result.now) c.requires.totals first c.is_outside.ensures in
     first_more (λ p. IsNotOutside (map place points) (map weighted_of supports) (place p)) points c.loop-i.i c.at.result.now c.at.ensures c.loop-i.invariant (outside.1 (λ yes. clash yes c.if-is_outside.false))
 
 pub returns : goal.returns

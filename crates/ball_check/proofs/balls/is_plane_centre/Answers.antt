@@ -6,5 +6,5 @@ use Rattle.ball_check.proofs.balls.is_plane_centre.Goals as goal
 pub returns : goal.returns
 returns c =
     let same = plane_ratio_same c.args.centre.now c.plane_centre.result c.eq.ensures in
-    let is = has_plane_place c.args.centre.now c.plane_centre.result (plane_mean c.args.first.now c.args.held.now) (denominator_positive c.requires.some) c.plane_centre.ensures.lowest c.plane_centre.ensures.place in
+    let is = has_plane_place c.args.centre.now c.plane_centre.result (plane_mean c.args.first.now c.args.totals.now) (denominator_positive c.requires.some) c.plane_centre.ensures.lowest c.plane_centre.ensures.place in
     (λ yes. is.1 (same.0 yes), λ h. same.1 (is.0 h))

@@ -17,14 +17,14 @@ same_fraction a b an bn ad bd h k = ap₂ (λ n d. let f : Fraction = record { n
 
 pub returns-then-num : goal.returns-then-num
 returns-then-num c =
-    let is = has_value c.args.size.now c.size-mean.result (record { n = pos c.args.held.now.second_moment; d = pos (2 * c.args.held.now.weight) }) (positive c.requires.some) c.size-mean.ensures.lowest c.size-mean.ensures.value in (
+    let is = has_value c.args.size.now c.size-mean.result (record { n = pos c.args.totals.now.second_moment; d = pos (2 * c.args.totals.now.weight) }) (positive c.requires.some) c.size-mean.ensures.lowest c.size-mean.ensures.value in (
       λ yes. is.1 (same_fraction c.args.size.now c.size-mean.result c.num.ensures.value c.num-2.ensures.value c.den.ensures.value c.den-then-num.ensures.value c.if-num.true (eqb-true c.den.result c.den-then-num.result yes)),
       λ h. eq-eqb c.den.result c.den-then-num.result (same_number c.den.ensures.value c.den-then-num.ensures.value (ap (λ f. f.d) (is.0 h))),
     )
 
 pub returns-else-num : goal.returns-else-num
 returns-else-num c =
-    let is = has_value c.args.size.now c.size-mean.result (record { n = pos c.args.held.now.second_moment; d = pos (2 * c.args.held.now.weight) }) (positive c.requires.some) c.size-mean.ensures.lowest c.size-mean.ensures.value in (
+    let is = has_value c.args.size.now c.size-mean.result (record { n = pos c.args.totals.now.second_moment; d = pos (2 * c.args.totals.now.weight) }) (positive c.requires.some) c.size-mean.ensures.lowest c.size-mean.ensures.value in (
       λ yes. absurd (c.if-num.false (eqb-true c.num.result c.num-2.result yes)),
       λ h. eq-eqb c.num.result c.num-2.result (same_number c.num.ensures.value c.num-2.ensures.value (ap (λ f. f.n) (is.0 h))),
     )

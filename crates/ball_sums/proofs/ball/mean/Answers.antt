@@ -4,7 +4,7 @@ use mir.Syntax.{w128}
 use Rattle.integers.specs.Size.{Size}
 use Rattle.integers.proofs.Sizes.{size_unsigned, below_size, above_size}
 use Rattle.integers.proofs.MachineArithmetic.{given, with_inputs, codes, size_within}
-use Rattle.bounds_model.specs.Places.{IsNumber}
+use Rattle.bounds_model.specs.Ranges.{IsNumber}
 use Rattle.ball_sums.proofs.ball.mean.Goals as goal
 
 number : {z : ℤ} → Size (2 ^ 126) z → IsNumber z

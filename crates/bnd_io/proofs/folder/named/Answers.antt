@@ -1,6 +1,6 @@
 use Rattle.std.proofs.Common.{◌≡◌, true, false, sym}
 use Rattle.bnd_io.specs.FolderFields.{folder_of}
-use Rattle.bnd_io.proofs.Places.{no_bytes}
+use Rattle.bnd_io.proofs.FileIndices.{no_bytes}
 use Rattle.bnd_io.proofs.folder.named.Goals as goal
 
 pub returns-in-None-clause-bytes : goal.returns-in-None-clause-bytes

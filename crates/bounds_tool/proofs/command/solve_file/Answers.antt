@@ -11,7 +11,7 @@ use Rattle.bounds_tool.specs.Outputs.{IsDone}
 use Rattle.bounds_tool.specs.Run.{ComesOf, TaskOutput}
 use Rattle.bounds_tool.proofs.Corners.{unsolved_file, if_unsolved}
 use Rattle.bounds_tool.proofs.StepCounts.{file_steps}
-use Rattle.bounds_tool.proofs.PassingPlaces.{HasPlaces-passes}
+use Rattle.bounds_tool.proofs.PassingRanges.{KeepsRanges-passes}
 use Rattle.bounds_tool.proofs.Works.{solved, sized}
 use Rattle.bounds_tool.proofs.command.solve_file.Goals as goal
 
@@ -40,7 +40,7 @@ pub print-requires : goal.print-requires
 print-requires g c =
     let ask = asked c.args.ask.now in
     let answer = answer_of c.in_ok-answer.answer in
-    HasPlaces-passes ask c.in_ok-sets.sets answer (subst (λ sets. Passes ask sets answer) c.view.ensures c.in_ok-answer.ensures.passes)
+    KeepsRanges-passes ask c.in_ok-sets.sets answer (subst (λ sets. Passes ask sets answer) c.view.ensures c.in_ok-answer.ensures.passes)
 
 pub returns-in_err-answer-clause-cause : goal.returns-in_err-answer-clause-cause
 returns-in_err-answer-clause-cause g c =

@@ -19,6 +19,6 @@ free_points {yes} side points squares i j p q at_i at_j first second h =
 pub returns : goal.returns
 returns c =
     free_points c.args.side (points_of c.args.cloud) c.args.placed.now c.args.leaf.now.first c.args.leaf.now.second c.at-p.result.now c.at-q.result.now c.at-p.ensures c.at-q.ensures
-    (λ held. let yes = c.is_held.ensures.1 held in let no = c.if-is_held.false in absurd (cc (yes, no)))
-    (λ held. let yes = c.is_held-2.ensures.1 held in let no = c.if-is_held-2.false in absurd (cc (yes, no)))
+    (λ covered. let yes = c.any_contains.ensures.1 covered in let no = c.if-any_contains.false in absurd (cc (yes, no)))
+    (λ covered. let yes = c.any_contains-2.ensures.1 covered in let no = c.if-any_contains-2.false in absurd (cc (yes, no)))
     c.are_far.ensures

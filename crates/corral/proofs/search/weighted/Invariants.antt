@@ -5,4 +5,4 @@ use Rattle.corral.proofs.search.weighted.Given as goal
 
 abbrev pub invariant-loop-i : goal.invariant-loop-i
 invariant-loop-i l =
-    (names l.held.items ≡ candidate_names (take l.i l.part)) × (weights l.held.items ≡ take l.i l.weights) × (length l.held.items ≡ l.i)
+    (names l.members.items ≡ candidate_names (take l.i l.part)) × (weights l.members.items ≡ take l.i l.weights) × (length l.members.items ≡ l.i)

@@ -25,14 +25,14 @@ returns-then-not-is_level c =
     let pair : WeightedPair = get_or c.args.pairs.now c.loop-pair.pair-index no_pair in
     let same = ap₂ vector (at_number qs pair.second c.at-in-loop-pair.result.now c.at-in-loop-pair.ensures) (at_number ps pair.first c.at.result.now c.at.ensures) in (
       λ no. absurd (cc no),
-      λ all. absurd (clash (c.is_level.ensures.1 (subst (λ v. dot (pull_of c.args.held.now) v ≡ dot (pull_of c.args.held.now) (vector c.args.second.now c.args.first.now)) same (all c.loop-pair.pair-index no_pair c.loop-pair-test.true))) c.if-not-is_level.true),
+      λ all. absurd (clash (c.is_level.ensures.1 (subst (λ v. dot (pull_of c.args.totals.now) v ≡ dot (pull_of c.args.totals.now) (vector c.args.second.now c.args.first.now)) same (all c.loop-pair.pair-index no_pair c.loop-pair-test.true))) c.if-not-is_level.true),
     )
 
 pub loop-pair-preserved : goal.loop-pair-preserved
 loop-pair-preserved c =
     let ps = points_of c.args.p in
     let qs = points_of c.args.q in
-    let v = pull_of c.args.held.now in
+    let v = pull_of c.args.totals.now in
     let least = dot v (vector c.args.second.now c.args.first.now) in
     let pair : WeightedPair = get_or c.args.pairs.now c.loop-pair.pair-index no_pair in
     let same = ap₂ vector (at_number qs pair.second c.at-in-loop-pair.result.now c.at-in-loop-pair.ensures) (at_number ps pair.first c.at.result.now c.at.ensures) in
@@ -41,7 +41,7 @@ loop-pair-preserved c =
 
 pub returns : goal.returns
 returns c =
-    let v = pull_of c.args.held.now in
+    let v = pull_of c.args.totals.now in
     let whole : take c.loop-pair.pair-index c.args.pairs.now ≡ c.args.pairs.now = take_all c.loop-pair.pair-index c.args.pairs.now c.loop-pair-test.false in (
       λ yes. subst (All (λ pair. dot v (difference (points_of c.args.p) (points_of c.args.q) (pair_of pair)) ≡ dot v (vector c.args.second.now c.args.first.now))) whole c.loop-pair.invariant,
       λ all. refl,

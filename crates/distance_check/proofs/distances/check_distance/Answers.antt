@@ -5,7 +5,7 @@ use Rattle.bounds_model.specs.Asks.{ask_distance, two}
 use Rattle.bounds_model.specs.Answers.{distance}
 use Rattle.bounded_coords.specs.Clouds.{points_of}
 use Rattle.answers.specs.Answers.{pair_of, distance_of}
-use Rattle.distance_check.specs.HeldDistances.{answer_by}
+use Rattle.distance_check.specs.DeterminedDistances.{answer_by}
 use Rattle.distance_check.proofs.DistancePassing.{distance_limits, distance_decided}
 use Rattle.distance_check.proofs.distances.check_distance.Goals as goal
 

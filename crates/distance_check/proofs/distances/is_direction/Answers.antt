@@ -6,7 +6,7 @@ use Rattle.answers.specs.Answers.{space_vector_of}
 use Rattle.pair_sums.specs.Sums.{pull_of}
 use Rattle.pair_sums.proofs.Directions.{direction_unique}
 use Rattle.pair_sums.proofs.WeightedMeans.{are_numbers}
-use Rattle.distance_check.specs.HeldDistances.{AreNumbers}
+use Rattle.distance_check.specs.DeterminedDistances.{AreNumbers}
 use Rattle.distance_check.proofs.distances.is_direction.Goals as goal
 
 pub returns : goal.returns
@@ -20,8 +20,8 @@ returns c =
       λ yes.
           let parts = decides.0 yes in
           let same : given ≡ found = same_point parts.0 parts.1.0 parts.1.1 in
-          (subst AreNumbers (sym same) (record { x = numbers.0; y = numbers.1; z = numbers.2 }), subst (IsDirectionOf (pull_of c.args.held.now)) (sym same) c.direction.ensures.direction),
+          (subst AreNumbers (sym same) (record { x = numbers.0; y = numbers.1; z = numbers.2 }), subst (IsDirectionOf (pull_of c.args.totals.now)) (sym same) c.direction.ensures.direction),
       λ h.
-          let same = direction_unique (pull_of c.args.held.now) given found h.1 c.direction.ensures.direction in
+          let same = direction_unique (pull_of c.args.totals.now) given found h.1 c.direction.ensures.direction in
           decides.1 (ap (λ v. v.x) same, (ap (λ v. v.y) same, ap (λ v. v.z) same)),
     )

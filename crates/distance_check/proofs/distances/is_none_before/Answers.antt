@@ -11,16 +11,16 @@ use Rattle.distance_check.proofs.distances.is_none_before.Goals as goal
 pub returns-then-is_against : goal.returns-then-is_against
 returns-then-is_against c = (
   λ no. absurd (cc no),
-  λ all. absurd (below_clash (c.is_against.ensures.0 c.if-is_against.true) (at_point (λ p. pos 0 ≤ℤ dot (pull_of c.args.held.now) (vector c.args.first.now p)) (points_of c.args.cloud) c.loop-i.i c.at.result.now c.at.ensures all)),
+  λ all. absurd (below_clash (c.is_against.ensures.0 c.if-is_against.true) (at_point (λ p. pos 0 ≤ℤ dot (pull_of c.args.totals.now) (vector c.args.first.now p)) (points_of c.args.cloud) c.loop-i.i c.at.result.now c.at.ensures all)),
 )
 
 pub loop-i-preserved : goal.loop-i-preserved
 loop-i-preserved c =
-    first_more (λ p. pos 0 ≤ℤ dot (pull_of c.args.held.now) (vector c.args.first.now p)) (points_of c.args.cloud) c.loop-i.i c.at.result.now c.at.ensures c.loop-i.invariant
+    first_more (λ p. pos 0 ≤ℤ dot (pull_of c.args.totals.now) (vector c.args.first.now p)) (points_of c.args.cloud) c.loop-i.i c.at.result.now c.at.ensures c.loop-i.invariant
     (not_below (λ below. clash (c.is_against.ensures.1 below) c.if-is_against.false))
 
 pub returns : goal.returns
 returns c =
     let points = points_of c.args.cloud in
     let whole : take c.loop-i.i points ≡ points = take_all c.loop-i.i points (omega arith) in
-    (λ yes. subst (All (λ p. pos 0 ≤ℤ dot (pull_of c.args.held.now) (vector c.args.first.now p))) whole c.loop-i.invariant, λ all. refl)
+    (λ yes. subst (All (λ p. pos 0 ≤ℤ dot (pull_of c.args.totals.now) (vector c.args.first.now p))) whole c.loop-i.invariant, λ all. refl)

@@ -5,4 +5,4 @@ use Rattle.pair_sums.specs.Sums.{pull_of}
 use Rattle.distance_check.proofs.distances.is_none_beyond.Given as goal
 
 abbrev pub invariant-loop-i : goal.invariant-loop-i
-invariant-loop-i l = All (λ p. pos 0 ≤ℤ dot (pull_of l.held) (vector p l.second)) (take l.i (points_of l.cloud))
+invariant-loop-i l = All (λ p. pos 0 ≤ℤ dot (pull_of l.totals) (vector p l.second)) (take l.i (points_of l.cloud))

@@ -5,7 +5,7 @@ use Rattle.distance_check.proofs.distances.is_second_mean.Goals as goal
 
 pub returns : goal.returns
 returns c =
-    let held = c.args.held.now in
+    let totals = c.args.totals.now in
     let same = space_ratio_same c.args.to.now c.second_mean.result c.eq.ensures in
-    let is = has_space_place c.args.to.now c.second_mean.result (mean_of held.weight held.second) (denominator_positive c.requires.some) c.second_mean.ensures.lowest c.second_mean.ensures.place in
+    let is = has_space_place c.args.to.now c.second_mean.result (mean_of totals.weight totals.second) (denominator_positive c.requires.some) c.second_mean.ensures.lowest c.second_mean.ensures.place in
     (λ yes. is.1 (same.0 yes), λ h. same.1 (is.0 h))

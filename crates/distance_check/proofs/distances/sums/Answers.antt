@@ -29,8 +29,8 @@ returns-then-not-are_numbers c limits =
     (All-unmap (λ (pair : model.WeightedPair). (pair.first < length (points_of c.args.p)) × (pair.second < length (points_of c.args.q))) pair_of c.args.pairs.now limits.numbers)))
     c.if-not-are_numbers.true
 
-pub returns-in_err-held : goal.returns-in_err-held
-returns-in_err-held c = rw c.from_residual.ensures (too_heavy c.args.pairs.now c.loop-pair.pair-index c.loop-pair.held.weight c.loop-pair-test.true c.loop-pair.invariant.sums.weight c.in_err-held.ensures)
+pub returns-in_err-totals : goal.returns-in_err-totals
+returns-in_err-totals c = rw c.from_residual.ensures (too_heavy c.args.pairs.now c.loop-pair.pair-index c.loop-pair.totals.weight c.loop-pair-test.true c.loop-pair.invariant.sums.weight c.in_err-totals.ensures)
 
 pub loop-pair-preserved : goal.loop-pair-preserved
 loop-pair-preserved c =
@@ -38,14 +38,14 @@ loop-pair-preserved c =
     let qs = points_of c.args.q in
     let pairs = c.args.pairs.now in
     let pair : WeightedPair = get_or pairs c.loop-pair.pair-index no_pair in
-    let added = c.in_ok-held.ensures in
+    let added = c.in_ok-totals.ensures in
     let more = map_more pair_of pairs c.loop-pair.pair-index no_pair c.loop-pair-test.true in
     let before = map pair_of (take c.loop-pair.pair-index pairs) in
     record {
       weights = subst (All (λ (pair : model.WeightedPair). pos 1 ≤ℤ pair.weight)) (sym more) (All-push (λ (pair : model.WeightedPair). pos 1 ≤ℤ pair.weight) before (pair_of pair) c.loop-pair.invariant.weights (omega (arith, ints, added.0)));
       range = added.1;
-      sums = subst (λ pairs. AreSums ps qs pairs c.in_ok-held.held) (sym more)
-          (sums_of_more ps qs before (pair_of pair) c.loop-pair.held c.in_ok-held.held pair.weight c.at.result.now c.at-in-loop-pair.result.now refl (at_number ps pair.first c.at.result.now c.at.ensures)
+      sums = subst (λ pairs. AreSums ps qs pairs c.in_ok-totals.totals) (sym more)
+          (sums_of_more ps qs before (pair_of pair) c.loop-pair.totals c.in_ok-totals.totals pair.weight c.at.result.now c.at-in-loop-pair.result.now refl (at_number ps pair.first c.at.result.now c.at.ensures)
           (at_number qs pair.second c.at-in-loop-pair.result.now c.at-in-loop-pair.ensures) c.loop-pair.invariant.sums added.2);
     }
 
@@ -56,7 +56,7 @@ returns c =
     let pairs = c.args.pairs.now in
     let whole : take c.loop-pair.pair-index pairs ≡ pairs = take_all c.loop-pair.pair-index pairs c.loop-pair-test.false in
     let weights = subst (λ pairs. All (λ (pair : model.WeightedPair). pos 1 ≤ℤ pair.weight) (map pair_of pairs)) whole c.loop-pair.invariant.weights in
-    let sums = subst (λ pairs. AreSums ps qs (map pair_of pairs) c.loop-pair.held) whole c.loop-pair.invariant.sums in
+    let sums = subst (λ pairs. AreSums ps qs (map pair_of pairs) c.loop-pair.totals) whole c.loop-pair.invariant.sums in
     let some = subst (λ n. 1 ≤ n) (sym (length-map pairs pair_of)) (not_empty pairs c.is_empty.ensures c.if-is_empty.false) in
     let numbers = counted pairs c.len.ensures.count c.len-2.ensures.count (c.are_numbers.ensures.0 c.if-not-are_numbers.false) in (
       record {
@@ -65,7 +65,7 @@ returns c =
         weights = weights;
         weight_limit = within sums.weight c.loop-pair.invariant.range.weight;
       },
-      record { some = some_weight (map pair_of pairs) c.loop-pair.held.weight some weights sums.weight; range = c.loop-pair.invariant.range; sums = sums },
+      record { some = some_weight (map pair_of pairs) c.loop-pair.totals.weight some weights sums.weight; range = c.loop-pair.invariant.range; sums = sums },
     )
   where
     within : {t limit : ℕ} {a : ℤ} → pos t ≡ a → t ≤ limit → a ≤ℤ pos limit

@@ -10,7 +10,7 @@ use Rattle.empty_check.proofs.empty_rectangles.restricted_area.Goals as goal
 pub returns-then-not-is_area : goal.returns-then-not-is_area
 returns-then-not-is_area c = λ r.
     let below : c.area_of-area.result < 2 ^ 64 = omega arith in
-    clash (c.is_area.ensures.1 (area_printed (empty_of c.args.a.now) c.area_of-area.result below (c.area_of-area.ensures ∙ ap area c.in_ok-rectangle.ensures.1) r.size_place r.size)) c.if-not-is_area.true
+    clash (c.is_area.ensures.1 (area_printed (empty_of c.args.a.now) c.area_of-area.result below (c.area_of-area.ensures ∙ ap area c.in_ok-rectangle.ensures.1) r.size_in_range r.size)) c.if-not-is_area.true
 
 pub returns : goal.returns
 returns c =
@@ -21,7 +21,7 @@ returns c =
     let printed = c.is_area.ensures.0 c.if-not-is_area.false in
     let valued = area_valued a c.area_of-area.result below (c.area_of-area.ensures ∙ ap area lies.1) printed in (
       record {
-        size_place = valued.0;
+        size_in_range = valued.0;
         inside = lies.0;
         numbers = c.name_points.ensures.0 c.if-not-name_points.false;
         size = valued.1;

@@ -1,6 +1,6 @@
 use Rattle.std.proofs.Common.{◌≡◌, ℕ, ◌∙◌, ℤ, pos, ◌+ℤ◌, rules, arith, ap, subst, Fits, SFits, to_z, of_z, w32, w64, to_z-of_z}
 use Rattle.std.specs.Int.{w128}
-use Rattle.bounds_model.specs.Places.{IsFraction}
+use Rattle.bounds_model.specs.Ranges.{IsFraction}
 use Rattle.bounds_model.specs.Fractions.{Fraction}
 use Rattle.empty_rectangle.proofs.Passing.{whole_fraction, answer_parts}
 use Rattle.empty_rectangle.proofs.largest_empty.answer.Goals as goal

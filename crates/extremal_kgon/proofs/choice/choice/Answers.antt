@@ -3,8 +3,8 @@ use lib.Signed.{le_z, lt_z}
 use Rattle.std.proofs.lemmas.Int.{ints}
 use Rattle.std.proofs.lemmas.List.{length-map}
 use Rattle.integers.proofs.Sizes.{wrap_is_in}
-use Rattle.extremal_kgon.specs.Tables.{ending, held}
-use Rattle.extremal_kgon.proofs.Tails.{in_layer, within-table, tail-begins, tail-more, tail-ends, held-low}
+use Rattle.extremal_kgon.specs.Tables.{ending, potential_or_zero}
+use Rattle.extremal_kgon.proofs.Tails.{in_layer, within-table, tail-begins, tail-more, tail-ends, potential_or_zero-low}
 use Rattle.extremal_kgon.proofs.choice.choice.Goals as goal
 
 -- tests of numbers that the machine keeps
@@ -59,7 +59,7 @@ step_back-last-requires c =
       last = c.back.invariant.below;
       within = subst (λ l. ending (length c.args.corners.now) c.args.layers c.args.best.now.first l ≤ length c.args.potentials.now) (sym (again some)) (subst (λ n. ending (length c.args.corners.now) c.args.layers c.args.best.now.first c.back.layer ≤ n) (length-map c.args.potentials.now pos) (within-table c.args.corners.now c.args.layers (map pos c.args.potentials.now) c.args.best.now c.args.best.now.first c.back.layer c.requires.table first c.back.invariant.within));
       small = c.requires.small;
-      some = subst (λ l. pos 0 <ℤ held (length c.args.corners.now) c.args.layers (map pos c.args.potentials.now) c.args.best.now.first l c.back.last) (sym (again some)) up;
+      some = subst (λ l. pos 0 <ℤ potential_or_zero (length c.args.corners.now) c.args.layers (map pos c.args.potentials.now) c.args.best.now.first l c.back.last) (sym (again some)) up;
       potential = c.requires.table.potentials c.args.best.now.first (c.back.layer - 1) c.back.last first (omega (arith, some, c.back.invariant.within)) c.back.invariant.after c.back.invariant.below;
     }
 
@@ -87,4 +87,4 @@ insert-requires-2 c = let room : length c.back.chosen.items < 12 = omega (arith,
 pub returns : goal.returns
 returns c =
     tail-ends c.args.corners.now c.args.layers (map pos c.args.potentials.now) c.args.best.now.first c.back.layer c.back.last c.back.chosen.items _ c.args.best.now.area (omega (arith, c.back.invariant.after, c.back.invariant.below)) c.back.invariant
-    (ended c.back-test.false (wrap_is_in w64 c.potential.ensures.small tt ∙ c.potential.ensures.potential) (held-low (length c.args.corners.now) c.args.layers c.args.potentials.now c.args.best.now.first c.back.layer c.back.last)) c.insert-2.ensures.items
+    (ended c.back-test.false (wrap_is_in w64 c.potential.ensures.small tt ∙ c.potential.ensures.potential) (potential_or_zero-low (length c.args.corners.now) c.args.layers c.args.potentials.now c.args.best.now.first c.back.layer c.back.last)) c.insert-2.ensures.items

@@ -15,7 +15,7 @@ machine_sum s t = with_inputs (given s ∷ given t ∷ []) (λ xs h u a. simp (u
 
 pub earlier-preserved : goal.earlier-preserved
 earlier-preserved c =
-    let sum = machine_sum (c.requires.before c.earlier.j (pos 0) (omega (arith, c.requires.place, c.earlier-test.true))) (c.requires.areas (c.args.start + c.earlier.j) (pos 0) (omega (arith, c.requires.end, c.earlier-test.true))) in
+    let sum = machine_sum (c.requires.before c.earlier.j (pos 0) (omega (arith, c.requires.index, c.earlier-test.true))) (c.requires.areas (c.args.start + c.earlier.j) (pos 0) (omega (arith, c.requires.end, c.earlier-test.true))) in
     subst (IsBestSum (λ j. at c.args.areas.now (c.args.start + j)) c.args.before.now (c.earlier.j + 1)) (sym (kept64 {z = c.max-most.result} c.max-most.type_inv))
     (best_sum-max (λ j. at c.args.areas.now (c.args.start + j)) c.args.before.now c.earlier.j (to_z w64 c.earlier.most-bits) _ c.max-most.result c.earlier.invariant c.max-most.ensures sum)
 

@@ -36,7 +36,7 @@ with_row-best-requires c =
     let next = of_lists c.as_slice-in-layers.ensures.value c.as_slice-in-layers-3.ensures.value c.next_row-row.ensures in
     let sizes = next_small c.args.corners.now c.args.layers c.args.first c.layers.layer (map pos c.layers.potentials) c.layers.before.items c.next_row-row.result.items c.layers.best c.ways-ways.result.items c.requires.layers c.layers-test.true c.ways-ways.ensures c.layers.invariant next in
     record {
-      place = omega (arith, c.requires.few, c.requires.first, c.requires.layers, c.layers-test.true, c.as_slice-in-layers-4.ensures.fits);
+      index = omega (arith, c.requires.few, c.requires.first, c.requires.layers, c.layers-test.true, c.as_slice-in-layers-4.ensures.fits);
       not_negative = c.layers.invariant.greatest.not_negative;
       small = c.layers.invariant.greatest.small;
       sizes = subst (All (Size (2 ^ 43))) (sym c.as_slice-in-layers-4.ensures.value) sizes;

@@ -48,7 +48,7 @@ directions-preserved g c =
     (half_more (points_in c.args.corners.now) (corners_in c.args.corners.now) c.args.side c.args.high_at c.args.low_at c.directions.direction c.lowest-direction.result c.directions.pair c.follow-pair.result
     (map half_cone_of c.directions.cones) (half_cone_of (record { dir = c.dir_from.result; hi = c.number_at.result; lo = c.number_at-in-directions.result })) (length c.args.cones.now) c.directions.steps c.follow-pair.new.steps c.args.steps.now
     c.args.corners.now.hull.around (hull_listed (points_in c.args.corners.now) (numbers_in c.args.corners.now) c.args.corners.now.hull) c.requires.upper c.directions.invariant c.directions-test.true next c.dir_from.ensures
-    (number_around (points_in c.args.corners.now) (numbers_in c.args.corners.now) c.directions.pair.high.position c.number_at.result some c.number_at.ensures.number)
-    (number_around (points_in c.args.corners.now) (numbers_in c.args.corners.now) c.directions.pair.low.position c.number_at-in-directions.result some c.number_at-in-directions.ensures.number)
+    (number_around (points_in c.args.corners.now) (numbers_in c.args.corners.now) c.directions.pair.high.advance c.number_at.result some c.number_at.ensures.number)
+    (number_around (points_in c.args.corners.now) (numbers_in c.args.corners.now) c.directions.pair.low.advance c.number_at-in-directions.result some c.number_at-in-directions.ensures.number)
     (c.number_at.ensures.below, c.number_at-in-directions.ensures.below)
     c.follow-pair.ensures.pair c.follow-pair.ensures.follows c.follow-pair.ensures.steps)

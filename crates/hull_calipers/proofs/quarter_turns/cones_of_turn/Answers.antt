@@ -68,9 +68,9 @@ directions-preserved g c =
     (quarter_more (points_in c.args.corners.now) (corners_in c.args.corners.now) (record { right = c.args.right; left = 0; top = c.args.top; bottom = c.args.bottom }) c.directions.direction c.lowest-direction.result c.directions.along c.directions.across c.follow-along.result c.follow-across.result
     (map quarter_cone_of c.directions.cones) (quarter_cone_of (record { dir = c.dir_from.result; hi = c.number_at.result; lo = c.number_at-in-directions.result; over = c.number_at-in-directions-2.result; under = c.number_at-in-directions-3.result })) c.directions.steps c.follow-along.new.steps c.follow-across.new.steps c.args.steps.now
     c.args.corners.now.hull.around (hull_listed (points_in c.args.corners.now) (numbers_in c.args.corners.now) c.args.corners.now.hull) c.directions.invariant c.directions-test.true next c.dir_from.ensures
-    (number_around (points_in c.args.corners.now) (numbers_in c.args.corners.now) c.directions.along.high.position c.number_at.result some c.number_at.ensures.number)
-    (number_around (points_in c.args.corners.now) (numbers_in c.args.corners.now) c.directions.along.low.position c.number_at-in-directions.result some c.number_at-in-directions.ensures.number)
-    (number_around (points_in c.args.corners.now) (numbers_in c.args.corners.now) c.directions.across.high.position c.number_at-in-directions-2.result some c.number_at-in-directions-2.ensures.number)
-    (number_around (points_in c.args.corners.now) (numbers_in c.args.corners.now) c.directions.across.low.position c.number_at-in-directions-3.result some c.number_at-in-directions-3.ensures.number)
+    (number_around (points_in c.args.corners.now) (numbers_in c.args.corners.now) c.directions.along.high.advance c.number_at.result some c.number_at.ensures.number)
+    (number_around (points_in c.args.corners.now) (numbers_in c.args.corners.now) c.directions.along.low.advance c.number_at-in-directions.result some c.number_at-in-directions.ensures.number)
+    (number_around (points_in c.args.corners.now) (numbers_in c.args.corners.now) c.directions.across.high.advance c.number_at-in-directions-2.result some c.number_at-in-directions-2.ensures.number)
+    (number_around (points_in c.args.corners.now) (numbers_in c.args.corners.now) c.directions.across.low.advance c.number_at-in-directions-3.result some c.number_at-in-directions-3.ensures.number)
     (c.number_at.ensures.below, c.number_at-in-directions.ensures.below, c.number_at-in-directions-2.ensures.below, c.number_at-in-directions-3.ensures.below)
     c.follow-along.ensures.pair c.follow-along.ensures.follows c.follow-along.ensures.steps c.follow-across.ensures.pair c.follow-across.ensures.follows c.follow-across.ensures.steps)

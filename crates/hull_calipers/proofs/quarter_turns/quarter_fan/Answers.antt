@@ -7,7 +7,7 @@ use Rattle.hull_calipers.proofs.ModelCorners.{hull_listed}
 use Rattle.hull_calipers.proofs.PlainDirections.{quarter_holds, quarter_short}
 use Rattle.hull_calipers.proofs.Complete.{quarter_plain}
 use Rattle.hull_calipers.proofs.FewDirections.{few_quarter}
-use Rattle.hull_calipers.proofs.FanPlaces.{quarter_places}
+use Rattle.hull_calipers.proofs.FanRanges.{quarter_ranges}
 use Rattle.std.proofs.lemmas.List.{length-map}
 use Rattle.bounds_model.specs.Plane.{point_at}
 use Rattle.hull_calipers.proofs.quarter_turns.quarter_fan.Goals as goal
@@ -30,6 +30,6 @@ returns-clause-few g c = few_quarter (corners_in c.args.corners.now) (quarter_di
 pub returns-clause-short : goal.returns-clause-short
 returns-clause-short g c = quarter_short (points_in c.args.corners.now) (corners_in c.args.corners.now) (quarter_fan_of (record { cones = c.in_ok-cones.cones; last = record { x = pos 0; y = pos 1 } })) c.in_ok-cones.ensures.path
 
-pub returns-clause-places : goal.returns-clause-places
-returns-clause-places g c = quarter_places (points_in c.args.corners.now) (corners_in c.args.corners.now) (quarter_fan_of (record { cones = c.in_ok-cones.cones; last = record { x = pos 0; y = pos 1 } })) c.in_ok-cones.ensures.path refl (returns-clause-few g c)
+pub returns-clause-ranges : goal.returns-clause-ranges
+returns-clause-ranges g c = quarter_ranges (points_in c.args.corners.now) (corners_in c.args.corners.now) (quarter_fan_of (record { cones = c.in_ok-cones.cones; last = record { x = pos 0; y = pos 1 } })) c.in_ok-cones.ensures.path refl (returns-clause-few g c)
     (subst (λ n. n ≤ 10000) (sym (length-map (numbers_in c.args.corners.now) (point_at (points_in c.args.corners.now)))) c.args.corners.now.few) c.args.corners.now.cloud.cloud.limited

@@ -11,7 +11,7 @@ use Rattle.kernel_laws.proofs.WeightLimits.{limit_at_least}
 use Rattle.kernel_laws.proofs.ItemLists.{one_item, two_items, three_items, four_items, five_items, any_within, at_0, at_1, at_2, at_3, one_weight, answer_shown, null_shown, five_count, five_within}
 use Rattle.kernel_laws.proofs.solver.solve.Goals as goal
 
--- what stands at places that are not there
+-- what stands at indices that are not there
 abbrev zero : Vector
 zero = record { x = pos 0; y = pos 0; z = pos 0 }
 

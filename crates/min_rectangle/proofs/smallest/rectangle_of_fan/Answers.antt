@@ -10,7 +10,7 @@ use Rattle.min_rectangle.proofs.Areas.{IsNotLargerAt, not_larger_there, not_larg
 use Rattle.min_rectangle.proofs.smallest.rectangle_of_fan.Goals as goal
 
 pub area_at-best-requires : goal.area_at-best-requires
-area_at-best-requires c = record { fan = c.requires; listed = omega (arith, c.requires.places.count.at_least, cones_length c.args.fan) }
+area_at-best-requires c = record { fan = c.requires; listed = omega (arith, c.requires.ranges.count.at_least, cones_length c.args.fan) }
 
 pub area_at-requires : goal.area_at-requires
 area_at-requires c = record { fan = c.requires; listed = omega arith }

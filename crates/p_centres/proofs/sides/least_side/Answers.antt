@@ -1,10 +1,10 @@
 use Rattle.std.proofs.Common.{length, refl}
 use Rattle.bounded_coords.specs.Clouds.{counted_points}
-use Rattle.p_centres.proofs.Halving.{not_all_held, tries_at_first, one_try_less, steps_in_all}
+use Rattle.p_centres.proofs.Halving.{not_all_covered, tries_at_first, one_try_less, steps_in_all}
 use Rattle.p_centres.proofs.sides.least_side.Goals as goal
 
 pub unreachable-requires : goal.unreachable-requires
-unreachable-requires g c = not_all_held (counted_points c.args.cloud) c.args.cloud.cloud.not_empty c.in_default.ensures.found
+unreachable-requires g c = not_all_covered (counted_points c.args.cloud) c.args.cloud.cloud.not_empty c.in_default.ensures.found
 
 pub halving-init : goal.halving-init
 halving-init g c = record {

@@ -2,7 +2,7 @@ use Rattle.std.proofs.Common.{rules, ◌≡◌, ◌∙◌, SFits, w32}
 use Rattle.std.specs.Int.{w128}
 use Rattle.std.proofs.lemmas.Int.{to_z-of_z}
 use Rattle.p_centres.specs.Squares.{half_of, centre_of}
-use Rattle.p_centres.proofs.Places.{centre_given, place_x, ratio_at}
+use Rattle.p_centres.proofs.Ranges.{centre_given, place_x, ratio_at}
 use Rattle.p_centres.proofs.square_answer.centre.Goals as goal
 
 pub returns : goal.returns

@@ -4,37 +4,37 @@ use Rattle.corner_squares.specs.Extents.{IsBox}
 use Rattle.p_centres.specs.Surveys.{IsFound}
 use Rattle.p_centres.proofs.Finding.{box_next, found_same, far_pair, found_all, found_none}
 use Rattle.p_centres.proofs.surveys.survey.Goals as goal
-use Rattle.p_centres.proofs.surveys.survey.Goals.{then-not-is_held+in_default, else-not-is_held}
+use Rattle.p_centres.proofs.surveys.survey.Goals.{then-not-any_contains+in_default, else-not-any_contains}
 
 pub far_apart-requires-clause-across : goal.far_apart-requires-clause-across
 far_apart-requires-clause-across g c =
     (box_next (counted_points c.args.cloud) c.args.squares.now c.args.limit c.loop-i.i c.point-p.result.now c.loop-i.found c.grown-bounds.result c.point-p.ensures.point
-    (λ held. let yes = c.is_held.ensures.1 held in absurd (cc yes)) c.grown-bounds.ensures.plane c.loop-i.invariant.found c.grown-bounds.ensures.adds).across.plane
+    (λ covered. let yes = c.any_contains.ensures.1 covered in absurd (cc yes)) c.grown-bounds.ensures.plane c.loop-i.invariant.found c.grown-bounds.ensures.adds).across.plane
 
 pub far_apart-requires-clause-up : goal.far_apart-requires-clause-up
 far_apart-requires-clause-up g c =
     (box_next (counted_points c.args.cloud) c.args.squares.now c.args.limit c.loop-i.i c.point-p.result.now c.loop-i.found c.grown-bounds.result c.point-p.ensures.point
-    (λ held. let yes = c.is_held.ensures.1 held in absurd (cc yes)) c.grown-bounds.ensures.plane c.loop-i.invariant.found c.grown-bounds.ensures.adds).up.plane
+    (λ covered. let yes = c.any_contains.ensures.1 covered in absurd (cc yes)) c.grown-bounds.ensures.plane c.loop-i.invariant.found c.grown-bounds.ensures.adds).up.plane
 
 pub returns-in-Some-clause-found : goal.returns-in-Some-clause-found
 returns-in-Some-clause-found g c =
     far_pair (counted_points c.args.cloud) c.args.squares.now c.loop-i.i c.args.limit c.point-p.result.now c.loop-i.found c.grown-bounds.result c.in-Some.leaf c.loop-i.invariant.found c.grown-bounds.ensures.adds
     (box_next (counted_points c.args.cloud) c.args.squares.now c.args.limit c.loop-i.i c.point-p.result.now c.loop-i.found c.grown-bounds.result c.point-p.ensures.point
-    (λ held. let yes = c.is_held.ensures.1 held in absurd (cc yes)) c.grown-bounds.ensures.plane c.loop-i.invariant.found c.grown-bounds.ensures.adds) c.in-Some.ensures
+    (λ covered. let yes = c.any_contains.ensures.1 covered in absurd (cc yes)) c.grown-bounds.ensures.plane c.loop-i.invariant.found c.grown-bounds.ensures.adds) c.in-Some.ensures
 
 pub loop-i-preserved : goal.loop-i-preserved
-loop-i-preserved g c = elim c.if-not-is_held.branch [
-  | then-not-is_held+in_default w ↦
+loop-i-preserved g c = elim c.if-not-any_contains.branch [
+  | then-not-any_contains+in_default w ↦
       let box : IsBox (counted_points c.args.cloud) c.args.squares.now (c.loop-i.i + 1) w.grown-bounds.result =
       box_next (counted_points c.args.cloud) c.args.squares.now c.args.limit c.loop-i.i c.point-p.result.now c.loop-i.found w.grown-bounds.result c.point-p.ensures.point
-      (λ held. let yes = c.is_held.ensures.1 held in let no = w.if-not-is_held.true in absurd (cc (yes, no))) w.grown-bounds.ensures.plane c.loop-i.invariant.found w.grown-bounds.ensures.adds in
+      (λ covered. let yes = c.any_contains.ensures.1 covered in let no = w.if-not-any_contains.true in absurd (cc (yes, no))) w.grown-bounds.ensures.plane c.loop-i.invariant.found w.grown-bounds.ensures.adds in
       record {
         found = subst (IsFound (counted_points c.args.cloud) c.args.squares.now c.args.limit (c.loop-i.i + 1)) (sym w.found-is) (box, w.in_default.ensures);
         steps = search rules;
       }
-  | else-not-is_held w ↦ record {
+  | else-not-any_contains w ↦ record {
     found = subst (IsFound (counted_points c.args.cloud) c.args.squares.now c.args.limit (c.loop-i.i + 1)) (sym w.found-is)
-        (found_same (counted_points c.args.cloud) c.args.squares.now c.args.limit c.loop-i.i c.point-p.result.now c.loop-i.found c.point-p.ensures.point (c.is_held.ensures.0 w.if-not-is_held.false) c.loop-i.invariant.found);
+        (found_same (counted_points c.args.cloud) c.args.squares.now c.args.limit c.loop-i.i c.point-p.result.now c.loop-i.found c.point-p.ensures.point (c.any_contains.ensures.0 w.if-not-any_contains.false) c.loop-i.invariant.found);
     steps = search rules;
   }
 ]

@@ -13,8 +13,8 @@ beyond-beta-requires-clause-order c = not_ahead (points_of c.args.cloud) (vector
 pub beyond-gamma-requires-clause-order : goal.beyond-gamma-requires-clause-order
 beyond-gamma-requires-clause-order c = not_behind (points_of c.args.cloud) (vector_of c.args.d) c.args.a c.args.b c.at-p.result.now c.at-q.result.now c.at-p.ensures c.at-q.ensures c.requires.ahead
 
-pub multiple-requires-clause-upright : goal.multiple-requires-clause-upright
-multiple-requires-clause-upright c = level (vector_of c.args.d) c.at-p.result.now c.at-q.result.now c.beyond-gamma.result c.beyond-gamma.ensures.value (omega arith)
+pub multiple-requires-clause-right_angle : goal.multiple-requires-clause-right_angle
+multiple-requires-clause-right_angle c = level (vector_of c.args.d) c.at-p.result.now c.at-q.result.now c.beyond-gamma.result c.beyond-gamma.ensures.value (omega arith)
 
 pub returns-then-beta-gamma-eq0-clause-chord : goal.returns-then-beta-gamma-eq0-clause-chord
 returns-then-beta-gamma-eq0-clause-chord c =

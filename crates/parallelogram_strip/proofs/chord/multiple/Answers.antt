@@ -27,7 +27,7 @@ quotient-requires-clause-divisor c =
     simp to_z-of_z (record {
       positive = omega (arith, ints);
       limited = omega arith;
-      divides = subst (λ n. n ∣ nat_abs c.cross.result) (sym (ap nat_abs c.squared_length.ensures.value)) (subst (λ z. nat_abs (squared_length d) ∣ nat_abs z) (sym c.cross.ensures.value) (length_divides d (vector c.args.a.now c.args.b.now) c.requires.lowest c.requires.upright));
+      divides = subst (λ n. n ∣ nat_abs c.cross.result) (sym (ap nat_abs c.squared_length.ensures.value)) (subst (λ z. nat_abs (squared_length d) ∣ nat_abs z) (sym c.cross.ensures.value) (length_divides d (vector c.args.a.now c.args.b.now) c.requires.lowest c.requires.right_angle));
     })
 
 pub returns : goal.returns
@@ -41,7 +41,7 @@ returns c =
     let size : Size 320000000000 c.quotient.result = quotient_size some whole c.cross.ensures.size in
     let fits_128 : FitsSigned w128 c.quotient.result = size_fits_in w128 size tt in
     simp to_z-of_z (record {
-      value = multiple_is d (vector c.args.a.now c.args.b.now) c.quotient.result (lowest_long d c.requires.lowest) c.requires.upright
+      value = multiple_is d (vector c.args.a.now c.args.b.now) c.quotient.result (lowest_long d c.requires.lowest) c.requires.right_angle
           (subst (λ z. z *ℤ c.quotient.result ≡ cross d (vector c.args.a.now c.args.b.now)) c.squared_length.ensures.value (whole ∙ c.cross.ensures.value));
       size = size;
     })

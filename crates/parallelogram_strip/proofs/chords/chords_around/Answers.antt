@@ -16,7 +16,7 @@ use Rattle.parallelogram_strip.proofs.chords.chords_around.Goals as goal
 
 pub crossing_at-first-requires : goal.crossing_at-first-requires
 crossing_at-first-requires c =
-    let some : 0 < length c.args.fan.now.cones = omega (arith, c.requires.places.count.at_least, cones_length c.args.fan.now) in
+    let some : 0 < length c.args.fan.now.cones = omega (arith, c.requires.ranges.count.at_least, cones_length c.args.fan.now) in
     record {
       fan = c.requires;
       listed = some;
@@ -98,7 +98,7 @@ returns c =
     let fan = half_fan_of c.args.fan.now in
     let invariant = c.loop-j.invariant in
     let m = length fan.cones in
-    let some : 0 < m = omega (arith, c.requires.places.count.at_least) in
+    let some : 0 < m = omega (arith, c.requires.ranges.count.at_least) in
     let j_is : c.loop-j.j ≡ m = omega (arith, c.loop-j.auto.j-end, c.loop-j-test.false, c.len-j-end.ensures.count, cones_length c.args.fan.now) in
     let at_last = served_last points fan m c.loop-j.best (chord_of c.crossing_at-first.result.chord) (full_turn_of points fan c.requires) invariant.first in
     record {

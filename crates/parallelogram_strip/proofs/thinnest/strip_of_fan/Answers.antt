@@ -12,7 +12,7 @@ use Rattle.parallelogram_strip.proofs.Widths.{IsNotThinnerAt, not_thinner_there,
 use Rattle.parallelogram_strip.proofs.thinnest.strip_of_fan.Goals as goal
 
 pub width_at-best-requires : goal.width_at-best-requires
-width_at-best-requires c = record { fan = c.requires; listed = omega (arith, c.requires.places.count.at_least, cones_length c.args.fan) }
+width_at-best-requires c = record { fan = c.requires; listed = omega (arith, c.requires.ranges.count.at_least, cones_length c.args.fan) }
 
 pub width_at-requires : goal.width_at-requires
 width_at-requires c = record { fan = c.requires; listed = omega arith }

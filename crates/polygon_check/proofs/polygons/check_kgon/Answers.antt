@@ -41,7 +41,7 @@ returns-clause-passes c =
     let area = area_is points a (wrap_is_in w64 c.chosen_area-area.ensures.small tt ∙ c.chosen_area-area.ensures.area) c.as_slice-numbers.ensures.items c.as_slice.ensures.value in (
       λ yes. passes_if c.args.k points a c.requires.twelve c.args.cloud.limited (record {
         limits = c.has_limits.ensures.0 c.if-not-has_limits.false;
-        place = c.is_size.ensures.lowest;
+        range = c.is_size.ensures.lowest;
         size = subst (λ z. (a.size.n *ℤ pos 2) ≡ (z *ℤ a.size.d)) area size;
         naturals = naturals_of us (small_under us (below_size (subst (Size (2 ^ 43)) (sym (wrap_is_in w64 c.chosen_area-area.ensures.small tt)) c.chosen_area-area.ensures.small)) under);
         under = under_size us a.size c.is_size.ensures.lowest.lowest.not_negative.denominator size under;

@@ -11,9 +11,9 @@ middles-preserved c =
     let corners = map (point_at (points_of c.args.cloud)) c.args.numbers.now in
     let areas = c.middles.areas.items in
     record {
-      place = omega (arith, c.middles.invariant.place, c.push.ensures.len);
+      index = omega (arith, c.middles.invariant.index, c.push.ensures.len);
       adds = subst (λ n. Adds (2 ^ 39) (λ j. turn (point_at corners c.args.first) (point_at corners (c.args.first + 1 + j)) (point_at corners c.args.last)) n [] c.push.new.self.items) (sym c.push.ensures.len)
           (adds-more (2 ^ 39) (λ j. turn (point_at corners c.args.first) (point_at corners (c.args.first + 1 + j)) (point_at corners c.args.last)) (length areas) [] areas c.push.new.self.items c.twice_area.result c.middles.invariant.adds
           (c.push.ensures.items ∙ ap (λ u. areas ++ u ∷ []) (kept64 {z = c.twice_area.result} c.twice_area.type_inv))
-          (turn_of c.twice_area.ensures.area c.corner-from.ensures (c.corner.ensures ∙ ap (point_at corners) (sym c.middles.invariant.place)) c.corner-to.ensures) c.twice_area.ensures.small);
+          (turn_of c.twice_area.ensures.area c.corner-from.ensures (c.corner.ensures ∙ ap (point_at corners) (sym c.middles.invariant.index)) c.corner-to.ensures) c.twice_area.ensures.small);
     }

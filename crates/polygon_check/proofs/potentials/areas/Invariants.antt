@@ -8,6 +8,6 @@ abbrev pub invariant-middles : goal.invariant-middles
 invariant-middles l =
     let corners = map (point_at (points_of l.cloud)) l.numbers in
     record {
-      place : l.first + 1 + length l.areas.items ≡ l.middle;
+      index : l.first + 1 + length l.areas.items ≡ l.middle;
       adds : Adds (2 ^ 39) (λ j. turn (point_at corners l.first) (point_at corners (l.first + 1 + j)) (point_at corners l.last)) (length l.areas.items) [] l.areas.items;
     }

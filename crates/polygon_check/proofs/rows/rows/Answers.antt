@@ -2,7 +2,7 @@ use Rattle.std.proofs.Common.{refl, sym, subst, ap, ◌∙◌, ◌+◌, ◌-◌,
 use Rattle.std.proofs.lemmas.List.{length-map}
 use Rattle.bounds_model.specs.KgonAnswer.{pairs_before}
 use Rattle.answers.specs.Answers.{polygon_of}
-use Rattle.polygon_check.proofs.PotentialPlaces.{rows-within}
+use Rattle.polygon_check.proofs.ReadPotentials.{rows-within}
 use Rattle.polygon_check.proofs.RowLists.{rows-are}
 use Rattle.polygon_check.proofs.rows.rows.Goals as goal
 

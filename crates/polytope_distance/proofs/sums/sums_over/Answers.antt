@@ -12,21 +12,21 @@ use Rattle.polytope_distance.proofs.sums.sums_over.Goals as goal
 
 pub with-sums-requires-clause-limit : goal.with-sums-requires-clause-limit
 with-sums-requires-clause-limit c =
-    let held = supports_of c.args.support.now in
+    let members = supports_of c.args.support.now in
     let items = items_of c.args.support.now in
     let count = c.len-i-end.ensures.count in
-    more_within (first_points items) (second_points items) held c.add.i c.weight.result (2 ^ 66) past_the_end c.add.sums (omega arith) (weight_at held c.add.i c.weight.result past_the_end c.weight.ensures) c.add.invariant.1 c.requires.limit
+    more_within (first_points items) (second_points items) members c.add.i c.weight.result (2 ^ 66) past_the_end c.add.sums (omega arith) (weight_at members c.add.i c.weight.result past_the_end c.weight.ensures) c.add.invariant.1 c.requires.limit
 
 pub add-preserved : goal.add-preserved
 add-preserved c =
-    let held = supports_of c.args.support.now in
+    let members = supports_of c.args.support.now in
     let items = items_of c.args.support.now in
     let count = c.len-i-end.ensures.count in
-    let as_many = length-map held weighted_pair in (
+    let as_many = length-map members weighted_pair in (
       c.with-sums.ensures.range,
       sums_of_next (first_points items) (second_points items) (weighted_pairs c.args.support.now) c.add.i c.weight.result c.first.result.now c.second.result.now past_the_end c.add.sums c.with-sums.result (omega arith)
-          (weight_at held c.add.i c.weight.result past_the_end c.weight.ensures) (first_at (first_points items) held c.add.i c.first.result.now past_the_end c.first.ensures)
-          (second_at (second_points items) held c.add.i c.second.result.now past_the_end c.second.ensures) c.add.invariant.1 c.with-sums.ensures.adds,
+          (weight_at members c.add.i c.weight.result past_the_end c.weight.ensures) (first_at (first_points items) members c.add.i c.first.result.now past_the_end c.first.ensures)
+          (second_at (second_points items) members c.add.i c.second.result.now past_the_end c.second.ensures) c.add.invariant.1 c.with-sums.ensures.adds,
     )
 
 pub returns-clause-some : goal.returns-clause-some

@@ -2,7 +2,7 @@ use Rattle.std.proofs.Common.{◌≡◌, ◌∙◌, sym, ap, subst, pos, ◌≤�
 use Rattle.std.specs.Int.{w128}
 use Rattle.std.proofs.lemmas.Int.{to_z-of_z, ints}
 use Rattle.bounds_model.specs.Fractions.{Fraction}
-use Rattle.bounds_model.specs.Places.{IsFraction}
+use Rattle.bounds_model.specs.Ranges.{IsFraction}
 use Rattle.witness_format.proofs.FieldJudgements.{fraction-kept, fraction-out, pos_abs}
 use Rattle.witness_format.proofs.fields.judged_fraction.Goals as goal
 use Rattle.witness_format.proofs.fields.judged_fraction.Goals.{then-num-n-via-then-num-n, then-num-n-via-else-num-n+then-den-d}

@@ -4,7 +4,7 @@ use Rattle.bounds_model.specs.AnswerText.Formats.{◌>>=◌, counted, count, row
 use Rattle.bounds_model.specs.AnswerText.Kinds.{kgon_kind, potential_widths}
 use Rattle.witness_format.specs.Lines.{lines_left}
 use Rattle.witness_format.proofs.KindTexts.{part_read, body_read}
-use Rattle.witness_format.proofs.Polygons.{place_values, corner_values, read_polygon_is, longest_row}
+use Rattle.witness_format.proofs.Polygons.{position_values, corner_values, read_polygon_is, longest_row}
 use Rattle.witness_format.proofs.reading.read_kgon.Goals as goal
 
 pub returns : goal.returns
@@ -22,14 +22,14 @@ returns c =
     let four = lines_left c.read_count.new.text in
     let five = lines_left c.read_rows.new.text in
     let corners-counts = counts_after corners-part (map corner_values corners) [] in
-    let chosen-counts = counts_after chosen-part (map place_values positions) corners-counts in
+    let chosen-counts = counts_after chosen-part (map position_values positions) corners-counts in
     let layers-counts = counts_after layers-part layers chosen-counts in
     let longest : c.saturating_sub-longest.result ≡ length corners - 1 = omega (arith, c.saturating_sub-longest.ensures, c.len.ensures.count) in
     let amount = ap (λ r. r >>= λ n. Ok (n.0.0, n.1)) c.in_ok-layers.ensures.count in
     let numbers = ap (λ ws. rows_at ws four) (longest_row corners c.saturating_sub-longest.result layers longest) ∙ c.in_ok-potentials.ensures in
     body_read kgon_kind c.args.size one _ five _
     (part_read corners-part (chosen-part ∷ layers-part ∷ rows potential_widths ∷ []) [] one (map corner_values corners) two _ five c.in_ok-corners.ensures.lines
-    (part_read chosen-part (layers-part ∷ rows potential_widths ∷ []) corners-counts two (map place_values positions) three _ five c.in_ok-chosen.ensures
+    (part_read chosen-part (layers-part ∷ rows potential_widths ∷ []) corners-counts two (map position_values positions) three _ five c.in_ok-chosen.ensures
     (part_read layers-part (rows potential_widths ∷ []) chosen-counts three layers four _ five amount
     (part_read (rows potential_widths) [] layers-counts four (map pos potentials) five tt five numbers refl))))
-    (read_polygon_is (record { size = c.args.size; corners = corners; chosen = c.places.result; layers = layers; potentials = potentials }) positions c.places.ensures)
+    (read_polygon_is (record { size = c.args.size; corners = corners; chosen = c.numbers_of.result; layers = layers; potentials = potentials }) positions c.numbers_of.ensures)

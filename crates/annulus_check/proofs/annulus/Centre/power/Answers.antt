@@ -3,7 +3,7 @@ use mir.Syntax.{w128}
 use Rattle.integers.specs.Size.{Size}
 use Rattle.integers.proofs.MachineArithmetic.{Given, given, with_inputs, codes, computes, fits, size_within, number}
 use Rattle.annulus_check.specs.declared.annulus.Centre.{Centre}
-use Rattle.annulus_check.specs.HeldAnnuli.{IsCentre}
+use Rattle.annulus_check.specs.DeterminedAnnuli.{IsCentre}
 use Rattle.annulus_check.proofs.AnnulusNumbers.{near, square_size}
 use Rattle.annulus_check.proofs.annulus.Centre.power.Goals as goal
 

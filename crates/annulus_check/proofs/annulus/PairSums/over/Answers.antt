@@ -3,7 +3,7 @@ use Rattle.std.proofs.lemmas.Int.{ints}
 use Rattle.std.proofs.lemmas.List.{take_all}
 use Rattle.bounded_coords.specs.Clouds.{points_of}
 use Rattle.answers.specs.Answers.{pair_of}
-use Rattle.annulus_check.specs.HeldAnnuli.{ArePairSums}
+use Rattle.annulus_check.specs.DeterminedAnnuli.{ArePairSums}
 use Rattle.annulus_check.proofs.AnnulusPairs.{sums_more, more_room}
 use Rattle.annulus_check.proofs.annulus.PairSums.over.Goals as goal
 

@@ -1,7 +1,7 @@
 use Rattle.std.specs.Prelude.{map, take}
 use Rattle.bounded_coords.specs.Clouds.{points_of}
 use Rattle.answers.specs.Answers.{pair_of}
-use Rattle.annulus_check.specs.HeldAnnuli.{ArePairSums, AreSmallSums}
+use Rattle.annulus_check.specs.DeterminedAnnuli.{ArePairSums, AreSmallSums}
 use Rattle.annulus_check.proofs.annulus.PairSums.over.Given as goal
 
 abbrev pub invariant-loop-pair : goal.invariant-loop-pair

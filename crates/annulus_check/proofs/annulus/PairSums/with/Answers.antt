@@ -3,7 +3,7 @@ use mir.Syntax.{w64, w128}
 use Rattle.integers.specs.Size.{Size}
 use Rattle.integers.proofs.Sizes.{wrap_is}
 use Rattle.integers.proofs.MachineArithmetic.{given, with_inputs, codes, computes, fits}
-use Rattle.annulus_check.specs.HeldAnnuli.{pair_limit}
+use Rattle.annulus_check.specs.DeterminedAnnuli.{pair_limit}
 use Rattle.annulus_check.proofs.AnnulusNumbers.{near, square_size, squares_apart, coordinates_apart, difference64, sum_size}
 use Rattle.annulus_check.proofs.annulus.PairSums.with.Goals as goal
 

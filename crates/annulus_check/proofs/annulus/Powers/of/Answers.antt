@@ -1,7 +1,7 @@
 use Rattle.std.proofs.Common.{subst, arith}
 use Rattle.std.proofs.lemmas.List.{take_all}
 use Rattle.bounded_coords.specs.Clouds.{points_of}
-use Rattle.annulus_check.specs.HeldAnnuli.{ratio_of, ArePowers}
+use Rattle.annulus_check.specs.DeterminedAnnuli.{ratio_of, ArePowers}
 use Rattle.annulus_check.proofs.AnnulusPowers.{one_power, more_powers}
 use Rattle.annulus_check.proofs.annulus.Powers.of.Goals as goal
 

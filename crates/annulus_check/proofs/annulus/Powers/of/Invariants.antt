@@ -1,6 +1,6 @@
 use Rattle.std.specs.Prelude.{take}
 use Rattle.bounded_coords.specs.Clouds.{points_of}
-use Rattle.annulus_check.specs.HeldAnnuli.{ratio_of, ArePowers}
+use Rattle.annulus_check.specs.DeterminedAnnuli.{ratio_of, ArePowers}
 use Rattle.annulus_check.proofs.annulus.Powers.of.Given as goal
 
 abbrev pub invariant-loop-i : goal.invariant-loop-i

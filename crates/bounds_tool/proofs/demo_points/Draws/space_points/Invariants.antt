@@ -7,6 +7,6 @@ use Rattle.bounds_tool.proofs.demo_points.Draws.space_points.Given as goal
 abbrev pub invariant-points : goal.invariant-points
 invariant-points l = record {
   made : length l.points ≡ l.counter;
-  points : l.points ++ space_points (across l.place) l.self.state (l.count - l.counter) ≡ space_points (across l.place) l.fn.self.state l.count;
+  points : l.points ++ space_points (across l.part) l.self.state (l.count - l.counter) ≡ space_points (across l.part) l.fn.self.state l.count;
   state : state_after (3 * (l.count - l.counter)) l.self.state ≡ state_after (3 * l.count) l.fn.self.state;
 }

@@ -19,7 +19,7 @@ fill-init g c =
 pub push-requires-in-fill : goal.push-requires-in-fill
 push-requires-in-fill g c =
     let many = c.fill.invariant.many in
-    let most = c.args.self.now.held.count.at_most in
+    let most = c.args.self.now.members.count.at_most in
     let same = ap length c.as_slice-support-items.ensures.value in
     let within = c.fill-test.true in
     elim g.met.K.Kernel.two_or_three [ inl e ↦ (omega arith, omega arith) | inr e ↦ (omega arith, omega arith) ]
@@ -27,19 +27,19 @@ push-requires-in-fill g c =
 pub fill-preserved : goal.fill-preserved
 fill-preserved g c =
     let within = c.fill-test.true in
-    let listed = subst (All (λ (s : WeightedItem). IsItem c.args.self.now.items s.id)) (sym c.as_slice-support-items.ensures.value) c.args.self.now.held.listed in
+    let listed = subst (All (λ (s : WeightedItem). IsItem c.args.self.now.items s.id)) (sym c.as_slice-support-items.ensures.value) c.args.self.now.members.listed in
     filled_more {K = g.row.K.Denot} g.K.Kernel.DIM g.K.Kernel.place c.args.self.now.items c.args.id c.fill.all.items c.push-in-fill.new.self.items c.candidate-in-fill.result c.as_slice-support-items.result.now c.fill.support-index blank_support c.fill.invariant within
     c.push-in-fill.ensures.items c.candidate-in-fill.ensures.id c.candidate-in-fill.ensures.vector c.candidate-in-fill.ensures.difference
     (All-get_or (λ (s : WeightedItem). IsItem c.args.self.now.items s.id) c.as_slice-support-items.result.now c.fill.support-index blank_support within listed)
 
 pub returns-clause-names : goal.returns-clause-names
 returns-clause-names g c =
-    c.fill.invariant.named ∙ ap (λ held. c.args.id ∷ names held) (take_whole c.as_slice-support-items.result.now c.fill.support-index c.fill-test.false ∙ c.as_slice-support-items.ensures.value)
+    c.fill.invariant.named ∙ ap (λ members. c.args.id ∷ names members) (take_whole c.as_slice-support-items.result.now c.fill.support-index c.fill-test.false ∙ c.as_slice-support-items.ensures.value)
 
 pub returns-clause-items : goal.returns-clause-items
 returns-clause-items g c =
     let many = c.fill.invariant.many in
-    let most = c.args.self.now.held.count.at_most in
+    let most = c.args.self.now.members.count.at_most in
     let same = ap length c.as_slice-support-items.ensures.value in
     let end = c.fill.auto.support-index-end in
     candidates_are_items {K = g.row.K.Denot} g.T.Potential.SQUARE g.K.Kernel.DIM g.K.Kernel.place c.args.self.now.items c.fill.all.items c.fill.invariant.candidates (omega arith) (omega arith) c.fill.invariant.differences

@@ -5,7 +5,7 @@ use Rattle.ball_sums.proofs.Means.{mean_size_is}
 use Rattle.bounds_model.specs.Fractions.{SameValue}
 use Rattle.corral.specs.Supported.{supports_of, items_of}
 use Rattle.min_ball.specs.Balls.{coordinates, listed}
-use Rattle.min_ball.proofs.HeldBalls.{mass_is, cloud_items, some_weight, held_by_supports}
+use Rattle.min_ball.proofs.DeterminedBalls.{mass_is, cloud_items, some_weight, determined_by_supports}
 use Rattle.min_ball.proofs.ball.Ball.around.Goals as goal
 
 pub sums_over-sums-requires : goal.sums_over-sums-requires
@@ -27,9 +27,9 @@ size-size-requires-clause-second_moment g c = le_trans c.sums_over-sums.ensures.
 pub invariant_of-result : goal.invariant_of-result
 invariant_of-result g c =
     let support = c.settle-support.result in
-    let held = supports_of support in
+    let members = supports_of support in
     record {
-      held = held_by_supports g.row.K.Denot g.K.Kernel.DIM g.K.Kernel.place c.args.cloud (items_of support) held c.size-size.result
-          c.settle-support.ensures.items c.settle-support.ensures.held c.settle-support.ensures.supports c.settle-support.ensures.limit c.settle-support.ensures.none_low c.size-size.ensures.lowest
+      determined = determined_by_supports g.row.K.Denot g.K.Kernel.DIM g.K.Kernel.place c.args.cloud (items_of support) members c.size-size.result
+          c.settle-support.ensures.items c.settle-support.ensures.members c.settle-support.ensures.supports c.settle-support.ensures.limit c.settle-support.ensures.none_low c.size-size.ensures.lowest
           (subst (SameValue c.size-size.result) (mean_size_is (coordinates g.K.Kernel.place support) (listed support) c.sums_over-sums.result c.sums_over-sums.ensures.sums) c.size-size.ensures.value);
     }

@@ -13,8 +13,8 @@ use Rattle.min_ball.proofs.ball_answers.Ball+Plane.answer.Goals as goal
 
 pub plane_centre-requires-clause-some : goal.plane_centre-requires-clause-some
 plane_centre-requires-clause-some c =
-    let held = c.args.self.now.held in
-    some_weight (listed (support_of c.args.self.now)) c.sums_over-sums.result.weight held.count.at_least held.weights c.sums_over-sums.ensures.sums.weight
+    let determined = c.args.self.now.determined in
+    some_weight (listed (support_of c.args.self.now)) c.sums_over-sums.result.weight determined.count.at_least determined.weights c.sums_over-sums.ensures.sums.weight
 
 pub returns-clause-passes : goal.returns-clause-passes
 returns-clause-passes c =
@@ -22,5 +22,5 @@ returns-clause-passes c =
     let support = support_of c.args.self.now in
     let centre = c.plane_centre.result in
     let first = point_of_first flat (first_points (items_of support)) (supports_of support) c.first-first.result.now c.first-first.ensures in
-    circle_passes points c.args.self.now.size centre (listed support) (map weighted_of c.weighted.result.items) c.weighted.ensures (few_points (items_of support)) c.args.self.now.held c.plane_centre.ensures.lowest
+    circle_passes points c.args.self.now.size centre (listed support) (map weighted_of c.weighted.result.items) c.weighted.ensures (few_points (items_of support)) c.args.self.now.determined c.plane_centre.ensures.lowest
     (subst (SamePlace (flat_ratio centre)) (plane_mean_is points (listed support) c.sums_over-sums.result c.first-first.result.now c.sums_over-sums.ensures.sums first) c.plane_centre.ensures.place)

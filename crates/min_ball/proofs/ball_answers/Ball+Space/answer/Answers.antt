@@ -15,8 +15,8 @@ use Rattle.min_ball.proofs.ball_answers.Ball+Space.answer.Goals as goal
 
 pub space_centre-requires-clause-some : goal.space_centre-requires-clause-some
 space_centre-requires-clause-some c =
-    let held = c.args.self.now.held in
-    some_weight (listed (support_of c.args.self.now)) c.sums_over-sums.result.weight held.count.at_least held.weights c.sums_over-sums.ensures.sums.weight
+    let determined = c.args.self.now.determined in
+    some_weight (listed (support_of c.args.self.now)) c.sums_over-sums.result.weight determined.count.at_least determined.weights c.sums_over-sums.ensures.sums.weight
 
 pub returns-clause-passes : goal.returns-clause-passes
 returns-clause-passes c =
@@ -28,5 +28,5 @@ returns-clause-passes c =
     let as_many = length-map points (λ (p : SpacePoint). p) in
     let first = point_of_first (λ (p : SpacePoint). p) (first_points (items_of support)) (supports_of support) c.first-first.result.now c.first-first.ensures in
     subst (λ ps. PassesSphere ps (record { size = c.args.self.now.size; centre = centre; supports = map weighted_of c.weighted.result.items })) same
-    (sphere_passes (map (λ (p : SpacePoint). p) points) c.args.self.now.size centre (listed support) (map weighted_of c.weighted.result.items) c.weighted.ensures (omega arith) c.args.self.now.held c.space_centre.ensures.lowest
+    (sphere_passes (map (λ (p : SpacePoint). p) points) c.args.self.now.size centre (listed support) (map weighted_of c.weighted.result.items) c.weighted.ensures (omega arith) c.args.self.now.determined c.space_centre.ensures.lowest
     (subst (SamePlace centre) (space_mean_is (map (λ (p : SpacePoint). p) points) (listed support) c.sums_over-sums.result c.first-first.result.now c.sums_over-sums.ensures.sums first) c.space_centre.ensures.place))
