@@ -10,7 +10,7 @@ ghost use Rattle.point_text.specs.Refusals.{Answers};
 ghost use Rattle.point_text.specs.Judged.{lines_judged};
 ghost use Rattle.point_text.specs.Keeping.{KeepsPoint};
 
-use crate::cuts::{last_index_of, index_of};
+use crate::cuts::{index_of, last_index_of};
 use crate::judgement::Judgement;
 use crate::line_in_hand::LineInHand;
 use crate::{OwnedSets, TextFault};
