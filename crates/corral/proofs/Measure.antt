@@ -6,7 +6,7 @@ use Rattle.integers.proofs.Identities.{den-ring, read, polys, lits}
 use Rattle.integers.proofs.Order.{nonneg_add, nonneg_mul, nonneg_from_positive, positive_difference, nonneg_difference, positive_mul, square_nonneg, mul_le_both, le_by, lt_by}
 use Rattle.integers.proofs.Sums.{total_weighted_le}
 use Rattle.std.proofs.lemmas.List.Elements.{All-weaker}
-use Rattle.integers.proofs.Gaps.{floor_rises}
+use Rattle.integers.proofs.LeastDifferences.{floor_rises}
 use Rattle.integers.specs.Size.{Size}
 use Rattle.integers.proofs.Sizes.{size_mul}
 use Rattle.bounds_model.specs.Space.{SpacePoint, squared_length}
@@ -24,21 +24,21 @@ squared_length_nonneg : (v : SpacePoint) → pos 0 ≤ℤ squared_length v
 squared_length_nonneg v = nonneg_add (nonneg_add (square_nonneg v.x) (square_nonneg v.y)) (square_nonneg v.z)
 
 -- by the sum of the weights M, the second moment Q and the squared length W of the moment
-gap_of_ball : (M Q W L : ℤ) → pos 0 ≤ℤ M → pos 0 ≤ℤ W → (pos 1 *ℤ Q) ≤ℤ (M *ℤ L) → pos 0 ≤ℤ (L *ℤ (M *ℤ M) -ℤ (pos 1 *ℤ (M *ℤ Q) -ℤ W))
-gap_of_ball M Q W L hM hW h =
+difference_of_ball : (M Q W L : ℤ) → pos 0 ≤ℤ M → pos 0 ≤ℤ W → (pos 1 *ℤ Q) ≤ℤ (M *ℤ L) → pos 0 ≤ℤ (L *ℤ (M *ℤ M) -ℤ (pos 1 *ℤ (M *ℤ Q) -ℤ W))
+difference_of_ball M Q W L hM hW h =
     le_by (nonneg_add (nonneg_mul hM (nonneg_difference h)) hW) (read (M ∷ Q ∷ W ∷ L ∷ []) (λ xs a b c d. simp (a, b, c, d, polys, lits xs) (den-ring xs _ _ tt)))
 
-gap_of_distance : (M Q W L : ℤ) → pos 0 ≤ℤ L → pos 0 ≤ℤ W → pos 0 ≤ℤ (L *ℤ (M *ℤ M) -ℤ (pos 0 *ℤ (M *ℤ Q) -ℤ W))
-gap_of_distance M Q W L hL hW =
+difference_of_distance : (M Q W L : ℤ) → pos 0 ≤ℤ L → pos 0 ≤ℤ W → pos 0 ≤ℤ (L *ℤ (M *ℤ M) -ℤ (pos 0 *ℤ (M *ℤ Q) -ℤ W))
+difference_of_distance M Q W L hL hW =
     le_by (nonneg_add (nonneg_mul hL (square_nonneg M)) hW) (read (M ∷ Q ∷ W ∷ L ∷ []) (λ xs a b c d. simp (a, b, c, d, polys, lits xs) (den-ring xs _ _ tt)))
 
-gap_nonneg : (quadratic : ℤ) → IsQuadratic quadratic → (longest limit : ℕ) (items : List WeightedVector) → AreBounded longest limit items → pos 0 ≤ℤ (pos longest *ℤ (value quadratic items).d -ℤ (value quadratic items).n)
-gap_nonneg quadratic (inl e) longest limit items h =
+difference_nonneg : (quadratic : ℤ) → IsQuadratic quadratic → (longest limit : ℕ) (items : List WeightedVector) → AreBounded longest limit items → pos 0 ≤ℤ (pos longest *ℤ (value quadratic items).d -ℤ (value quadratic items).n)
+difference_nonneg quadratic (inl e) longest limit items h =
     subst (λ g. pos 0 ≤ℤ (pos longest *ℤ (value g items).d -ℤ (value g items).n)) (sym e)
-    (gap_of_distance (mass items) (second_moment items) (squared_length (moment items)) (pos longest) (omega (arith, ints)) (squared_length_nonneg (moment items)))
-gap_nonneg quadratic (inr e) longest limit items h =
+    (difference_of_distance (mass items) (second_moment items) (squared_length (moment items)) (pos longest) (omega (arith, ints)) (squared_length_nonneg (moment items)))
+difference_nonneg quadratic (inr e) longest limit items h =
     subst (λ g. pos 0 ≤ℤ (pos longest *ℤ (value g items).d -ℤ (value g items).n)) (sym e)
-    (gap_of_ball (mass items) (second_moment items) (squared_length (moment items)) (pos longest) (nonneg_from_positive h.some) (squared_length_nonneg (moment items))
+    (difference_of_ball (mass items) (second_moment items) (squared_length (moment items)) (pos longest) (nonneg_from_positive h.some) (squared_length_nonneg (moment items))
     (total_weighted_le (λ (item : WeightedVector). item.weight) (λ item. squared_length item.vector) (pos 1) (pos longest) items (λ k d l. weaken (h.weights k d l)) (λ k d l. once (h.short k d l))))
   where
     weaken : {a : ℤ} → pos 1 ≤ℤ a → pos 0 ≤ℤ a
@@ -66,8 +66,8 @@ measure_falls quadratic flag longest limit old found bounded_old bounded_found b
     let v = value quadratic old in
     let w = value quadratic found in
     falls (pos longest *ℤ w.d -ℤ w.n) w.d (pos longest *ℤ v.d -ℤ v.n) v.d (limit * limit)
-    (gap_nonneg quadratic flag longest limit found bounded_found) (positive_mul bounded_found.some bounded_found.some)
-    (gap_nonneg quadratic flag longest limit old bounded_old) (positive_mul bounded_old.some bounded_old.some)
+    (difference_nonneg quadratic flag longest limit found bounded_found) (positive_mul bounded_found.some bounded_found.some)
+    (difference_nonneg quadratic flag longest limit old bounded_old) (positive_mul bounded_old.some bounded_old.some)
     (mul_le_both (nonneg_from_positive bounded_found.some) (nonneg_from_positive bounded_found.some) bounded_found.light bounded_found.light)
     (mul_le_both (nonneg_from_positive bounded_old.some) (nonneg_from_positive bounded_old.some) bounded_old.light bounded_old.light)
     (closer (pos longest) v.n v.d w.n w.d below)

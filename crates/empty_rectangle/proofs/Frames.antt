@@ -9,7 +9,7 @@ use Rattle.bounds_model.specs.EmptyRectangle.{Box, IsFrame, IsStrictlyInside, ar
 use Rattle.bounds_model.specs.EmptyAnswer.{EachY, EachX, IsEmpty, IsNotLarger, NoneLargerInBand, NoneLarger}
 use Rattle.empty_rectangle.specs.declared.obstacles.Obstacle.{Obstacle}
 use Rattle.empty_rectangle.specs.declared.obstacles.Extent.{Extent}
-use Rattle.empty_rectangle.specs.declared.rectangles.Edge.{Edge}
+use Rattle.empty_rectangle.specs.declared.rectangles.RestingSide.{RestingSide}
 use Rattle.empty_rectangle.specs.declared.rectangles.Rectangle.{Rectangle}
 use Rattle.empty_rectangle.specs.Rectangles.{IsBetween, IsFree, side, RestsVertical, RestsLevel, IsRestricted}
 use Rattle.empty_rectangle.specs.Seeds.{IsGap, NoneExceeds}
@@ -149,20 +149,20 @@ NoneLarger-gaps frame points extent obstacles most is of are none =
 -- ---- a restricted rectangle is not larger than what none exceeds
 
 -- the height of a level side
-height_of : (frame : Box) (points : List PlanePoint) (obstacles : List Obstacle) (low high e : ℕ) (edge : Edge) (P : ℤ → Type 0) → All (IsObstacleOf frame points) obstacles → (edge ≡ side e) ⊎ RestsLevel obstacles low high edge → P (frame.bottom +ℤ pos e)
-    → All (λ p. IsStrictlyInside frame p → P p.y) points → P (frame.bottom +ℤ pos edge.at)
-height_of frame points obstacles low high e edge P each (inl is) at_side inside = subst (λ (w : Edge). P (frame.bottom +ℤ pos w.at)) (sym is) at_side
-height_of frame points obstacles low high e edge P each (inr r) at_side inside =
+height_of : (frame : Box) (points : List PlanePoint) (obstacles : List Obstacle) (low high e : ℕ) (resting_side : RestingSide) (P : ℤ → Type 0) → All (IsObstacleOf frame points) obstacles → (resting_side ≡ side e) ⊎ RestsLevel obstacles low high resting_side → P (frame.bottom +ℤ pos e)
+    → All (λ p. IsStrictlyInside frame p → P p.y) points → P (frame.bottom +ℤ pos resting_side.at)
+height_of frame points obstacles low high e resting_side P each (inl is) at_side inside = subst (λ (w : RestingSide). P (frame.bottom +ℤ pos w.at)) (sym is) at_side
+height_of frame points obstacles low high e resting_side P each (inr r) at_side inside =
     let is = All-contains (IsObstacleOf frame points) obstacles r.obstacle each r.listed in
-    subst (λ (w : Edge). P (frame.bottom +ℤ pos w.at)) (sym r.is) (subst P is.at.y (inside r.obstacle.number origin is.below is.inside))
+    subst (λ (w : RestingSide). P (frame.bottom +ℤ pos w.at)) (sym r.is) (subst P is.at.y (inside r.obstacle.number origin is.below is.inside))
 
 -- the may_be_left of a vertical side of a band
-x_of : (frame : Box) (points : List PlanePoint) (obstacles : List Obstacle) (low high e : ℕ) (edge : Edge) (P : ℤ → Type 0) → All (IsObstacleOf frame points) obstacles → (edge ≡ side e) ⊎ RestsVertical obstacles low high edge → P (frame.left +ℤ pos e)
-    → All (λ p. IsStrictlyInside (record frame { bottom = frame.bottom +ℤ pos low; top = frame.bottom +ℤ pos high }) p → P p.x) points → P (frame.left +ℤ pos edge.at)
-x_of frame points obstacles low high e edge P each (inl is) at_side inside = subst (λ (w : Edge). P (frame.left +ℤ pos w.at)) (sym is) at_side
-x_of frame points obstacles low high e edge P each (inr r) at_side inside =
+x_of : (frame : Box) (points : List PlanePoint) (obstacles : List Obstacle) (low high e : ℕ) (resting_side : RestingSide) (P : ℤ → Type 0) → All (IsObstacleOf frame points) obstacles → (resting_side ≡ side e) ⊎ RestsVertical obstacles low high resting_side → P (frame.left +ℤ pos e)
+    → All (λ p. IsStrictlyInside (record frame { bottom = frame.bottom +ℤ pos low; top = frame.bottom +ℤ pos high }) p → P p.x) points → P (frame.left +ℤ pos resting_side.at)
+x_of frame points obstacles low high e resting_side P each (inl is) at_side inside = subst (λ (w : RestingSide). P (frame.left +ℤ pos w.at)) (sym is) at_side
+x_of frame points obstacles low high e resting_side P each (inr r) at_side inside =
     let is = All-contains (IsObstacleOf frame points) obstacles r.obstacle each r.listed in
-    subst (λ (w : Edge). P (frame.left +ℤ pos w.at)) (sym r.is) (subst P is.at.x (inside r.obstacle.number origin is.below (record {
+    subst (λ (w : RestingSide). P (frame.left +ℤ pos w.at)) (sym r.is) (subst P is.at.x (inside r.obstacle.number origin is.below (record {
       after_left = is.inside.after_left;
       before_right = is.inside.before_right;
       above_bottom = omega (arith, ints, is.at.y, r.after);

@@ -14,7 +14,7 @@ use Rattle.bounded_coords.specs.declared.cloud.Cloud.{Cloud}
 use Rattle.bounds_model.specs.EmptyAnswer.{EmptyRanges, IsBlockerBelow, NamesBlockers, BlocksVertical, BlocksLevel, AreBlocked, NoneLarger, PassesEmpty}
 use Rattle.empty_rectangle.specs.declared.obstacles.Obstacle.{Obstacle}
 use Rattle.empty_rectangle.specs.declared.obstacles.Extent.{Extent}
-use Rattle.empty_rectangle.specs.declared.rectangles.Edge.{Edge}
+use Rattle.empty_rectangle.specs.declared.rectangles.RestingSide.{RestingSide}
 use Rattle.empty_rectangle.specs.declared.rectangles.Rectangle.{Rectangle}
 use Rattle.empty_rectangle.specs.Rectangles.{IsExtent, side, RestsVertical, RestsLevel, IsRestricted}
 use Rattle.empty_rectangle.specs.Seeds.{NoneExceeds}
@@ -52,30 +52,30 @@ side_within start at is most = within_more {m = 600000} (record { low = omega (a
 -- ---- blockers
 
 -- the number of an obstacle on which a vertical side rests is below a bound
-vertical_number : (frame : Box) (points : List PlanePoint) (obstacles : List Obstacle) (low high e bound : ℕ) (edge : Edge) → All (IsObstacleOf frame points) obstacles → length points ≤ bound → (edge ≡ side e) ⊎ RestsVertical obstacles low high edge → IsBlockerBelow bound (blocker_of edge.by)
-vertical_number frame points obstacles low high e bound edge each few (inl is) = subst (λ (w : Edge). IsBlockerBelow bound (blocker_of w.by)) (sym is) tt
-vertical_number frame points obstacles low high e bound edge each few (inr r) = subst (λ (w : Edge). IsBlockerBelow bound (blocker_of w.by)) (sym r.is) (omega (arith, few, (All-contains (IsObstacleOf frame points) obstacles r.obstacle each r.listed).below))
+vertical_number : (frame : Box) (points : List PlanePoint) (obstacles : List Obstacle) (low high e bound : ℕ) (resting_side : RestingSide) → All (IsObstacleOf frame points) obstacles → length points ≤ bound → (resting_side ≡ side e) ⊎ RestsVertical obstacles low high resting_side → IsBlockerBelow bound (blocker_of resting_side.by)
+vertical_number frame points obstacles low high e bound resting_side each few (inl is) = subst (λ (w : RestingSide). IsBlockerBelow bound (blocker_of w.by)) (sym is) tt
+vertical_number frame points obstacles low high e bound resting_side each few (inr r) = subst (λ (w : RestingSide). IsBlockerBelow bound (blocker_of w.by)) (sym r.is) (omega (arith, few, (All-contains (IsObstacleOf frame points) obstacles r.obstacle each r.listed).below))
 
 -- likewise of a level side
-level_number : (frame : Box) (points : List PlanePoint) (obstacles : List Obstacle) (low high e bound : ℕ) (edge : Edge) → All (IsObstacleOf frame points) obstacles → length points ≤ bound → (edge ≡ side e) ⊎ RestsLevel obstacles low high edge → IsBlockerBelow bound (blocker_of edge.by)
-level_number frame points obstacles low high e bound edge each few (inl is) = subst (λ (w : Edge). IsBlockerBelow bound (blocker_of w.by)) (sym is) tt
-level_number frame points obstacles low high e bound edge each few (inr r) = subst (λ (w : Edge). IsBlockerBelow bound (blocker_of w.by)) (sym r.is) (omega (arith, few, (All-contains (IsObstacleOf frame points) obstacles r.obstacle each r.listed).below))
+level_number : (frame : Box) (points : List PlanePoint) (obstacles : List Obstacle) (low high e bound : ℕ) (resting_side : RestingSide) → All (IsObstacleOf frame points) obstacles → length points ≤ bound → (resting_side ≡ side e) ⊎ RestsLevel obstacles low high resting_side → IsBlockerBelow bound (blocker_of resting_side.by)
+level_number frame points obstacles low high e bound resting_side each few (inl is) = subst (λ (w : RestingSide). IsBlockerBelow bound (blocker_of w.by)) (sym is) tt
+level_number frame points obstacles low high e bound resting_side each few (inr r) = subst (λ (w : RestingSide). IsBlockerBelow bound (blocker_of w.by)) (sym r.is) (omega (arith, few, (All-contains (IsObstacleOf frame points) obstacles r.obstacle each r.listed).below))
 
 -- a vertical side rests on the frame's side or on a point
-vertical_blocked : (frame : Box) (points : List PlanePoint) (obstacles : List Obstacle) (low high e : ℕ) (frame_x : ℤ) (edge : Edge) → All (IsObstacleOf frame points) obstacles → frame_x ≡ (frame.left +ℤ pos e) → (edge ≡ side e) ⊎ RestsVertical obstacles low high edge
-    → BlocksVertical points frame_x (frame.left +ℤ pos edge.at) (frame.bottom +ℤ pos low) (frame.bottom +ℤ pos high) (blocker_of edge.by)
-vertical_blocked frame points obstacles low high e frame_x edge each at_side (inl is) = subst (λ (w : Edge). BlocksVertical points frame_x (frame.left +ℤ pos w.at) (frame.bottom +ℤ pos low) (frame.bottom +ℤ pos high) (blocker_of w.by)) (sym is) (sym at_side)
-vertical_blocked frame points obstacles low high e frame_x edge each at_side (inr r) =
+vertical_blocked : (frame : Box) (points : List PlanePoint) (obstacles : List Obstacle) (low high e : ℕ) (frame_x : ℤ) (resting_side : RestingSide) → All (IsObstacleOf frame points) obstacles → frame_x ≡ (frame.left +ℤ pos e) → (resting_side ≡ side e) ⊎ RestsVertical obstacles low high resting_side
+    → BlocksVertical points frame_x (frame.left +ℤ pos resting_side.at) (frame.bottom +ℤ pos low) (frame.bottom +ℤ pos high) (blocker_of resting_side.by)
+vertical_blocked frame points obstacles low high e frame_x resting_side each at_side (inl is) = subst (λ (w : RestingSide). BlocksVertical points frame_x (frame.left +ℤ pos w.at) (frame.bottom +ℤ pos low) (frame.bottom +ℤ pos high) (blocker_of w.by)) (sym is) (sym at_side)
+vertical_blocked frame points obstacles low high e frame_x resting_side each at_side (inr r) =
     let at = (All-contains (IsObstacleOf frame points) obstacles r.obstacle each r.listed).at in
-    subst (λ (w : Edge). BlocksVertical points frame_x (frame.left +ℤ pos w.at) (frame.bottom +ℤ pos low) (frame.bottom +ℤ pos high) (blocker_of w.by)) (sym r.is) (at.x, omega (arith, ints, at.y, r.after), omega (arith, ints, at.y, r.before))
+    subst (λ (w : RestingSide). BlocksVertical points frame_x (frame.left +ℤ pos w.at) (frame.bottom +ℤ pos low) (frame.bottom +ℤ pos high) (blocker_of w.by)) (sym r.is) (at.x, omega (arith, ints, at.y, r.after), omega (arith, ints, at.y, r.before))
 
 -- and a level one
-level_blocked : (frame : Box) (points : List PlanePoint) (obstacles : List Obstacle) (low high e : ℕ) (frame_y : ℤ) (edge : Edge) → All (IsObstacleOf frame points) obstacles → frame_y ≡ (frame.bottom +ℤ pos e) → (edge ≡ side e) ⊎ RestsLevel obstacles low high edge
-    → BlocksLevel points frame_y (frame.bottom +ℤ pos edge.at) (frame.left +ℤ pos low) (frame.left +ℤ pos high) (blocker_of edge.by)
-level_blocked frame points obstacles low high e frame_y edge each at_side (inl is) = subst (λ (w : Edge). BlocksLevel points frame_y (frame.bottom +ℤ pos w.at) (frame.left +ℤ pos low) (frame.left +ℤ pos high) (blocker_of w.by)) (sym is) (sym at_side)
-level_blocked frame points obstacles low high e frame_y edge each at_side (inr r) =
+level_blocked : (frame : Box) (points : List PlanePoint) (obstacles : List Obstacle) (low high e : ℕ) (frame_y : ℤ) (resting_side : RestingSide) → All (IsObstacleOf frame points) obstacles → frame_y ≡ (frame.bottom +ℤ pos e) → (resting_side ≡ side e) ⊎ RestsLevel obstacles low high resting_side
+    → BlocksLevel points frame_y (frame.bottom +ℤ pos resting_side.at) (frame.left +ℤ pos low) (frame.left +ℤ pos high) (blocker_of resting_side.by)
+level_blocked frame points obstacles low high e frame_y resting_side each at_side (inl is) = subst (λ (w : RestingSide). BlocksLevel points frame_y (frame.bottom +ℤ pos w.at) (frame.left +ℤ pos low) (frame.left +ℤ pos high) (blocker_of w.by)) (sym is) (sym at_side)
+level_blocked frame points obstacles low high e frame_y resting_side each at_side (inr r) =
     let at = (All-contains (IsObstacleOf frame points) obstacles r.obstacle each r.listed).at in
-    subst (λ (w : Edge). BlocksLevel points frame_y (frame.bottom +ℤ pos w.at) (frame.left +ℤ pos low) (frame.left +ℤ pos high) (blocker_of w.by)) (sym r.is) (at.y, omega (arith, ints, at.x, r.after), omega (arith, ints, at.x, r.before))
+    subst (λ (w : RestingSide). BlocksLevel points frame_y (frame.bottom +ℤ pos w.at) (frame.left +ℤ pos low) (frame.left +ℤ pos high) (blocker_of w.by)) (sym r.is) (at.y, omega (arith, ints, at.x, r.after), omega (arith, ints, at.x, r.before))
 
 -- nothing is added
 plus_none : (z : ℤ) → z ≡ (z +ℤ pos 0)

@@ -8,7 +8,7 @@ use Rattle.std.proofs.lemmas.List.{get_or_default}
 use Rattle.std.proofs.lemmas.List.Elements.{All-from_get_or, AllWithin-more, at_read, All-contains}
 use Rattle.empty_rectangle.specs.declared.obstacles.Obstacle.{Obstacle}
 use Rattle.empty_rectangle.specs.declared.obstacles.Extent.{Extent}
-use Rattle.empty_rectangle.specs.declared.rectangles.Edge.{Edge}
+use Rattle.empty_rectangle.specs.declared.rectangles.RestingSide.{RestingSide}
 use Rattle.empty_rectangle.specs.declared.rectangles.Rectangle.{Rectangle}
 use Rattle.empty_rectangle.specs.declared.rectangles.Window.{Window}
 use Rattle.empty_rectangle.specs.declared.sweep.Seed.{Seed}
@@ -23,10 +23,10 @@ by_order {P} a b less most = decide (ltb a b) refl
     decide false e = most (ltb-false a b e)
 
 -- a vertical side through an obstacle above the bottom, which is no higher than the least, or the rectangle up to it has at most this area
-pub record Narrowed (obstacles : List Obstacle) (bottom least width area : ℕ) (edge : Edge) : Type 0 where
+pub record Narrowed (obstacles : List Obstacle) (bottom least width area : ℕ) (resting_side : RestingSide) : Type 0 where
   pub obstacle : Obstacle
   pub listed : Contains obstacles obstacle
-  pub is : edge ≡ vertical obstacle
+  pub is : resting_side ≡ vertical obstacle
   pub after : bottom < obstacle.y
   pub small : (obstacle.y ≤ least) ⊎ (width * (obstacle.y - bottom) ≤ area)
 
@@ -77,9 +77,9 @@ Scanned-on obstacles extent seed start i k window best s none = record {
 -- ---- a rectangle in the window
 
 -- a side that was narrowed rests below the top of a rectangle that has more than the area, and is higher than the least
-rests_below : (obstacles : List Obstacle) (bottom least width area top e : ℕ) (edge : Edge) → (edge ≡ side e) ⊎ Narrowed obstacles bottom least width area edge → least < top → area < width * (top - bottom) → (edge ≡ side e) ⊎ RestsVertical obstacles bottom top edge
-rests_below obstacles bottom least width area top e edge (inl is) high more = inl is
-rests_below obstacles bottom least width area top e edge (inr n) high more = inr (record { obstacle = n.obstacle; listed = n.listed; is = n.is; after = n.after; before = below n.small })
+rests_below : (obstacles : List Obstacle) (bottom least width area top e : ℕ) (resting_side : RestingSide) → (resting_side ≡ side e) ⊎ Narrowed obstacles bottom least width area resting_side → least < top → area < width * (top - bottom) → (resting_side ≡ side e) ⊎ RestsVertical obstacles bottom top resting_side
+rests_below obstacles bottom least width area top e resting_side (inl is) high more = inl is
+rests_below obstacles bottom least width area top e resting_side (inr n) high more = inr (record { obstacle = n.obstacle; listed = n.listed; is = n.is; after = n.after; before = below n.small })
   where
     below : (n.obstacle.y ≤ least) ⊎ (width * (n.obstacle.y - bottom) ≤ area) → n.obstacle.y < top
     below (inl low) = omega arith
@@ -89,7 +89,7 @@ rests_below obstacles bottom least width area top e edge (inr n) high more = inr
         omega arith
 
 -- the rectangle in the window up to a top is restricted, where no obstacle is strictly inside it, and it is larger and higher than asked
-pub IsRestricted-window : (obstacles : List Obstacle) (extent : Extent) (from : ℕ) (seed : Seed) (start : Rectangle) (k : ℕ) (window : Window) (best : Rectangle) (top : Edge) → IsSeed obstacles extent from seed → Scanned obstacles extent seed start k window best
+pub IsRestricted-window : (obstacles : List Obstacle) (extent : Extent) (from : ℕ) (seed : Seed) (start : Rectangle) (k : ℕ) (window : Window) (best : Rectangle) (top : RestingSide) → IsSeed obstacles extent from seed → Scanned obstacles extent seed start k window best
     → seed.least < top.at → top.at ≤ extent.height → best.area < (window.right.at - window.left.at) * (top.at - seed.bottom.at) → IsFree obstacles window.left.at seed.bottom.at window.right.at top.at
     → (top ≡ side extent.height) ⊎ RestsLevel obstacles window.left.at window.right.at top → IsRestricted obstacles extent (rectangle_in window seed.bottom top)
 IsRestricted-window obstacles extent from seed start k window best top is s high in_top more free rests = record {
@@ -190,9 +190,9 @@ one_side obstacles seed left right top obstacle listed above under free after be
     All-contains (λ q. ¬ IsBetween left seed.bottom.at right top q) obstacles obstacle free listed (record { enters = record { after_left = after; before_right = before; above = above }; below = under })
 
 -- a side stays narrowed where the window grows narrower and the area greater
-still_narrowed : (obstacles : List Obstacle) (bottom least width area new_width new_area e : ℕ) (edge : Edge) → (edge ≡ side e) ⊎ Narrowed obstacles bottom least width area edge → new_width ≤ width → area ≤ new_area → (edge ≡ side e) ⊎ Narrowed obstacles bottom least new_width new_area edge
-still_narrowed obstacles bottom least width area new_width new_area e edge (inl is) less more = inl is
-still_narrowed obstacles bottom least width area new_width new_area e edge (inr n) less more = inr (record { obstacle = n.obstacle; listed = n.listed; is = n.is; after = n.after; small = small n.small })
+still_narrowed : (obstacles : List Obstacle) (bottom least width area new_width new_area e : ℕ) (resting_side : RestingSide) → (resting_side ≡ side e) ⊎ Narrowed obstacles bottom least width area resting_side → new_width ≤ width → area ≤ new_area → (resting_side ≡ side e) ⊎ Narrowed obstacles bottom least new_width new_area resting_side
+still_narrowed obstacles bottom least width area new_width new_area e resting_side (inl is) less more = inl is
+still_narrowed obstacles bottom least width area new_width new_area e resting_side (inr n) less more = inr (record { obstacle = n.obstacle; listed = n.listed; is = n.is; after = n.after; small = small n.small })
   where
     small : (n.obstacle.y ≤ least) ⊎ (width * (n.obstacle.y - bottom) ≤ area) → (n.obstacle.y ≤ least) ⊎ (new_width * (n.obstacle.y - bottom) ≤ new_area)
     small (inl low) = inl low

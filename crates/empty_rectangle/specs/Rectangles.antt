@@ -5,7 +5,7 @@ use Rattle.std.specs.List.{AllWithin, HoldsAt}
 use Rattle.answers.specs.declared.empty_rectangles.Blocker.TheVariants.{Side, Point}
 use Rattle.empty_rectangle.specs.declared.obstacles.Obstacle.{Obstacle}
 use Rattle.empty_rectangle.specs.declared.obstacles.Extent.{Extent}
-use Rattle.empty_rectangle.specs.declared.rectangles.Edge.{Edge}
+use Rattle.empty_rectangle.specs.declared.rectangles.RestingSide.{RestingSide}
 use Rattle.empty_rectangle.specs.declared.rectangles.Rectangle.{Rectangle}
 use Rattle.empty_rectangle.specs.declared.rectangles.Window.{Window}
 use Rattle.empty_rectangle.specs.declared.sweep.Seed.{Seed}
@@ -51,29 +51,29 @@ abbrev pub IsFree : List Obstacle → ℕ → ℕ → ℕ → ℕ → Type 0
 IsFree obstacles left bottom right top = All (λ s. ¬ IsBetween left bottom right top s) obstacles
 
 -- a side of the frame
-abbrev pub side : ℕ → Edge
+abbrev pub side : ℕ → RestingSide
 side at = record { at = at; by = Side }
 
 -- the vertical side through an obstacle, and the level one
-abbrev pub vertical : Obstacle → Edge
+abbrev pub vertical : Obstacle → RestingSide
 vertical s = record { at = s.x; by = Point s.number }
 
-abbrev pub level : Obstacle → Edge
+abbrev pub level : Obstacle → RestingSide
 level s = record { at = s.y; by = Point s.number }
 
 -- a vertical side rests on an obstacle between its ends
-pub record RestsVertical (obstacles : List Obstacle) (low high : ℕ) (edge : Edge) : Type 0 where
+pub record RestsVertical (obstacles : List Obstacle) (low high : ℕ) (resting_side : RestingSide) : Type 0 where
   pub obstacle : Obstacle
   pub listed : Contains obstacles obstacle
-  pub is : edge ≡ vertical obstacle
+  pub is : resting_side ≡ vertical obstacle
   pub after : low < obstacle.y
   pub before : obstacle.y < high
 
 -- a level side rests on an obstacle between its ends
-pub record RestsLevel (obstacles : List Obstacle) (low high : ℕ) (edge : Edge) : Type 0 where
+pub record RestsLevel (obstacles : List Obstacle) (low high : ℕ) (resting_side : RestingSide) : Type 0 where
   pub obstacle : Obstacle
   pub listed : Contains obstacles obstacle
-  pub is : edge ≡ level obstacle
+  pub is : resting_side ≡ level obstacle
   pub after : low < obstacle.x
   pub before : obstacle.x < high
 
@@ -91,7 +91,7 @@ pub record IsRestricted (obstacles : List Obstacle) (extent : Extent) (h : Recta
   pub top : (h.top ≡ side extent.height) ⊎ RestsLevel obstacles h.left.at h.right.at h.top
 
 -- the rectangle in a window from a bottom to a top
-abbrev pub rectangle_in : Window → Edge → Edge → Rectangle
+abbrev pub rectangle_in : Window → RestingSide → RestingSide → Rectangle
 rectangle_in window bottom top = record {
   area = (window.right.at - window.left.at) * (top.at - bottom.at);
   left = window.left;

@@ -5,7 +5,7 @@ ghost use Rattle.bounded_coords.specs.Clouds.{points_of};
 ghost use Rattle.empty_rectangle.specs.Rectangles.{vertical, level, IsExtent};
 ghost use Rattle.empty_rectangle.specs.Points.{points_in, IsExtentOf, IsObstacleAt, AreObstacles, ListsObstacles};
 
-use crate::rectangles::Edge;
+use crate::rectangles::RestingSide;
 use answers::Blocker;
 use bounded_coords::{Cloud2, Frame, OutOfMemory, Point2};
 use std::alloc::Global;
@@ -21,20 +21,20 @@ pub(crate) struct Obstacle {
 
 impl Obstacle {
     /// The vertical side through the obstacle.
-    pub(crate) fn vertical(self) -> Edge
+    pub(crate) fn vertical(self) -> RestingSide
         ensures { result ≡ vertical self }
     {
-        Edge {
+        RestingSide {
             at: self.x,
             by: Blocker::Point(self.number),
         }
     }
 
     /// The level side through the obstacle.
-    pub(crate) fn level(self) -> Edge
+    pub(crate) fn level(self) -> RestingSide
         ensures { result ≡ level self }
     {
-        Edge {
+        RestingSide {
             at: self.y,
             by: Blocker::Point(self.number),
         }

@@ -7,17 +7,17 @@ use answers::Blocker;
 
 /// A side of a rectangle: how far it is from the frame's left side or bottom, and what it rests on.
 #[derive(Clone, Copy)]
-pub(crate) struct Edge {
+pub(crate) struct RestingSide {
     pub(crate) at: u32,
     pub(crate) by: Blocker,
 }
 
-impl Edge {
+impl RestingSide {
     /// A side of the frame.
-    pub(crate) fn side(at: u32) -> Edge
+    pub(crate) fn side(at: u32) -> RestingSide
         ensures { result ≡ side at }
     {
-        Edge {
+        RestingSide {
             at,
             by: Blocker::Side,
         }
@@ -28,10 +28,10 @@ impl Edge {
 #[derive(Clone, Copy)]
 pub(crate) struct Rectangle {
     pub(crate) area: u64,
-    pub(crate) left: Edge,
-    pub(crate) bottom: Edge,
-    pub(crate) right: Edge,
-    pub(crate) top: Edge,
+    pub(crate) left: RestingSide,
+    pub(crate) bottom: RestingSide,
+    pub(crate) right: RestingSide,
+    pub(crate) top: RestingSide,
 }
 
 impl Rectangle {
@@ -39,7 +39,7 @@ impl Rectangle {
     pub(crate) fn of_area(area: u64) -> Rectangle
         ensures { result.area ≡ area }
     {
-        let side = Edge::side(0);
+        let side = RestingSide::side(0);
         Rectangle {
             area,
             left: side,
@@ -66,8 +66,8 @@ impl Rectangle {
 /// The two vertical sides between which rectangles grow.
 #[derive(Clone, Copy)]
 pub(crate) struct Window {
-    pub(crate) left: Edge,
-    pub(crate) right: Edge,
+    pub(crate) left: RestingSide,
+    pub(crate) right: RestingSide,
 }
 
 impl Window {
@@ -82,7 +82,7 @@ impl Window {
     }
 
     /// The rectangle between the sides from `bottom` to `top`.
-    pub(crate) fn rectangle(self, bottom: Edge, top: Edge) -> Rectangle
+    pub(crate) fn rectangle(self, bottom: RestingSide, top: RestingSide) -> Rectangle
         requires width { self.left.at ≤ self.right.at }
         requires height { bottom.at ≤ top.at }
         ensures { result ≡ rectangle_in self bottom top }

@@ -5,15 +5,15 @@ ghost use Rattle.empty_rectangle.specs.Rectangles.{IsInExtent, IsExtent, NoneEnt
 ghost use Rattle.empty_rectangle.specs.Seeds.{corner, above, beside};
 
 use crate::obstacles::{Extent, Obstacle};
-use crate::rectangles::{Edge, Rectangle, Window};
+use crate::rectangles::{Rectangle, RestingSide, Window};
 
 /// Where rectangles start to grow: their left side, twice the x of a column that they all meet, their bottom, and a
 /// height that they all exceed.
 #[derive(Clone, Copy)]
 pub(crate) struct Seed {
-    pub(crate) left: Edge,
+    pub(crate) left: RestingSide,
     pub(crate) column: u32,
-    pub(crate) bottom: Edge,
+    pub(crate) bottom: RestingSide,
     pub(crate) least: u32,
 }
 
@@ -22,7 +22,7 @@ impl Seed {
     pub(crate) fn corner() -> Seed
         ensures { result ≡ corner }
     {
-        let side = Edge::side(0);
+        let side = RestingSide::side(0);
         Seed {
             left: side,
             column: 1,
@@ -37,7 +37,7 @@ impl Seed {
         ensures { result ≡ above obstacle }
     {
         Seed {
-            left: Edge::side(0),
+            left: RestingSide::side(0),
             column: 2 * obstacle.x,
             bottom: obstacle.level(),
             least: obstacle.y,
@@ -52,7 +52,7 @@ impl Seed {
         Seed {
             left: obstacle.vertical(),
             column: 2 * obstacle.x + 1,
-            bottom: Edge::side(0),
+            bottom: RestingSide::side(0),
             least: obstacle.y,
         }
     }
@@ -76,11 +76,11 @@ pub(crate) fn sweep_up(
     ensures kept { best.area ≤ result.area }
     ensures restricted { (result ≡ best) ⊎ IsRestricted obstacles.now extent result }
 {
-    let ceiling = Edge::side(extent.height);
+    let ceiling = RestingSide::side(extent.height);
     let mut best = best;
     let mut window = Window {
         left: seed.left,
-        right: Edge::side(extent.width),
+        right: RestingSide::side(extent.width),
     };
     let whole = window.rectangle(seed.bottom, ceiling);
     if whole.area <= best.area {

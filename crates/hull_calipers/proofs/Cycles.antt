@@ -12,7 +12,7 @@ use Rattle.bounds_model.specs.Hull.{around}
 use Rattle.hull_calipers.proofs.Turns.{joint, apart, turn-around}
 
 -- the corners l of a chain along d, and u of the chain back, both with all points to the left of their edges
-pub record TwoChains (points : List PlanePoint) (d : PlanePoint) (l u : ℕ → PlanePoint) (m k : ℕ) : Type 0 where
+pub record TwoMonotoneChains (points : List PlanePoint) (d : PlanePoint) (l u : ℕ → PlanePoint) (m k : ℕ) : Type 0 where
   pub low_some : 1 ≤ m
   pub up_some : 1 ≤ k
   pub low_along : (i : ℕ) → i < m → dot d (l i) <ℤ dot d (l (i + 1))
@@ -47,7 +47,7 @@ pub around_again : (corners : List PlanePoint) (i : ℕ) → i < length corners 
 around_again corners i h = ap (point_at corners) (once_around (length corners) i h)
 
 -- the corner of the lower chain, its end included
-at_low : (points corners : List PlanePoint) (d : PlanePoint) (l u : ℕ → PlanePoint) (m k : ℕ) → TwoChains points d l u m k → IsCycle corners l u m k → (j i : ℕ) → j ≡ i → i ≤ m → around corners j ≡ l i
+at_low : (points corners : List PlanePoint) (d : PlanePoint) (l u : ℕ → PlanePoint) (m k : ℕ) → TwoMonotoneChains points d l u m k → IsCycle corners l u m k → (j i : ℕ) → j ≡ i → i ≤ m → around corners j ≡ l i
 at_low points corners d l u m k two cycle j i e h = elim (cases_order i m) [
   | inl last ↦
       let some : 1 ≤ k = two.up_some in
@@ -60,7 +60,7 @@ at_low points corners d l u m k two cycle j i e h = elim (cases_order i m) [
 ]
 
 -- the corner of the upper chain, its end included
-at_up : (points corners : List PlanePoint) (d : PlanePoint) (l u : ℕ → PlanePoint) (m k : ℕ) → TwoChains points d l u m k → IsCycle corners l u m k → (j i : ℕ) → j ≡ m + i → i ≤ k → around corners j ≡ u i
+at_up : (points corners : List PlanePoint) (d : PlanePoint) (l u : ℕ → PlanePoint) (m k : ℕ) → TwoMonotoneChains points d l u m k → IsCycle corners l u m k → (j i : ℕ) → j ≡ m + i → i ≤ k → around corners j ≡ u i
 at_up points corners d l u m k two cycle j i e h = elim (cases_order i k) [
   | inl last ↦
       let some : 1 ≤ m = two.low_some in
@@ -73,7 +73,7 @@ at_up points corners d l u m k two cycle j i e h = elim (cases_order i k) [
 ]
 
 -- the second corner, once around
-at_second : (points corners : List PlanePoint) (d : PlanePoint) (l u : ℕ → PlanePoint) (m k : ℕ) → TwoChains points d l u m k → IsCycle corners l u m k → (j : ℕ) → j ≡ m + k + 1 → around corners j ≡ l 1
+at_second : (points corners : List PlanePoint) (d : PlanePoint) (l u : ℕ → PlanePoint) (m k : ℕ) → TwoMonotoneChains points d l u m k → IsCycle corners l u m k → (j : ℕ) → j ≡ m + k + 1 → around corners j ≡ l 1
 at_second points corners d l u m k two cycle j e =
     let low : 1 ≤ m = two.low_some in
     let up : 1 ≤ k = two.up_some in
@@ -92,7 +92,7 @@ farther_moved : (d a a' b b' : PlanePoint) → a ≡ a' → b ≡ b' → dot d a
 farther_moved d a a' b b' p q h = subst (λ v. dot d v <ℤ dot d b) (sym p) (subst (λ v. dot d a' <ℤ dot d v) (sym q) h)
 
 -- at the farthest corner, where the chain up to b meets the chain from it
-turns_at_last : (points : List PlanePoint) (d : PlanePoint) (l u : ℕ → PlanePoint) (m k n : ℕ) → TwoChains points d l u m k → n + 1 ≡ m → 3 ≤ m + k → pos 0 <ℤ turn (l n) (u 0) (u 1)
+turns_at_last : (points : List PlanePoint) (d : PlanePoint) (l u : ℕ → PlanePoint) (m k n : ℕ) → TwoMonotoneChains points d l u m k → n + 1 ≡ m → 3 ≤ m + k → pos 0 <ℤ turn (l n) (u 0) (u 1)
 turns_at_last points d l u m k n two e three = elim (cases_order 1 k) [
   | inl one ↦
       let z : PlanePoint = l (n - 1) in
@@ -139,7 +139,7 @@ back_along : (d a b : PlanePoint) → dot d a <ℤ dot d b → dot (opposite d) 
 back_along d a b h = let p = opposite-dot d a in let q = opposite-dot d b in omega (arith, ints, p, q, h)
 
 -- the same two chains, the other one first
-swapped : (points : List PlanePoint) (d : PlanePoint) (l u : ℕ → PlanePoint) (m k : ℕ) → TwoChains points d l u m k → TwoChains points (opposite d) u l k m
+swapped : (points : List PlanePoint) (d : PlanePoint) (l u : ℕ → PlanePoint) (m k : ℕ) → TwoMonotoneChains points d l u m k → TwoMonotoneChains points (opposite d) u l k m
 swapped points d l u m k two = record {
   low_some = two.up_some;
   up_some = two.low_some;
@@ -155,7 +155,7 @@ swapped points d l u m k two = record {
   closes = two.meets;
 }
 
-pub cycle_turns : (points corners : List PlanePoint) (d : PlanePoint) (l u : ℕ → PlanePoint) (m k : ℕ) → TwoChains points d l u m k → IsCycle corners l u m k → 3 ≤ length corners
+pub cycle_turns : (points corners : List PlanePoint) (d : PlanePoint) (l u : ℕ → PlanePoint) (m k : ℕ) → TwoMonotoneChains points d l u m k → IsCycle corners l u m k → 3 ≤ length corners
     → EachIndex corners (λ i. pos 0 <ℤ turn (around corners i) (around corners (i + 1)) (around corners (i + 2)))
 cycle_turns points corners d l u m k two cycle three i h =
     elim (cases_order (i + 1) m) [
@@ -187,7 +187,7 @@ cycle_turns points corners d l u m k two cycle three i h =
     count : length corners ≡ m + k
     count = cycle.count
 
-pub cycle_left : (points corners : List PlanePoint) (d : PlanePoint) (l u : ℕ → PlanePoint) (m k : ℕ) → TwoChains points d l u m k → IsCycle corners l u m k
+pub cycle_left : (points corners : List PlanePoint) (d : PlanePoint) (l u : ℕ → PlanePoint) (m k : ℕ) → TwoMonotoneChains points d l u m k → IsCycle corners l u m k
     → EachIndex corners (λ i. All (λ p. pos 0 ≤ℤ turn (around corners i) (around corners (i + 1)) p) points)
 cycle_left points corners d l u m k two cycle i h =
     elim (cases_order (i + 1) (m + 1)) [
@@ -222,7 +222,7 @@ differ : (d a b : PlanePoint) → dot d a <ℤ dot d b → a ≢ b
 differ d a b h e = let same : dot d a ≡ dot d b = ap (dot d) e in omega (arith, ints)
 
 -- a corner of the lower chain and one of the upper chain
-low_from_up : (points : List PlanePoint) (d : PlanePoint) (l u : ℕ → PlanePoint) (m k : ℕ) → TwoChains points d l u m k → (i j : ℕ) → i < m → j < k → l i ≢ u j
+low_from_up : (points : List PlanePoint) (d : PlanePoint) (l u : ℕ → PlanePoint) (m k : ℕ) → TwoMonotoneChains points d l u m k → (i j : ℕ) → i < m → j < k → l i ≢ u j
 low_from_up points d l u m k two i j low up same = elim (cases_order i 0) [
   | inl none ↦
       let down : dot (opposite d) (u j) <ℤ dot (opposite d) (u k) = climb (opposite d) u k (λ n h. back_along d (u (n + 1)) (u n) (two.up_along n h)) j k up (omega arith) in
@@ -252,7 +252,7 @@ low_from_up points d l u m k two i j low up same = elim (cases_order i 0) [
         (All-contains (λ p. pos 0 ≤ℤ turn (l i) (l (i + 1)) p) points (u f) (two.low_left i low) (two.up_listed f (omega arith)))
         (turns_moved (u f) (u f) (l i) (u (f + 1)) (u (j + 1)) (u (f + 2)) refl (same ∙ ap u (sym ef)) (ap u (omega arith)) (two.up_turns f (omega arith)))
 
-pub cycle_distinct : (points corners : List PlanePoint) (d : PlanePoint) (l u : ℕ → PlanePoint) (m k : ℕ) → TwoChains points d l u m k → IsCycle corners l u m k → AllPairs (λ a b. a ≢ b) corners
+pub cycle_distinct : (points corners : List PlanePoint) (d : PlanePoint) (l u : ℕ → PlanePoint) (m k : ℕ) → TwoMonotoneChains points d l u m k → IsCycle corners l u m k → AllPairs (λ a b. a ≢ b) corners
 cycle_distinct points corners d l u m k two cycle i j e less h same =
     two_apart (get_or_default corners i origin e (omega arith) ∙ same ∙ get_or_default corners j e origin h)
   where

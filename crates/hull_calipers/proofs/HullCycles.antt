@@ -10,12 +10,12 @@ use Rattle.integers.proofs.Order.{le_of_same}
 use Rattle.bounds_model.specs.Plane.{PlanePoint, point_at, origin, dot, turn, IsInPlane, IsBefore}
 use Rattle.bounds_model.specs.Hull.{around}
 use Rattle.hull_calipers.specs.Keys.{number_in, placed, rightward, AreOrdered}
-use Rattle.hull_calipers.specs.Chains.{AreAlong, IsChain, numbered}
+use Rattle.hull_calipers.specs.Chains.{AreAlong, IsMonotoneChain, numbered}
 use Rattle.hull_calipers.specs.Hulls.{IsFirst, IsLast, IsHull}
 use Rattle.hull_calipers.proofs.Turns.{turn-itself}
 use Rattle.hull_calipers.proofs.Orders.{before_from_along}
 use Rattle.hull_calipers.proofs.Retreats.{numbered_at}
-use Rattle.hull_calipers.proofs.Cycles.{TwoChains, IsCycle, opposite, opposite-dot, cycle_turns, cycle_left, cycle_distinct, around_at, climb}
+use Rattle.hull_calipers.proofs.Cycles.{TwoMonotoneChains, IsCycle, opposite, opposite-dot, cycle_turns, cycle_left, cycle_distinct, around_at, climb}
 
 -- ---- the first and the last point
 
@@ -64,7 +64,7 @@ listed_at points numbers i below h = subst (Contains points) (sym (numbered_at p
 
 -- ---- one corner
 
-pub hull_of_one : (points : List PlanePoint) (keys numbers : List ℕ) → AreOrdered points keys → All (Contains (map number_in keys)) numbers → IsChain rightward (placed points keys) (numbered points numbers) → length numbers ≡ 1 → IsHull points numbers
+pub hull_of_one : (points : List PlanePoint) (keys numbers : List ℕ) → AreOrdered points keys → All (Contains (map number_in keys)) numbers → IsMonotoneChain rightward (placed points keys) (numbered points numbers) → length numbers ≡ 1 → IsHull points numbers
 hull_of_one points keys numbers order listed chain one = record {
   least_numbers = record { listed = below; least = from_keys (λ n. EachIndex points (λ j. point_at points j ≡ point_at points n → n ≤ j)) keys numbers order.least listed };
   around = record {
@@ -130,8 +130,8 @@ record Halves (points : List PlanePoint) (keys lower upper : List ℕ) : Type 0 
   order : AreOrdered points keys
   low_numbers : All (Contains (map number_in keys)) lower
   up_numbers : All (Contains (map number_in (reverse keys))) upper
-  low : IsChain rightward (placed points keys) (numbered points lower)
-  up : IsChain (opposite rightward) (placed points (reverse keys)) (numbered points upper)
+  low : IsMonotoneChain rightward (placed points keys) (numbered points lower)
+  up : IsMonotoneChain (opposite rightward) (placed points (reverse keys)) (numbered points upper)
   more : 2 ≤ length lower
 
 upper_below : (points : List PlanePoint) (keys lower upper : List ℕ) → Halves points keys lower upper → (P : ℕ → Type 0) → All (λ k. P (number_in k)) keys → All P upper
@@ -154,7 +154,7 @@ closes_at points keys lower upper h =
     let count'' : length (placed points (reverse keys)) ≡ length keys = length_placed points (reverse keys) ∙ length-reverse keys in
     ap (λ n. point_at (numbered points upper) (n - 1)) (sym count) ∙ h.up.ends ∙ reversed_at points keys (length (placed points (reverse keys)) - 1) (omega arith) ∙ ap (point_at (placed points keys)) (omega arith) ∙ sym h.low.begins
 
-two_chains : (points : List PlanePoint) (keys lower upper : List ℕ) → Halves points keys lower upper → TwoChains points rightward (point_at (numbered points lower)) (point_at (numbered points upper)) (length lower - 1) (length upper - 1)
+two_chains : (points : List PlanePoint) (keys lower upper : List ℕ) → Halves points keys lower upper → TwoMonotoneChains points rightward (point_at (numbered points lower)) (point_at (numbered points upper)) (length lower - 1) (length upper - 1)
 two_chains points keys lower upper h = record {
   low_some = omega (arith, h.more);
   up_some = elim (cases_order (length upper) 1) [
@@ -233,7 +233,7 @@ hull_of_halves points keys lower upper h = record {
     corners : List PlanePoint
     corners = numbered points (take (length lower - 1) lower ++ take (length upper - 1) upper)
 
-    two : TwoChains points rightward (point_at (numbered points lower)) (point_at (numbered points upper)) (length lower - 1) (length upper - 1)
+    two : TwoMonotoneChains points rightward (point_at (numbered points lower)) (point_at (numbered points upper)) (length lower - 1) (length upper - 1)
     two = two_chains points keys lower upper h
 
     cycle : IsCycle (numbered points (take (length lower - 1) lower ++ take (length upper - 1) upper)) (point_at (numbered points lower)) (point_at (numbered points upper)) (length lower - 1) (length upper - 1)
@@ -252,7 +252,7 @@ hull_of_halves points keys lower upper h = record {
     both P low up = All-append P (take (length lower - 1) lower) (take (length upper - 1) upper) (All-take P (length lower - 1) lower low) (All-take P (length upper - 1) upper up)
 
 pub hull_of_two : (points : List PlanePoint) (keys back lower upper : List ℕ) → AreOrdered points keys → back ≡ reverse keys → All (Contains (map number_in keys)) lower → All (Contains (map number_in back)) upper
-    → IsChain rightward (placed points keys) (numbered points lower) → IsChain (opposite rightward) (placed points back) (numbered points upper) → length lower ≢ 1
+    → IsMonotoneChain rightward (placed points keys) (numbered points lower) → IsMonotoneChain (opposite rightward) (placed points back) (numbered points upper) → length lower ≢ 1
     → IsHull points (take (length lower - 1) lower ++ take (length upper - 1) upper)
 hull_of_two points keys back lower upper order is low_numbers up_numbers low up more =
     let some = low.some in
@@ -262,7 +262,7 @@ hull_of_two points keys back lower upper order is low_numbers up_numbers low up 
       low_numbers = low_numbers;
       up_numbers = subst (λ l. All (Contains (map number_in l)) upper) is up_numbers;
       low = low;
-      up = subst (λ l. IsChain (opposite rightward) (placed points l) (numbered points upper)) is up;
+      up = subst (λ l. IsMonotoneChain (opposite rightward) (placed points l) (numbered points upper)) is up;
       more = omega (arith, some, count, more);
     })
 

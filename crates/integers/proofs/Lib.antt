@@ -11,7 +11,7 @@ pub mod UnsignedArithmetic
 pub mod Divisors
 pub mod LowestTerms
 pub mod Fractions
-pub mod Gaps
+pub mod LeastDifferences
 pub mod Lagrange
 pub mod ParallelAxis
 pub mod Cone

@@ -6,7 +6,7 @@
 //! - `Order`: signs and orders of products, cancelling, squares, an order from a difference, linear combinations of equations.
 //! - `Sums` and `Extremes`: the sum, the greatest and the least value of a function over a list, and the steps of loops.
 //! - `Sizes`, `MachineArithmetic` and `UnsignedArithmetic`: bounds, and overflows and results at 32, 64 and 128 bits in one line.
-//! - `Divisors`, `LowestTerms`, `Fractions` and `Gaps`: the greatest common divisor, the one lowest form, orders, how far apart fractions lie.
+//! - `Divisors`, `LowestTerms`, `Fractions` and `LeastDifferences`: the greatest common divisor, the one lowest form, orders, how far apart fractions lie.
 //! - `Lagrange`, `ParallelAxis`, `Cone`, `Circles` and `Cramer`: identities of geometry over plain variables.
 //!
 //! [`laws`] has the main laws as contracts, and [`examples`] small functions that use each tool.

@@ -50,7 +50,7 @@ rise_of_extremes points f e pair extremes is far near =
     ∙ ap₂ (λ i j. level f (point_at points i) -ℤ level f (point_at points j)) far near
     ∙ sym (ap₂ (λ h l. h -ℤ l) extremes.high extremes.low)
 
--- ---- the three corners have one rise
+-- ---- the three vertices have one rise
 
 plain_second : (ax ay ah bx by bh cx cy ch : ℤ)
     → ((bx -ℤ ax) *ℤ (cy -ℤ ay) -ℤ (by -ℤ ay) *ℤ (cx -ℤ ax)) *ℤ bh -ℤ (((bh -ℤ ah) *ℤ (cy -ℤ ay) -ℤ (ch -ℤ ah) *ℤ (by -ℤ ay)) *ℤ bx +ℤ ((bx -ℤ ax) *ℤ (ch -ℤ ah) -ℤ (cx -ℤ ax) *ℤ (bh -ℤ ah)) *ℤ by)

@@ -5,7 +5,7 @@ use Rattle.integers.proofs.Identities.{den-ring, read, polys, lits, below_lits}
 use Rattle.integers.proofs.Order.{positive_mul, nonneg_mul, combine1}
 use Rattle.min_annulus.specs.declared.difference_vectors.DifferenceVector.{DifferenceVector}
 use Rattle.min_annulus.specs.DifferenceVectors.{IsDifference, IsAround, side, scale}
-use Rattle.min_annulus.specs.Laws.{SomeCornerLeaves}
+use Rattle.min_annulus.specs.Laws.{SomeVertexLeaves}
 use Rattle.min_annulus.proofs.Target.{general_position}
 
 -- ---- sides
@@ -26,17 +26,17 @@ plain_balance : (m ax ay bx by cx cy dx dy : ℤ)
 plain_balance m ax ay bx by cx cy dx dy =
     read (m ∷ ax ∷ ay ∷ bx ∷ by ∷ cx ∷ cy ∷ dx ∷ dy ∷ []) (λ xs a b c d e f g h i. simp (a, b, c, d, e, f, g, h, i, polys, lits xs) (den-ring xs _ _ tt))
 
--- seen from the target, the corners with the areas opposite to them balance, so a fourth difference can't be on one side of all three
+-- seen from the target, the vertices with the areas opposite to them balance, so a fourth difference can't be on one side of all three
 pub sides_balance : (a b c d : DifferenceVector) → side b c *ℤ side a d +ℤ side c a *ℤ side b d +ℤ side a b *ℤ side c d ≡ pos 0
 sides_balance a b c d = plain_balance scale a.x a.y b.x b.y c.x c.y d.x d.y
 
--- a difference that is on a line with a corner and the target is that corner, so its sides to the others are those of the corner
+-- a difference that is on a line with a vertex and the target is that vertex, so its sides to the others are those of the vertex
 pub side_of_same : (a b d : DifferenceVector) → (a.x ≡ d.x) × (a.y ≡ d.y) → side b d ≡ side b a
 side_of_same a b d e = rw (e.0, e.1) refl
 
--- ---- the sides of a fourth difference: u the sides of the triangle, w those of the corners to it
+-- ---- the sides of a fourth difference: u the sides of the triangle, w those of the vertices to it
 
--- at a corner with 0, the others are on either side
+-- at a vertex with 0, the others are on either side
 abbrev pub Apart : ℤ → ℤ → ℤ → Type 0
 Apart w next last = w ≡ pos 0 → (next <ℤ pos 0) × (pos 0 <ℤ last)
 
@@ -92,9 +92,9 @@ other_change u1 u2 u3 w1 w2 w3 p q r e at1 at3 no1 no2 =
         clash : {x : ℤ} → pos 0 <ℤ x → x ≤ℤ pos 0 → ⊥
         clash h k = omega (arith, ints)
 
--- ---- which corner leaves
+-- ---- which vertex leaves
 
--- at a corner that the fourth difference is in line with, the others are on either side
+-- at a vertex that the fourth difference is in line with, the others are on either side
 pub apart : (a b c d : DifferenceVector) → IsDifference a → IsDifference d → IsAround a b c → Apart (side a d) (side b d) (side c d)
 apart a b c d ha hd around zero =
     let same = general_position a d ha hd zero in
@@ -110,11 +110,11 @@ left_of_back a b h = above (side_turned b a) h
     above : {s t : ℤ} → s ≡ neg_ℤ t → t <ℤ pos 0 → pos 0 <ℤ s
     above e h = omega (arith, ints)
 
--- the triangle may begin at each corner
+-- the triangle may begin at each vertex
 pub turned : (a b c : DifferenceVector) → IsAround a b c → IsAround b c a
 turned a b c around = record { ab = around.bc; bc = around.ca; ca = around.ab }
 
--- the last corner leaves
+-- the last vertex leaves
 pub last_leaves : (a b c d : DifferenceVector) → IsDifference a → IsDifference d → IsAround a b c → side a d ≤ℤ pos 0 → pos 0 <ℤ side b d → IsAround a b d
 last_leaves a b c d ha hd around h l = record {
   ab = around.ab;
@@ -122,7 +122,7 @@ last_leaves a b c d ha hd around h l = record {
   ca = left_of_back a d (strictly_below (apart a b c d ha hd around) h l);
 }
 
--- the first corner leaves
+-- the first vertex leaves
 pub first_leaves : (a b c d : DifferenceVector) → IsDifference b → IsDifference d → IsAround a b c → side b d ≤ℤ pos 0 → pos 0 <ℤ side c d → IsAround d b c
 first_leaves a b c d hb hd around h l = turned c d b (turned b c d (last_leaves b c a d hb hd (turned a b c around) h l))
 
@@ -135,8 +135,8 @@ middle_leaves a b c d ha hc hd around no_last no_first =
     record { ab = change.1; bc = left_of_back c d change.0; ca = around.ca }
 
 -- one of them leaves
-pub some_corner_leaves : SomeCornerLeaves
-some_corner_leaves a b c d ha hb hc hd around =
+pub some_vertex_leaves : SomeVertexLeaves
+some_vertex_leaves a b c d ha hb hc hd around =
     by_lt_z (pos 0) (side b d)
     (λ hb. by_lt_z (pos 0) (side a d) (λ l. inr (inr (middle_leaves a b c d ha hc hd around (λ m _. clash l m) (λ m _. clash hb m)))) (λ l. inl (last_leaves a b c d ha hd around l hb)))
     (λ hn. by_lt_z (pos 0) (side c d) (λ l. inr (inl (first_leaves a b c d hb hd around hn l))) (λ l. inr (inr (middle_leaves a b c d ha hc hd around (λ _ m. clash m hn) (λ _ m. clash m l)))))

@@ -1,4 +1,4 @@
--- Whichever corner leaves, the measure falls.
+-- Whichever vertex leaves, the measure falls.
 use Rattle.std.proofs.Common.{◌≡◌, sym, ap₂, subst, inl, inr, ℕ, ◌*◌, ◌/◌, ◌<◌, ◌^◌, ℤ, pos, ◌+ℤ◌, ◌-ℤ◌, ◌*ℤ◌, ◌<ℤ◌, nat_abs, List, [], ◌∷◌, arith}
 use Rattle.std.proofs.lemmas.Int.{ints}
 use Rattle.integers.proofs.Identities.{den-ring, read, polys}
@@ -15,7 +15,7 @@ use Rattle.min_annulus.proofs.Exchange.{turned}
 use Rattle.min_annulus.proofs.Measure.{measure_falls}
 use Rattle.min_annulus.proofs.Ending.{second_rise, third_rise}
 
--- ---- a triangle may begin at each corner
+-- ---- a triangle may begin at each vertex
 
 turn_sum : (x y z : ℤ) → y +ℤ z +ℤ x ≡ x +ℤ y +ℤ z
 turn_sum x y z = omega (arith, ints)

@@ -5,7 +5,7 @@ use Rattle.integers.specs.Size.{Size}
 use Rattle.integers.proofs.Sizes.{size_sub, size_mul, size_more, below_size}
 use Rattle.integers.proofs.Identities.{den-ring, read, polys, lits}
 use Rattle.integers.proofs.Order.{nonneg_mul, nonneg_add, nonneg_difference, positive_difference, positive_mul, nonneg_from_positive, lt_by, le_by, combine1}
-use Rattle.integers.proofs.Gaps.{floor_rises}
+use Rattle.integers.proofs.LeastDifferences.{floor_rises}
 use Rattle.min_annulus.specs.declared.difference_vectors.DifferenceVector.{DifferenceVector}
 use Rattle.min_annulus.specs.LinearForms.{rise, form_through}
 use Rattle.min_annulus.specs.DifferenceVectors.{IsDifference, IsAround, side, scale, area, lift_over, lift_under, lift_limit}
@@ -63,9 +63,9 @@ under_limit a b c ha hb hc = limit (area a b c) (under_is_area a b c) (below_siz
     limit : {s : ℤ} (n : ℤ) → s ≡ n *ℤ (scale *ℤ scale) → n ≤ℤ pos (2 ^ 41) → s ≤ℤ pos (2 ^ 85)
     limit n e h = omega (arith, ints)
 
--- the target's lift is at most that of the highest corner
-gap_nonneg : (a b c : DifferenceVector) → IsDifference a → IsDifference b → IsDifference c → IsAround a b c → pos 0 ≤ℤ (pos lift_limit *ℤ lift_under a b c -ℤ lift_over a b c)
-gap_nonneg a b c ha hb hc around =
+-- the target's lift is at most that of the highest vertex
+difference_nonneg : (a b c : DifferenceVector) → IsDifference a → IsDifference b → IsDifference c → IsAround a b c → pos 0 ≤ℤ (pos lift_limit *ℤ lift_under a b c -ℤ lift_over a b c)
+difference_nonneg a b c ha hb hc around =
     plain (pos lift_limit) (side b c) (side c a) (side a b) a.lift b.lift c.lift around.bc around.ca around.ab (below_size ha.lift) (below_size hb.lift) (below_size hc.lift)
   where
     plain : (L u v w f g h : ℤ) → pos 0 <ℤ u → pos 0 <ℤ v → pos 0 <ℤ w → f ≤ℤ L → g ≤ℤ L → h ≤ℤ L → pos 0 ≤ℤ (L *ℤ (u +ℤ v +ℤ w) -ℤ (u *ℤ f +ℤ v *ℤ g +ℤ w *ℤ h))
@@ -76,7 +76,7 @@ gap_nonneg a b c ha hb hc around =
 
 -- ---- how far the target's lift rises
 
--- by the weights u of the old corners at the target, the sides w to the new corner, and the lifts; the last old corner leaves
+-- by the weights u of the old vertices at the target, the sides w to the new vertex, and the lifts; the last old vertex leaves
 plain_rise : (u1 u2 u3 w1 w2 w3 h1 h2 h3 h4 : ℤ) → u1 *ℤ w1 +ℤ u2 *ℤ w2 +ℤ u3 *ℤ w3 ≡ pos 0
     → (w2 *ℤ h1 +ℤ neg_ℤ w1 *ℤ h2 +ℤ u3 *ℤ h4) *ℤ (u1 +ℤ u2 +ℤ u3) -ℤ (u1 *ℤ h1 +ℤ u2 *ℤ h2 +ℤ u3 *ℤ h3) *ℤ (w2 +ℤ neg_ℤ w1 +ℤ u3)
     ≡ u3 *ℤ ((u1 +ℤ u2 +ℤ u3) *ℤ h4 -ℤ ((u1 +ℤ w3 -ℤ w2) *ℤ h1 +ℤ (u2 +ℤ w1 -ℤ w3) *ℤ h2 +ℤ (u3 +ℤ w2 -ℤ w1) *ℤ h3))
@@ -113,6 +113,6 @@ lift_rises a b c d around above =
 pub measure_falls : MeasureFalls
 measure_falls a b c d ha hb hc hd old new above =
     falls (pos lift_limit *ℤ lift_under a b d -ℤ lift_over a b d) (lift_under a b d) (pos lift_limit *ℤ lift_under a b c -ℤ lift_over a b c) (lift_under a b c) (2 ^ 85)
-    (gap_nonneg a b d ha hb hd new) (under_positive a b d new) (gap_nonneg a b c ha hb hc old) (under_positive a b c old)
+    (difference_nonneg a b d ha hb hd new) (under_positive a b d new) (difference_nonneg a b c ha hb hc old) (under_positive a b c old)
     (under_limit a b d ha hb hd) (under_limit a b c ha hb hc)
     (closer (pos lift_limit) (lift_over a b c) (lift_under a b c) (lift_over a b d) (lift_under a b d) (lift_rises a b c d old above))

@@ -12,9 +12,9 @@ IsInGeneralPosition = (a b : DifferenceVector) → IsDifference a → IsDifferen
 abbrev pub HasOrigin : Type 0
 HasOrigin = (a b : DifferenceVector) → IsDifference a → IsDifference b → pos 0 <ℤ side a b → pos 0 ≤ℤ cross a b
 
--- a difference joins the triangle around the target instead of one corner
-abbrev pub SomeCornerLeaves : Type 0
-SomeCornerLeaves =
+-- a difference joins the triangle around the target instead of one vertex
+abbrev pub SomeVertexLeaves : Type 0
+SomeVertexLeaves =
     (a b c d : DifferenceVector) → IsDifference a → IsDifference b → IsDifference c → IsDifference d → IsAround a b c
     → IsAround a b d ⊎ (IsAround d b c ⊎ IsAround a d c)
 

@@ -1,5 +1,5 @@
 //! The laws of the walk to the best annulus, each the contract of a function that does nothing.
-ghost use Rattle.min_annulus.specs.Laws.{IsInGeneralPosition, HasOrigin, SomeCornerLeaves, MeasureFalls};
+ghost use Rattle.min_annulus.specs.Laws.{IsInGeneralPosition, HasOrigin, SomeVertexLeaves, MeasureFalls};
 
 /// No line through two different differences of points meets the target.
 pub fn target_is_in_general_position()
@@ -11,9 +11,9 @@ pub fn triangle_has_origin()
     ensures { HasOrigin }
 {}
 
-/// Another difference can replace a corner, so that the target stays inside.
-pub fn some_corner_leaves()
-    ensures { SomeCornerLeaves }
+/// Another difference can replace a vertex, so that the target stays inside.
+pub fn some_vertex_leaves()
+    ensures { SomeVertexLeaves }
 {}
 
 /// The measure falls at each exchange.

@@ -46,8 +46,8 @@ impl Triangle {
         }
     }
 
-    /// Takes a pair in for one of the three, so that the target stays inside. Going round, the sides of the corners to the new difference
-    /// change from right to left somewhere, since with the triangle's own sides as weights they sum to 0; the corner that is not at this
+    /// Takes a pair in for one of the three, so that the target stays inside. Going round, the sides of the vertices to the new difference
+    /// change from right to left somewhere, since with the triangle's own sides as weights they sum to 0; the vertex that is not at this
     /// change leaves.
     pub(crate) fn exchange(self, d: Pair) -> Triangle
         requires around { IsAroundTarget self }

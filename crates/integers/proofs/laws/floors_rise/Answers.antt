@@ -1,4 +1,4 @@
-use Rattle.integers.proofs.Gaps.{floor_rises}
+use Rattle.integers.proofs.LeastDifferences.{floor_rises}
 use Rattle.integers.proofs.laws.floors_rise.Goals as goal
 
 pub returns : goal.returns

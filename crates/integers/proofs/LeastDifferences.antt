@@ -9,8 +9,8 @@ use Rattle.integers.proofs.Order.{nonneg_mul, nonneg_add, nonneg_from_positive, 
 -- ---- over `ℕ`
 
 -- a / b + 1 / q² ≤ c / d, where a / b < c / d
-pub ratio_gap : (a b c d q : ℕ) → b ≤ q → d ≤ q → a * d < c * b → a * d * (q * q) + b * d ≤ c * b * (q * q)
-ratio_gap a b c d q hb hd h =
+pub ratio_difference : (a b c d q : ℕ) → b ≤ q → d ≤ q → a * d < c * b → a * d * (q * q) + b * d ≤ c * b * (q * q)
+ratio_difference a b c d q hb hd h =
     let small : b * d ≤ q * q = mul-le-mul hb hd in
     let more : suc (a * d) * (q * q) ≤ c * b * (q * q) = mul-le-mul_right (q * q) h in
     omega arith
@@ -21,7 +21,7 @@ floor_rises a b c d q pb pd hb hd h =
     let N = q * q in
     let A = a * N / b in
     let below : b * A ≤ a * N = mul-div-le (a * N) b in
-    le-div (suc A) (c * N) d pd (cut N A below (mul-le-mul_right d below) (ratio_gap a b c d q hb hd h))
+    le-div (suc A) (c * N) d pd (cut N A below (mul-le-mul_right d below) (ratio_difference a b c d q hb hd h))
   where
     cut : (N A : ℕ) → b * A ≤ a * N → b * A * d ≤ a * N * d → a * d * N + b * d ≤ c * b * N → suc A * d ≤ c * N
     cut N A l m g = le_of_mul-le-mul_right {k = b} (omega arith) pb
@@ -29,8 +29,8 @@ floor_rises a b c d q pb pd hb hd h =
 -- ---- over `ℤ`
 
 -- a / b + 1 / q² ≤ c / d, where a / b < c / d
-pub fraction_gap : (a b c d q : ℤ) → pos 0 <ℤ b → pos 0 <ℤ d → b ≤ℤ q → d ≤ℤ q → (a *ℤ d) <ℤ (c *ℤ b) → (a *ℤ d *ℤ (q *ℤ q) +ℤ b *ℤ d) ≤ℤ (c *ℤ b *ℤ (q *ℤ q))
-fraction_gap a b c d q pb pd hb hd h =
+pub fraction_difference : (a b c d q : ℤ) → pos 0 <ℤ b → pos 0 <ℤ d → b ≤ℤ q → d ≤ℤ q → (a *ℤ d) <ℤ (c *ℤ b) → (a *ℤ d *ℤ (q *ℤ q) +ℤ b *ℤ d) ≤ℤ (c *ℤ b *ℤ (q *ℤ q))
+fraction_difference a b c d q pb pd hb hd h =
     let small : (b *ℤ d) ≤ℤ (q *ℤ q) = mul_le_both (nonneg_from_positive pb) (nonneg_from_positive pd) hb hd in
     let one : pos 1 ≤ℤ (c *ℤ b -ℤ a *ℤ d) = at_least_one (positive_difference h) in
     let square : pos 0 ≤ℤ (q *ℤ q) = nonneg_mul (above pb hb) (above pb hb) in
@@ -42,14 +42,14 @@ fraction_gap a b c d q pb pd hb hd h =
     above p h = omega (arith, ints)
 
 -- fractions that are closer than 1 / q² in both directions are equal
-pub same_within_gap : (a b c d q : ℤ) → pos 0 <ℤ b → pos 0 <ℤ d → b ≤ℤ q → d ≤ℤ q
+pub same_within_difference : (a b c d q : ℤ) → pos 0 <ℤ b → pos 0 <ℤ d → b ≤ℤ q → d ≤ℤ q
     → (c *ℤ b *ℤ (q *ℤ q)) <ℤ (a *ℤ d *ℤ (q *ℤ q) +ℤ b *ℤ d)
     → (a *ℤ d *ℤ (q *ℤ q)) <ℤ (c *ℤ b *ℤ (q *ℤ q) +ℤ d *ℤ b)
     → a *ℤ d ≡ c *ℤ b
-same_within_gap a b c d q pb pd hb hd near_above near_below =
+same_within_difference a b c d q pb pd hb hd near_above near_below =
     by_lt_z (a *ℤ d) (c *ℤ b)
-    (λ less. absurd (clash (fraction_gap a b c d q pb pd hb hd less) near_above))
-    (λ at_least. by_lt_z (c *ℤ b) (a *ℤ d) (λ more. absurd (clash (fraction_gap c d a b q pd pb hd hb more) near_below)) (λ at_most. le_antisymm_ℤ at_most at_least))
+    (λ less. absurd (clash (fraction_difference a b c d q pb pd hb hd less) near_above))
+    (λ at_least. by_lt_z (c *ℤ b) (a *ℤ d) (λ more. absurd (clash (fraction_difference c d a b q pd pb hd hb more) near_below)) (λ at_most. le_antisymm_ℤ at_most at_least))
   where
     clash : {x y : ℤ} → x ≤ℤ y → y <ℤ x → ⊥
     clash h k = omega (arith, ints)
