@@ -1,0 +1,105 @@
+"""Refuses a program one allocation at a time, and judges how each run ends.
+
+    python3 bench/refused_allocations.py PROGRAM
+    python3 bench/refused_allocations.py --rows ROWS
+
+PROGRAM is `bounds`, and ROWS the program `rows`, each as `rt try --fail-alloc N` builds it, with `fail_alloc.c` linked in the place of
+the part that counts (docs/TESTING.md, "Memory"). PROGRAM runs over real files. ROWS runs the same rows over files and sinks that never
+fail.
+
+Each run has to end with status 6, no output and the line that says so, or as it ends with all memory. With ROWS it may also be the
+program `rows` that wants memory for its own table. Any other end is printed, and counts.
+"""
+
+import os
+import subprocess
+import sys
+import tempfile
+
+TRIANGLE = '0 0\n4 0\n0 3\n'
+CIRCLE = 'answer 1 circle\nsize 25/4\ncenter 4 3 2\nsupports 2\n2 1\n1 1\nend\n'
+# The words, the point file, and an answer file.
+ROWS = [
+    ('circle a', TRIANGLE, None),
+    ('rectangle a', '0 1\n1 0\n2 1\n1 2\n', None),
+    ('empty --box 0,0,4,4 a', '1 2\n', None),
+    ('kgon --k 3 a', '0 0\n2 0\n2 2\n0 2\n', None),
+    ('check --kind circle a b', TRIANGLE, CIRCLE),
+]
+OUT_OF_MEMORY = b'bounds: out of memory\n'
+# So many calls in a row that refusing changes nothing means that the run makes no more.
+QUIET = 40
+
+
+def run(program, words, folder, number):
+    """The status, output and error output of a run of which this allocation is refused."""
+    environment = {'FAIL_ALLOC': str(number)}
+    done = subprocess.run([program, *words], cwd=folder, env=environment, capture_output=True, check=False)
+    return done.returncode, done.stdout, done.stderr
+
+
+def count_ends(program, words, folder, is_refused):
+    """How many runs end for want of memory, how many as with all memory, and the others."""
+    whole = run(program, words, folder, 0)
+    if whole[0] != 0 or whole[1] == b'' or whole[1].endswith(b' 1 wrong\n'):
+        sys.exit(f'with all memory: {whole}')
+    refused, spared, others, quiet, number = 0, 0, [], 0, 0
+    while quiet < QUIET:
+        number += 1
+        end = run(program, words, folder, number)
+        quiet = quiet + 1 if end == whole else 0
+        if end == whole:
+            spared += 1
+        elif is_refused(end):
+            refused += 1
+        else:
+            others.append((number, end))
+    return refused, spared - QUIET, others
+
+
+def is_refused_run(end):
+    return end == (6, b'', OUT_OF_MEMORY)
+
+
+def is_refused_row(end):
+    """The row ended so, or the program `rows` had no memory for its table."""
+    status, output, errors = end
+    if status == 1:
+        return output == b'' and errors.startswith(b'Error: ')
+    return status == 0 and output.endswith(b' ends with status 6\n  out \n  told bounds: out of memory\\n\n1 rows, 1 wrong\n')
+
+
+def table(words, points, answer):
+    """A table of one row, over files and sinks that never fail."""
+    lines = ['row refused', 'words ' + words, 'over sure', 'file a ' + points.replace('\n', '\\n')]
+    if answer is None:
+        lines += ['begins answer 1 ' + words.split()[0] + '\\n']
+    else:
+        lines += ['file b ' + answer.replace('\n', '\\n'), 'out yes\\n']
+    return '\n'.join(lines) + '\n'
+
+
+def main():
+    over_rows = sys.argv[1] == '--rows'
+    program = os.path.abspath(sys.argv[2 if over_rows else 1])
+    wrong = 0
+    for words, points, answer in ROWS:
+        with tempfile.TemporaryDirectory() as folder:
+            files = {'a': points, 'b': answer, 'table': table(words, points, answer)}
+            for name, text in files.items():
+                if text is not None:
+                    with open(os.path.join(folder, name), 'w', encoding='ascii') as file:
+                        file.write(text)
+            if over_rows:
+                refused, spared, others = count_ends(program, ['table'], folder, is_refused_row)
+            else:
+                refused, spared, others = count_ends(program, words.split(), folder, is_refused_run)
+        print(f'{words}: {refused} refused, {spared} of no effect, {len(others)} wrong')
+        for number, end in others:
+            print(f'  allocation {number}: {end}')
+        wrong += len(others)
+    return 1 if wrong else 0
+
+
+if __name__ == '__main__':
+    sys.exit(main())
