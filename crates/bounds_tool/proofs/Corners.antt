@@ -1,5 +1,5 @@
 -- Too many corners as the cause of a run.
-use Rattle.std.proofs.Common.{◌≡◌, ◌⊎◌, inl, inr, sym, subst, ℕ, ◌<◌, Bool, List, Option, Some, None, Result, Ok, Err, IfSome}
+use Rattle.std.proofs.Common.{◌≡◌, refl, ◌⊎◌, inl, inr, sym, subst, ℕ, ◌<◌, Bool, List, Option, Some, None, Result, Ok, Err, IfSome}
 use Rattle.std.specs.Prelude.{IfErr, IsErrAnd}
 use Rattle.bounds_model.specs.Asks as model
 use Rattle.bounds_model.specs.Asks.{Sets, ask_kgon, plane}
@@ -16,6 +16,7 @@ use Rattle.bounds_tool.specs.Causes.{meant, unsolved}
 use Rattle.bounds_tool.specs.Judging.{points_in}
 use Rattle.bounds_tool.specs.Solving.{HasTooManyCorners, IsUnsolved}
 use Rattle.bounds_tool.specs.Run.{CornersCause, ComesOf}
+use Rattle.bounds_tool.proofs.OpenedFiles.{accepted}
 
 -- more than 128
 many : (ask : model.Ask) (sets : Sets) (count : ℕ) → HasTooManyCorners ask sets count → 128 < count
@@ -33,8 +34,8 @@ pub unsolved_file : (last : Option ℕ) (ask : Ask) (form : Form) (brief : Bool)
     → IfSome old.told (λ folder. points_in form (asked ask) (bytes_of folder file) ≡ Ok sets) → IsUnsolved ask sets fault
     → ComesOf last (solve_task (asked ask) form brief file) old new (meant (unsolved fault))
 unsolved_file last ask form brief file old new sets (TooManyCorners count) points h =
-    inr (many (asked ask) sets count h, where_read old.told form (asked ask) file sets (λ sets. HasTooManyCorners (asked ask) sets count) h points)
-unsolved_file last ask form brief file old new sets OutOfMemory points h = inl tt
+    inr (inl (many (asked ask) sets count h, where_read old.told form (asked ask) file sets (λ sets. HasTooManyCorners (asked ask) sets count) h points))
+unsolved_file last ask form brief file old new sets OutOfMemory points h = inr (inr (refl, accepted old.told (λ folder. points_in form (asked ask) (bytes_of folder file)) sets points))
 
 -- why points that were made were not
 pub unsolved_demo : (ask : Ask) (sets : Sets) (fault : KgonFault) → IsUnsolved ask sets fault → (meant (unsolved fault) ≡ out_of_memory) ⊎ CornersCause (asked ask) sets (meant (unsolved fault))

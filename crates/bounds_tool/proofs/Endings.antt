@@ -111,7 +111,8 @@ in_demo last ask seed count old new cause h = absurd h
 
 ending : (last : Option ℕ) (task : Task) (old new : FilesState) (cause : Cause) → ComesOf last task old new cause → Ending last task old new cause
 ending last (solve_task ask form brief file) old new cause (inl h) = in_points last (solve_task ask form brief file) form ask file old new cause (0, omega arith, refl) (solve_refused ask form brief file cause) h
-ending last (solve_task ask form brief file) old new cause (inr h) = by_corners (if_told old.told (λ folder c. corners_work folder ask form brief file cause c) h.1) (corners_status cause h.0)
+ending last (solve_task ask form brief file) old new cause (inr (inl h)) = by_corners (if_told old.told (λ folder c. corners_work folder ask form brief file cause c) h.1) (corners_status cause h.0)
+ending last (solve_task ask form brief file) old new cause (inr (inr h)) = by_memory (ap cause_status h.0)
 ending last (check_task ask form points answer) old new cause (inl h) = in_points last (check_task ask form points answer) form ask points old new cause (0, omega arith, refl) (check_refused ask form points answer cause) h
 ending last (check_task ask form points answer) old new cause (inr h) = in_answer last ask form points answer old new cause h.0 h.1
 ending last (demo_task ask seed count) old new cause (inl h) = by_memory (ap cause_status h)
@@ -129,7 +130,7 @@ pub data RunEnding (last : Option ℕ) (words : List (List ℕ)) (old new : File
 
 run_ending : (last : Option ℕ) (words : List (List ℕ)) (old new : FilesState) (cause : Cause) → TaskCause last words old new cause → RunEnding last words old new cause
 run_ending last words old new cause (inl h) = by_words h.0 h.1
-run_ending last words old new cause (inr (inl h)) = by_want h
+run_ending last words old new cause (inr (inl h)) = by_want h.0
 run_ending last words old new cause (inr (inr h)) = by_task h.0 h.1 (ending last h.0 old new cause h.2)
 
 -- ---- by its status

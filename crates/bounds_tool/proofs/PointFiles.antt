@@ -1,5 +1,5 @@
 -- What a point file reads as.
-use Rattle.std.proofs.Common.{◌≡◌, ◌∙◌, ap, ℕ, ◌≤◌, true, cond, List, length, nat_le, Option, Some, None, Result, Ok, Err, IfSome, arith}
+use Rattle.std.proofs.Common.{◌≡◌, refl, sym, ◌∙◌, ap, subst, ℕ, ◌≤◌, true, cond, List, length, nat_le, Option, Some, None, Result, Ok, Err, IfSome, arith}
 use Rattle.std.proofs.lemmas.Bool.Decides.{nat_tests}
 use Rattle.bounds_model.specs.Asks.{Ask, Sets}
 use Rattle.bounds_model.specs.PointText.{Refusal}
@@ -9,6 +9,7 @@ use Rattle.point_text.specs.declared.text.Form.{Form}
 use Rattle.point_text.specs.declared.text.TextFault.{TextFault}
 use Rattle.point_text.specs.declared.text.TextFault.TheVariants.{BadLine, OutOfRange, TooMany, NoPoints, WrongSets, OutOfMemory}
 use Rattle.point_text.specs.Files.{sets_of_file}
+use Rattle.point_text.specs.Keeping.{MayWantMemory}
 use Rattle.point_text.specs.Refusals.{refusal_of}
 use Rattle.bounds_tool.specs.Causes.{without_sets}
 use Rattle.bounds_tool.specs.Judging.{◌>>=◌, limit_of, points_in, read_points}
@@ -29,10 +30,15 @@ points_in-told form ask (Some folder) name bytes judged is h reads = ap (points_
 
 -- a text without its sets
 pub points_refused : (last : Option ℕ) (form : Form) (ask : Ask) (name bytes : List ℕ) (old new : FilesState) (fault : TextFault) → IfSome old.told (λ folder. bytes_of folder name ≡ bytes) → length bytes ≤ limit_of points_file
-    → IfSome (refusal_of fault) (λ refusal. sets_of_file form ask bytes ≡ Err refusal) → PointsCause last form ask name old new (without_sets (refusal_of fault))
-points_refused last form ask name bytes old new (BadLine line) is h reads = (tt, points_in-told form ask old.told name bytes _ is h reads)
-points_refused last form ask name bytes old new (OutOfRange line) is h reads = (tt, points_in-told form ask old.told name bytes _ is h reads)
-points_refused last form ask name bytes old new (TooMany line) is h reads = (tt, points_in-told form ask old.told name bytes _ is h reads)
-points_refused last form ask name bytes old new (NoPoints set) is h reads = (tt, points_in-told form ask old.told name bytes _ is h reads)
-points_refused last form ask name bytes old new (WrongSets count) is h reads = (tt, points_in-told form ask old.told name bytes _ is h reads)
-points_refused last form ask name bytes old new OutOfMemory is h reads = tt
+    → IfSome (refusal_of fault) (λ refusal. sets_of_file form ask bytes ≡ Err refusal) → (fault ≡ OutOfMemory → MayWantMemory form ask bytes)
+    → PointsCause last form ask name old new (without_sets (refusal_of fault))
+points_refused last form ask name bytes old new (BadLine line) is h reads wants = (tt, points_in-told form ask old.told name bytes _ is h reads)
+points_refused last form ask name bytes old new (OutOfRange line) is h reads wants = (tt, points_in-told form ask old.told name bytes _ is h reads)
+points_refused last form ask name bytes old new (TooMany line) is h reads wants = (tt, points_in-told form ask old.told name bytes _ is h reads)
+points_refused last form ask name bytes old new (NoPoints set) is h reads wants = (tt, points_in-told form ask old.told name bytes _ is h reads)
+points_refused last form ask name bytes old new (WrongSets count) is h reads wants = (tt, points_in-told form ask old.told name bytes _ is h reads)
+points_refused last form ask name bytes old new OutOfMemory is h reads wants = told old.told is
+  where
+    told : (told : Option Folder) → IfSome told (λ folder. bytes_of folder name ≡ bytes) → IfSome told (λ folder. MayWantMemory form ask (bytes_of folder name))
+    told None is = tt
+    told (Some folder) is = subst (MayWantMemory form ask) (sym is) (wants refl)

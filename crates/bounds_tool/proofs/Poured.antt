@@ -62,6 +62,15 @@ took_wanting first now told all rest piece after took keeps parts ask empty =
         let same : all ≡ (bytes ++ piece) ++ after = is ∙ (ap (λ ys. bytes ++ ys) parts ∙ sym (append_assoc bytes piece after)) in
         subst (λ ys. KeepsPoint ask ys) (sym same) (keeps ask bytes after stands)
 
+-- the same of a file that is named by its bytes
+pub kept_file : (first : Reader) (old middle : Option Folder) (name left : List ℕ) → middle ≡ old → IfSome middle (λ folder. left ≡ bytes_of folder name)
+    → ((ask : Ask) → StandsFor first ask [] → IfSome middle (λ _. KeepsPoint ask left)) → (ask : Ask) → StandsFor first ask [] → IfSome old (λ folder. KeepsPoint ask (bytes_of folder name))
+kept_file first old middle name left same starts keeps ask empty = subst (λ told. IfSome told (λ folder. KeepsPoint ask (bytes_of folder name))) same (named middle starts (keeps ask empty))
+  where
+    named : (told : Option Folder) → IfSome told (λ folder. left ≡ bytes_of folder name) → IfSome told (λ _. KeepsPoint ask left) → IfSome told (λ folder. KeepsPoint ask (bytes_of folder name))
+    named None starts kept = tt
+    named (Some folder) starts kept = subst (KeepsPoint ask) starts kept
+
 -- a file that is named by its bytes
 pub took_file : (first now : Reader) (old middle : Option Folder) (name left : List ℕ) → middle ≡ old → IfSome middle (λ folder. left ≡ bytes_of folder name)
     → ((ask : Ask) → StandsFor first ask [] → (bytes : List ℕ) × StandsFor now ask bytes × IfSome middle (λ _. bytes ≡ left))

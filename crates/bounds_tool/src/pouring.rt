@@ -2,7 +2,7 @@
 ghost use Rattle.std.specs.Prelude.{◌≡◌, ◌≢◌, ◌↔◌, ℕ, ◌+◌, ◌^◌, ◌<◌, ◌≤◌, max, List, [], ◌∷◌, length, IfSome, IfOk, IfErr, OnOk, OnErr, IsTrue, IsFalse, Ok, Err};
 ghost use Rattle.bounds_model.specs.Asks as asks;
 ghost use Rattle.bounds_model.specs.Asks.{Suits, IsValid};
-ghost use Rattle.bounds_model.specs.ErrorLines.{points_file};
+ghost use Rattle.bounds_model.specs.ErrorLines.{points_file, out_of_memory};
 ghost use Rattle.bounded_coords.specs.Asked.{asked};
 ghost use Rattle.bnd_io.specs.Files.{Continues, CountsNoOpen, NoFault, KeepsOpen, ReadFailed, IsWhole, bytes_of, grown};
 ghost use Rattle.bnd_io.specs.declared.loading.LoadFault.TheVariants as fault;
@@ -88,6 +88,8 @@ fn pour_file<F: Files>(reader: &mut Reader, name: &str, files: &mut F) -> Result
     ensures to_its_end { OnOk result (IsReadToEnd name.now (F.state files.new)) }
     ensures most { (F.state files.new).taken ≤ max (F.state files.old).taken (limit_of points_file + 1) }
     ensures cause { IfErr result (λ cause. FileCause F.last_count points_file name.now (F.state files.old) (F.state files.new) (meant cause)) }
+    ensures kept { IfErr result (λ cause. meant cause ≡ out_of_memory → (ask : asks.Ask) → StandsFor reader.old ask [] →
+        IfSome (F.state files.old).told (λ folder. KeepsPoint ask (bytes_of folder name.now))) }
 {
     if files.open(name).is_err() {
         return Err(Cause::NotOpened(InputFile::Points));

@@ -36,3 +36,7 @@ returns-clause-reads g c =
       accepted old.told (λ folder. points_in c.args.form (asked c.args.ask.now) (bytes_of folder c.args.points.now)) c.in_ok-sets.sets c.in_ok-sets.ensures.points,
       reads_both c.args.points.now c.args.answer.now (most_of points_file) (most_of answer_file) old middle (g.F.Files.state c.read_answer.new.files) c.in_ok-sets.ensures.reads c.in_ok-answer.ensures.reads,
     )
+
+pub returns-clause-cause : goal.returns-clause-cause
+returns-clause-cause g c =
+    inr (accepted (g.F.Files.state c.args.files.now).told (λ folder. points_in c.args.form (asked c.args.ask.now) (bytes_of folder c.args.points.now)) c.in_ok-sets.sets c.in_ok-sets.ensures.points, tt)

@@ -1,14 +1,17 @@
-use Rattle.std.proofs.Common.{◌≡◌, ◌∙◌, ap, sym, subst, ℕ, ◌+◌, ◌*◌, ◌≤◌}
+use Rattle.std.proofs.Common.{◌≡◌, refl, inr, ◌∙◌, ap, sym, subst, ℕ, ◌+◌, ◌*◌, ◌≤◌}
 use Rattle.bounds_model.specs.Asks.{ask_centres}
 use Rattle.bounds_model.specs.Answers.{Passes, IsBest}
 use Rattle.bounds_model.specs.AnswerText.SpelledParts.{size_line}
 use Rattle.bounded_coords.specs.Asked.{asked}
 use Rattle.answers.specs.Answers.{answer_of}
+use Rattle.bnd_io.specs.Files.{bytes_of}
 use Rattle.command_line.specs.Words.{solve_task}
 use Rattle.bounds_tool.specs.Causes.{meant}
 use Rattle.bounds_tool.specs.Solving.{point_count, AreTooMany, IsUnsolved}
 use Rattle.bounds_tool.specs.Outputs.{IsDone}
 use Rattle.bounds_tool.specs.Run.{ComesOf, TaskOutput}
+use Rattle.bounds_tool.specs.Judging.{points_in}
+use Rattle.bounds_tool.proofs.OpenedFiles.{accepted}
 use Rattle.bounds_tool.proofs.Corners.{unsolved_file, if_unsolved}
 use Rattle.bounds_tool.proofs.StepCounts.{file_steps}
 use Rattle.bounds_tool.proofs.PassingRanges.{KeepsRanges-passes}
@@ -75,3 +78,11 @@ returns-clause-steps g c =
     let ask = asked c.args.ask.now in
     file_steps ask c.args.form c.args.brief c.args.file.now (g.F.Files.state c.args.files.now) c.in_ok-sets.sets c.args.steps.now c.solve.new.steps c.in_ok-sets.ensures.points
     (subst (λ sets. (p : ℕ) → ask ≡ ask_centres p → c.solve.new.steps ≤ c.args.steps.now + 1000 * point_count sets) c.view.ensures c.in_ok-answer.ensures.cost)
+
+pub returns-in_default-clause-cause : goal.returns-in_default-clause-cause
+returns-in_default-clause-cause g c =
+    inr (inr (refl, accepted (g.F.Files.state c.args.files.now).told (λ folder. points_in c.args.form (asked c.args.ask.now) (bytes_of folder c.args.file.now)) c.in_ok-sets.sets c.in_ok-sets.ensures.points))
+
+pub returns-clause-cause : goal.returns-clause-cause
+returns-clause-cause g c =
+    inr (inr (refl, accepted (g.F.Files.state c.args.files.now).told (λ folder. points_in c.args.form (asked c.args.ask.now) (bytes_of folder c.args.file.now)) c.in_ok-sets.sets c.in_ok-sets.ensures.points))

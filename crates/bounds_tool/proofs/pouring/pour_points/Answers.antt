@@ -28,4 +28,4 @@ returns-in-Err-clause-cause g c =
     let took = c.in_ok-pour_file.ensures.stands ask c.new-reader.ensures.stands in
     let short : length took.0 ≤ limit_of points_file = subst (λ n. n ≤ limit_of points_file) took.1.taken c.in_ok-pour_file.ensures.within in
     subst (λ cause. PointsCause g.F.Files.last_count Text ask c.args.name.now old new cause) (sym c.from.ensures)
-    (points_refused g.F.Files.last_count Text ask c.args.name.now took.0 old new c.in-Err.fault took.2 short (c.in-Err.ensures.sets ask took.0 took.1))
+    (points_refused g.F.Files.last_count Text ask c.args.name.now took.0 old new c.in-Err.fault took.2 short (c.in-Err.ensures.sets ask took.0 took.1) (λ wants. c.in-Err.ensures.memory wants ask took.0 took.1))
