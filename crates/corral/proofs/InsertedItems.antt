@@ -49,7 +49,7 @@ pub record Placed (item : WeightedVector) (items : List WeightedVector) (vectors
   pub inserted : IsInserted item items more
   pub is_part : IsPart (support_vectors more) vectors
 
--- a vector of the list that none of the items has can be put in its insert among them
+-- a vector of the list that none of the items has can be inserted among them
 pub insert : (P : SpacePoint → Type 0) (weight : ℤ) {v : SpacePoint} {rest vectors : List SpacePoint} → IsInserted v rest vectors → P v → (items : List WeightedVector) → IsPart (support_vectors items) vectors → All (λ item. ¬ P item.vector) items
     → Placed (record { weight = weight; vector = v }) items vectors
 insert P weight (first {x} {rest}) p items is_part other = go (begins x rest items is_part)

@@ -21,7 +21,7 @@ nearer quadratic dim old found a b flag h k below =
     (supports_bounded quadratic dim (weight_limit quadratic dim) found k.supports k.limit k.differences) below
 
 -- where an item of least slack is not low, none is
-pub none_lower : (quadratic : ℤ) (items : List WeightedVector) (least_item v : SpacePoint) → slack quadratic items least_item ≤ℤ slack quadratic items v → ¬ IsLow quadratic items lowest → ¬ IsLow quadratic items v
+pub none_lower : (quadratic : ℤ) (items : List WeightedVector) (least_item v : SpacePoint) → slack quadratic items least_item ≤ℤ slack quadratic items v → ¬ IsLow quadratic items least_item → ¬ IsLow quadratic items v
 none_lower quadratic items least_item v least not_low low = not_low (λ k d l. below least (low k d l))
   where
     below : {a b c : ℤ} → a ≤ℤ b → b <ℤ c → a <ℤ c

@@ -110,7 +110,7 @@ module _ (Q : List SpacePoint → List ℤ → Type 0) (quadratic : ℤ) (vector
       let scaled = scaled_items step.k items in
       let same = vectors-scaled step.k items in
       let own = none_of_own supports in
-      let placed = place (IsLow quadratic items) (pos 1) at low scaled
+      let placed = insert (IsLow quadratic items) (pos 1) at low scaled
       (subst (λ vs. IsPart vs vectors) (sym (same ∙ vectors-weighted best.weights best.part best.balanced.as_many)) best.is_part)
       (all_vectors (λ v. ¬ IsLow quadratic items v) scaled (subst (All (λ v. ¬ IsLow quadratic items v)) (sym same) (All-map (λ v. ¬ IsLow quadratic items v) (λ item. item.vector) items own))) in
       let weights = all_inserted (λ (item : WeightedVector). pos 1 ≤ℤ item.weight) placed.inserted (omega (arith, ints)) (weights-scaled step.k step.at_least_one items supports.weights) in
