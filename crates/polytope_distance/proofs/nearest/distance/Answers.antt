@@ -20,14 +20,14 @@ size-requires-clause-not_below c =
     let support = c.settle-support.result in
     not_below
     (determined_by Space c.args.p c.args.q (items_of support) (supports_of support) c.sums_over-sums.result c.first.result.now c.second.result.now
-    found.items found.determined found.supports found.limit found.none_low c.sums_over-sums.ensures.sums c.first.ensures c.second.ensures)
+    found.items found.members found.supports found.limit found.none_low c.sums_over-sums.ensures.sums c.first.ensures c.second.ensures)
 
 pub returns : goal.returns
 returns c =
     let found = c.settle-support.ensures in
     let support = c.settle-support.result in
     let determined = determined_by Space c.args.p c.args.q (items_of support) (supports_of support) c.sums_over-sums.result c.first.result.now c.second.result.now
-    found.items found.determined found.supports found.limit found.none_low c.sums_over-sums.ensures.sums c.first.ensures c.second.ensures in
+    found.items found.members found.supports found.limit found.none_low c.sums_over-sums.ensures.sums c.first.ensures c.second.ensures in
     let answer : DistanceAnswer = record { size = c.size.result; from = c.first_mean.result; to = c.second_mean.result; direction = space_vector_of c.direction.result; pairs = weighted_pairs support } in
     subst (λ pairs. PassesDistance (points_of c.args.p) (points_of c.args.q) (record answer { pairs = pairs })) (sym c.listed.ensures)
     (passes answer c.args.p.limited c.args.q.limited determined c.size.ensures.lowest c.size.ensures.value c.first_mean.ensures.lowest c.first_mean.ensures.place c.second_mean.ensures.lowest c.second_mean.ensures.place
