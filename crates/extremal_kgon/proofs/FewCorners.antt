@@ -15,4 +15,4 @@ pub few_corners : (k : ℕ) (points : List PlanePoint) (a : KgonAnswer) → Pass
 few_corners k points a passes many =
     let hull = many.1 in
     not_both (length a.corners) (length (corner_points points a)) (length hull.corners) many.0 (length-map a.corners (point_at points))
-    (ap length (one_list_of_corners points (corner_points points a) hull.corners (passing_kgon k points a passes) hull.are_corners)) hull.as_many passes.places.corner_count.at_most hull.too_many
+    (ap length (one_list_of_corners points (corner_points points a) hull.corners (passing_kgon k points a passes) hull.are_corners)) hull.as_many passes.ranges.corner_count.at_most hull.too_many
