@@ -7,15 +7,15 @@ use Rattle.point_text.specs.declared.text.Form.{Form}
 use Rattle.bnd_io.specs.Files.{Folder, FilesState, bytes_of}
 use Rattle.command_line.specs.Words.{Task, solve_task, check_task, demo_task, task_of}
 use Rattle.bounds_tool.specs.declared.status.Status.{Status}
-use Rattle.bounds_tool.specs.declared.status.Status.TheVariants.{Usage, Input, Read, Memory}
+use Rattle.bounds_tool.specs.declared.status.Status.TheVariants.{Done, Usage, Input, Read, Memory}
 use Rattle.bounds_tool.specs.Judging.{Work, solving, sizing, checking, demonstrating, wanted, ◌>>=◌, points_in, answer_in, work_of, judge_task, judge}
 use Rattle.bounds_tool.specs.Outputs as outputs
-use Rattle.bounds_tool.specs.Outputs.{IsMeantAs, IsOutput}
-use Rattle.bnd_io.specs.Sinks.{SinkState, AppendedPrefix}
+use Rattle.bounds_tool.specs.Outputs.{IsDone, IsMeantAs, IsOutput}
+use Rattle.bnd_io.specs.Sinks.{SinkState, Appended, AppendedPrefix}
 use Rattle.bounds_tool.specs.declared.output.Output.{Output}
 use Rattle.bounds_tool.specs.declared.output.Output.TheVariants.{Solution, Size, Verdict, Demonstration}
 use Rattle.bounds_tool.specs.Solving.{AreTooMany}
-use Rattle.bounds_tool.specs.Run.{MayEnd, IsTooMuch, IsOfCorners, CornersCause, OutputBy, IsRefusal, OpenFault, ReadFault, TaskFault, RefusesPoints, RefusesAnswer, PointsCause, AnswerCause, PointsAccepted, ComesOf, TaskCause, WrotePrefix, files_of, cause_status}
+use Rattle.bounds_tool.specs.Run.{MayEnd, IsTooMuch, IsOfCorners, CornersCause, OutputBy, IsRefusal, OpenFault, ReadFault, TaskFault, RefusesPoints, RefusesAnswer, PointsCause, AnswerCause, PointsAccepted, ComesOf, TaskCause, Wrote, WrotePrefix, files_of, cause_status}
 
 -- ---- by its causes
 
@@ -253,3 +253,17 @@ pub wrote_prefix : (words : List (List ℕ)) (old : FilesState) (output : Output
     → OutputBy (IsMeantAs output) words old (outputs.bytes_of output) → AppendedPrefix before now slice → WrotePrefix words old before now
 wrote_prefix words old output before now slice is made prefix =
     if_told old.told (λ folder h. (h.0, outputs.bytes_of output, h.1, is_output output h.0 (outputs.bytes_of output) h.2, subst (AppendedPrefix before now) is prefix)) made
+
+-- what an output is meant as is done, where its status says so
+is_done : (output : Output) (work : Work) (bytes : List ℕ) → outputs.status_of output ≡ Done → IsMeantAs output work bytes → IsDone work bytes
+is_done (Solution text) work bytes done h = h
+is_done (Size text) work bytes done h = h
+is_done (Verdict true) work bytes done h = h
+is_done (Verdict false) work bytes done h = absurd cc
+is_done (Demonstration text) work bytes done h = h
+
+-- the whole output of a work that is done was written
+pub wrote_done : (words : List (List ℕ)) (old : FilesState) (output : Output) (before now : SinkState) (slice : List ℕ) (status : Status) → slice ≡ outputs.bytes_of output
+    → OutputBy (IsMeantAs output) words old (outputs.bytes_of output) → Appended before now slice → status ≡ outputs.status_of output → status ≡ Done → Wrote IsDone words old before now
+wrote_done words old output before now slice status is made all ends done =
+    if_told old.told (λ folder h. (h.0, outputs.bytes_of output, h.1, is_done output h.0 (outputs.bytes_of output) (sym ends ∙ done) h.2, subst (Appended before now) is all)) made

@@ -1,7 +1,7 @@
 use Rattle.std.proofs.Common.{◌∙◌, sym}
 use Rattle.bounds_tool.specs.Causes.{meant}
 use Rattle.bounds_tool.specs.Run.{texts}
-use Rattle.bounds_tool.proofs.Endings.{IsRefusal-cause, TaskFault-cause, MayEnd-cause, MayEnd-output, wrote_prefix}
+use Rattle.bounds_tool.proofs.Endings.{IsRefusal-cause, TaskFault-cause, MayEnd-cause, MayEnd-output, wrote_prefix, wrote_done}
 use Rattle.command_line.specs.Words.{task_of}
 use Rattle.bounds_tool.proofs.OpenedFiles.{continues_of}
 use Rattle.bounds_tool.proofs.command.run.Goals as goal
@@ -34,3 +34,8 @@ returns-in-Ok-clause-continues g c = continues_of (task_of (texts c.args.words.n
 
 pub returns-clause-continues : goal.returns-clause-continues
 returns-clause-continues g c = continues_of (task_of (texts c.args.words.now)) (g.F.Files.state c.args.files.now) (g.F.Files.state c.output.new.files) c.in-Err.ensures.reads
+
+pub returns-in-Ok-write_all-clause-done : goal.returns-in-Ok-write_all-clause-done
+returns-in-Ok-write_all-clause-done g c = λ e.
+    wrote_done (texts c.args.words.now) (g.F.Files.state c.args.files.now) c.in-Ok.output (g.O.Sink.state c.args.out.now) (g.O.Sink.state c.write_all.new.out) c.as_slice.result.now c.status.result
+    c.as_slice.ensures c.in-Ok.ensures.output c.in-Ok-write_all.ensures.written c.status.ensures e
