@@ -1,4 +1,4 @@
-use Rattle.std.proofs.Common.{◌∙◌, sym}
+use Rattle.std.proofs.Common.{◌∙◌, inl, sym}
 use Rattle.bounds_tool.specs.Causes.{meant}
 use Rattle.bounds_tool.specs.Run.{texts}
 use Rattle.bounds_tool.proofs.Endings.{IsRefusal-cause, TaskFault-cause, MayEnd-cause, MayEnd-output, wrote_prefix, wrote_done}
@@ -39,3 +39,11 @@ pub returns-in-Ok-write_all-clause-done : goal.returns-in-Ok-write_all-clause-do
 returns-in-Ok-write_all-clause-done g c = λ e.
     wrote_done (texts c.args.words.now) (g.F.Files.state c.args.files.now) c.in-Ok.output (g.O.Sink.state c.args.out.now) (g.O.Sink.state c.write_all.new.out) c.as_slice.result.now c.status.result
     c.as_slice.ensures c.in-Ok.ensures.output c.in-Ok-write_all.ensures.written c.status.ensures e
+
+pub returns-clause-told : goal.returns-clause-told
+returns-clause-told g c = λ not_done not_no. record {
+  cause = meant c.in-Err.cause;
+  ends = sym c.give_up-in-Err.ensures.status;
+  comes = inl c.in-Err.ensures.cause;
+  told = c.give_up-in-Err.ensures.told;
+}
