@@ -11,6 +11,7 @@ use Rattle.integers.specs.Size.{Size}
 use Rattle.integers.specs.Extremes.{greatest, least}
 use Rattle.integers.proofs.MaxMin.{left-le-max, right-le-max, min-le-left, min-le-right, max_keeps, max_takes, min_keeps, min_takes, pick_max, pick_min}
 use Rattle.integers.proofs.Order.{le_trans_ℤ, le_antisymm_ℤ}
+use Rattle.integers.proofs.Lists.{Contains-head}
 
 same_le : (a : ℤ) → a ≤ℤ a
 same_le a = omega (arith, ints)
@@ -57,9 +58,6 @@ above_least f (x ∷ s) =
 abbrev pub Reaches : {A : Type 0} → (A → ℤ) → List A → ℤ → A → Type 0
 Reaches f s r x = Contains s x × (r ≡ f x)
 
-here : {A : Type 0} (x : A) (s : List A) → Contains (x ∷ s) x
-here x s = (0, omega arith, refl)
-
 there : {A : Type 0} {y : A} (x : A) (s : List A) → Contains s y → Contains (x ∷ s) y
 there x s h = (suc h.0, more h.1, h.2)
   where
@@ -70,7 +68,7 @@ reached_max : {A : Type 0} (f : A → ℤ) (a : ℤ) (s : List A) → (fold int_
 reached_max f a [] = inl refl
 reached_max f a (x ∷ s) =
     elim (reached_max f (int_max a (f x)) s) [
-      | inl e ↦ elim (pick_max a (f x)) [ inl g ↦ inl (e ∙ g) | inr g ↦ inr (x, (here x s, e ∙ g)) ]
+      | inl e ↦ elim (pick_max a (f x)) [ inl g ↦ inl (e ∙ g) | inr g ↦ inr (x, (Contains-head x s, e ∙ g)) ]
       | inr r ↦ inr (r.0, (there x s r.1.0, r.1.1))
     ]
 
@@ -78,7 +76,7 @@ reached_min : {A : Type 0} (f : A → ℤ) (a : ℤ) (s : List A) → (fold int_
 reached_min f a [] = inl refl
 reached_min f a (x ∷ s) =
     elim (reached_min f (int_min a (f x)) s) [
-      | inl e ↦ elim (pick_min a (f x)) [ inl g ↦ inl (e ∙ g) | inr g ↦ inr (x, (here x s, e ∙ g)) ]
+      | inl e ↦ elim (pick_min a (f x)) [ inl g ↦ inl (e ∙ g) | inr g ↦ inr (x, (Contains-head x s, e ∙ g)) ]
       | inr r ↦ inr (r.0, (there x s r.1.0, r.1.1))
     ]
 
@@ -86,13 +84,13 @@ reached_min f a (x ∷ s) =
 pub has_greatest : {A : Type 0} (f : A → ℤ) (s : List A) → 0 < length s → (x : A) × Contains s x × (greatest f s ≡ f x)
 has_greatest f [] h = absurd (omega arith)
 has_greatest f (x ∷ s) h =
-    elim (reached_max f (f x) s) [ inl e ↦ (x, here x s, e) | inr r ↦ (r.0, there x s r.1.0, r.1.1) ]
+    elim (reached_max f (f x) s) [ inl e ↦ (x, Contains-head x s, e) | inr r ↦ (r.0, there x s r.1.0, r.1.1) ]
 
 -- an element of a list that is not empty has the least value
 pub has_least : {A : Type 0} (f : A → ℤ) (s : List A) → 0 < length s → (x : A) × Contains s x × (least f s ≡ f x)
 has_least f [] h = absurd (omega arith)
 has_least f (x ∷ s) h =
-    elim (reached_min f (f x) s) [ inl e ↦ (x, here x s, e) | inr r ↦ (r.0, there x s r.1.0, r.1.1) ]
+    elim (reached_min f (f x) s) [ inl e ↦ (x, Contains-head x s, e) | inr r ↦ (r.0, there x s r.1.0, r.1.1) ]
 
 -- the same, in the word for `some element`
 pub greatest_reached : {A : Type 0} (f : A → ℤ) (s : List A) → 0 < length s → Any (λ x. greatest f s ≡ f x) s

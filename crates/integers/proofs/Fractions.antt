@@ -3,7 +3,7 @@ use Rattle.std.proofs.Common.{◌≡◌, ℕ, ◌*◌, ◌≤◌, ◌<◌, ◌�
 use Rattle.std.proofs.lemmas.Int.{ints, by_lt_z}
 use Rattle.std.proofs.Math.Nat.{eq_of_mul-eq-mul_right}
 use Rattle.integers.proofs.Identities.{den-ring, read, polys, lits}
-use Rattle.integers.proofs.Order.{nonneg_mul, nonneg_add, positive_mul, positive_add, nonneg_from_positive, le_by, lt_by, le_of_mul_le, lt_of_mul_lt, same_of_mul, nonneg_difference, positive_difference, combine1, combine2}
+use Rattle.integers.proofs.Order.{nonneg_mul, nonneg_add, positive_mul, positive_add, le_from_lt, le_by, lt_by, le_of_mul_le, lt_of_mul_lt, same_of_mul, nonneg_difference, positive_difference, combine1, combine2}
 
 -- ---- over `ℤ`: chains
 
@@ -12,7 +12,7 @@ pub fraction_le_trans : (a b c d e f : ℤ) → pos 0 <ℤ b → pos 0 <ℤ d �
 fraction_le_trans a b c d e f hb hd hf h k =
     le_of_mul_le d hd
     (le_by
-    (nonneg_add (nonneg_mul (nonneg_from_positive hf) (nonneg_difference h)) (nonneg_mul (nonneg_from_positive hb) (nonneg_difference k)))
+    (nonneg_add (nonneg_mul (le_from_lt hf) (nonneg_difference h)) (nonneg_mul (le_from_lt hb) (nonneg_difference k)))
     (read (a ∷ b ∷ c ∷ d ∷ e ∷ f ∷ []) (λ xs p q r s t u. simp (p, q, r, s, t, u, polys) (den-ring xs _ _ tt))))
 
 -- a / b < c / d ≤ e / f
@@ -20,7 +20,7 @@ pub fraction_lt_le_trans : (a b c d e f : ℤ) → pos 0 <ℤ b → pos 0 <ℤ d
 fraction_lt_le_trans a b c d e f hb hd hf h k =
     lt_of_mul_lt d hd
     (lt_by
-    (positive_add (positive_mul hf (positive_difference h)) (nonneg_mul (nonneg_from_positive hb) (nonneg_difference k)))
+    (positive_add (positive_mul hf (positive_difference h)) (nonneg_mul (le_from_lt hb) (nonneg_difference k)))
     (read (a ∷ b ∷ c ∷ d ∷ e ∷ f ∷ []) (λ xs p q r s t u. simp (p, q, r, s, t, u, polys) (den-ring xs _ _ tt))))
 
 -- a / b ≤ c / d < e / f
@@ -28,7 +28,7 @@ pub fraction_le_lt_trans : (a b c d e f : ℤ) → pos 0 <ℤ b → pos 0 <ℤ d
 fraction_le_lt_trans a b c d e f hb hd hf h k =
     lt_of_mul_lt d hd
     (lt_by
-    (positive_add (positive_mul hb (positive_difference k)) (nonneg_mul (nonneg_from_positive hf) (nonneg_difference h)))
+    (positive_add (positive_mul hb (positive_difference k)) (nonneg_mul (le_from_lt hf) (nonneg_difference h)))
     (read (a ∷ b ∷ c ∷ d ∷ e ∷ f ∷ []) (λ xs p q r s t u. simp (p, q, r, s, t, u, polys) (den-ring xs _ _ tt))))
 
 -- a / b = c / d = e / f
@@ -46,7 +46,7 @@ fraction_total a b c d = by_lt_z (a *ℤ d) (c *ℤ b) (λ h. inl (omega (arith,
 -- (k a) / (k b) ≤ c / d from a / b ≤ c / d
 pub fraction_scale : (k a b c d : ℤ) → pos 0 <ℤ k → (a *ℤ d) ≤ℤ (c *ℤ b) → ((k *ℤ a) *ℤ d) ≤ℤ (c *ℤ (k *ℤ b))
 fraction_scale k a b c d hk h =
-    le_by (nonneg_mul (nonneg_from_positive hk) (nonneg_difference h)) (read (k ∷ a ∷ b ∷ c ∷ d ∷ []) (λ xs p q r s t. simp (p, q, r, s, t, polys) (den-ring xs _ _ tt)))
+    le_by (nonneg_mul (le_from_lt hk) (nonneg_difference h)) (read (k ∷ a ∷ b ∷ c ∷ d ∷ []) (λ xs p q r s t. simp (p, q, r, s, t, polys) (den-ring xs _ _ tt)))
 
 -- and back
 pub fraction_unscale : (k a b c d : ℤ) → pos 0 <ℤ k → ((k *ℤ a) *ℤ d) ≤ℤ (c *ℤ (k *ℤ b)) → (a *ℤ d) ≤ℤ (c *ℤ b)
@@ -58,14 +58,14 @@ fraction_unscale k a b c d hk h =
 pub fraction_equal : (a b e f c d : ℤ) → pos 0 <ℤ b → pos 0 <ℤ f → a *ℤ f ≡ e *ℤ b → (a *ℤ d) ≤ℤ (c *ℤ b) → (e *ℤ d) ≤ℤ (c *ℤ f)
 fraction_equal a b e f c d hb hf q h =
     le_of_mul_le b hb
-    (le_by (nonneg_mul (nonneg_from_positive hf) (nonneg_difference h))
+    (le_by (nonneg_mul (le_from_lt hf) (nonneg_difference h))
     (combine1 d q (read (a ∷ b ∷ c ∷ d ∷ e ∷ f ∷ []) (λ xs p q r s t u. simp (p, q, r, s, t, u, polys) (den-ring xs _ _ tt)))))
 
 -- c / d ≤ e / f from c / d ≤ a / b, where a / b = e / f
 pub fraction_equal_right : (a b e f c d : ℤ) → pos 0 <ℤ b → pos 0 <ℤ f → a *ℤ f ≡ e *ℤ b → (c *ℤ b) ≤ℤ (a *ℤ d) → (c *ℤ f) ≤ℤ (e *ℤ d)
 fraction_equal_right a b e f c d hb hf q h =
     le_of_mul_le b hb
-    (le_by (nonneg_mul (nonneg_from_positive hf) (nonneg_difference h))
+    (le_by (nonneg_mul (le_from_lt hf) (nonneg_difference h))
     (combine1 (pos 0 -ℤ d) q (read (a ∷ b ∷ c ∷ d ∷ e ∷ f ∷ []) (λ xs p q r s t u. simp (p, q, r, s, t, u, polys, lits xs) (den-ring xs _ _ tt)))))
 
 -- ---- over `ℤ`: sums
@@ -73,7 +73,7 @@ fraction_equal_right a b e f c d hb hf q h =
 -- a / b + e / f ≤ c / d + e / f
 pub fraction_add : (a b c d e f : ℤ) → pos 0 <ℤ f → (a *ℤ d) ≤ℤ (c *ℤ b) → ((a *ℤ f +ℤ e *ℤ b) *ℤ (d *ℤ f)) ≤ℤ ((c *ℤ f +ℤ e *ℤ d) *ℤ (b *ℤ f))
 fraction_add a b c d e f hf h =
-    le_by (nonneg_mul (nonneg_mul (nonneg_from_positive hf) (nonneg_from_positive hf)) (nonneg_difference h))
+    le_by (nonneg_mul (nonneg_mul (le_from_lt hf) (le_from_lt hf)) (nonneg_difference h))
     (read (a ∷ b ∷ c ∷ d ∷ e ∷ f ∷ []) (λ xs p q r s t u. simp (p, q, r, s, t, u, polys) (den-ring xs _ _ tt)))
 
 -- a / b ≤ (a + c) / (b + d), where a / b ≤ c / d

@@ -60,7 +60,8 @@ abbrev pub Read : List ℤ → ℕ → List ℤ → Type 0 → Type 0
 Read [] i xs P = P
 Read (v ∷ vs) i xs P = v ≡ den xs (var i) → Read vs (suc i) xs P
 
-abbrev at : List ℤ → ℕ → List ℤ → Type 0
+-- each number of vs stands in xs, the first of them at i
+abbrev pub at : List ℤ → ℕ → List ℤ → Type 0
 at [] i xs = Unit {0}
 at (v ∷ vs) i xs = (v ≡ nth xs i) × at vs (suc i) xs
 
@@ -68,7 +69,8 @@ at-more : (v : ℤ) (us xs : List ℤ) (i : ℕ) → at us i xs → at us (suc i
 at-more v [] xs i h = tt
 at-more v (u ∷ us) xs i h = (h.0, at-more v us xs (suc i) h.1)
 
-at_all : (vs : List ℤ) → at vs 0 vs
+-- each number of a list stands where it does
+pub at_all : (vs : List ℤ) → at vs 0 vs
 at_all [] = tt
 at_all (v ∷ vs) = (refl, at-more v vs vs 0 (at_all vs))
 

@@ -1,10 +1,10 @@
 -- Fractions with small denominators lie apart: two that differ, with denominators of at most q, differ by at least 1 / q².
-use Rattle.std.proofs.Common.{◌≡◌, ℕ, suc, ◌+◌, ◌*◌, ◌/◌, ◌≤◌, ◌<◌, ℤ, pos, ◌+ℤ◌, ◌-ℤ◌, ◌*ℤ◌, ◌≤ℤ◌, ◌<ℤ◌, arith, [], ◌∷◌, le_of_mul-le-mul_right, mul-le-mul_right, mul-le-mul}
+use Rattle.std.proofs.Common.{◌≡◌, ℕ, suc, ◌+◌, ◌*◌, ◌/◌, ◌≤◌, ◌<◌, ℤ, pos, negsuc, nat_abs, ◌+ℤ◌, ◌-ℤ◌, ◌*ℤ◌, ◌≤ℤ◌, ◌<ℤ◌, arith, [], ◌∷◌, le_of_mul-le-mul_right, mul-le-mul_right, mul-le-mul}
 use Rattle.std.proofs.lemmas.Int.{ints, by_lt_z}
 use Rattle.std.proofs.lemmas.Nat.{le-div}
 use Rattle.std.proofs.Math.Nat.{mul-div-le}
 use Rattle.integers.proofs.Identities.{den-ring, read, polys, below_lits}
-use Rattle.integers.proofs.Order.{nonneg_mul, nonneg_add, nonneg_from_positive, le_by, mul_le_both, nonneg_difference, positive_difference, at_least_one, le_antisymm_ℤ}
+use Rattle.integers.proofs.Order.{nonneg_mul, nonneg_add, le_from_lt, le_by, mul_le_both, nonneg_difference, positive_difference, at_least_one, le_antisymm_ℤ, lt_by}
 
 -- ---- over `ℕ`
 
@@ -31,7 +31,7 @@ floor_rises a b c d q pb pd hb hd h =
 -- a / b + 1 / q² ≤ c / d, where a / b < c / d
 pub fraction_difference : (a b c d q : ℤ) → pos 0 <ℤ b → pos 0 <ℤ d → b ≤ℤ q → d ≤ℤ q → (a *ℤ d) <ℤ (c *ℤ b) → (a *ℤ d *ℤ (q *ℤ q) +ℤ b *ℤ d) ≤ℤ (c *ℤ b *ℤ (q *ℤ q))
 fraction_difference a b c d q pb pd hb hd h =
-    let small : (b *ℤ d) ≤ℤ (q *ℤ q) = mul_le_both (nonneg_from_positive pb) (nonneg_from_positive pd) hb hd in
+    let small : (b *ℤ d) ≤ℤ (q *ℤ q) = mul_le_both (le_from_lt pb) (le_from_lt pd) hb hd in
     let one : pos 1 ≤ℤ (c *ℤ b -ℤ a *ℤ d) = at_least_one (positive_difference h) in
     let square : pos 0 ≤ℤ (q *ℤ q) = nonneg_mul (above pb hb) (above pb hb) in
     le_by
@@ -53,3 +53,16 @@ same_within_difference a b c d q pb pd hb hd near_above near_below =
   where
     clash : {x y : ℤ} → x ≤ℤ y → y <ℤ x → ⊥
     clash h k = omega (arith, ints)
+
+-- so a value of ℤ that rises takes a greater whole number each time
+pub floor_rises_ℤ : (a b c d : ℤ) (q : ℕ) → pos 0 ≤ℤ a → pos 0 <ℤ b → pos 0 ≤ℤ c → pos 0 <ℤ d → b ≤ℤ pos q → d ≤ℤ pos q → (a *ℤ d) <ℤ (c *ℤ b)
+    → nat_abs a * (q * q) / nat_abs b < nat_abs c * (q * q) / nat_abs d
+floor_rises_ℤ (pos a) (pos b) (pos c) (pos d) q ha hb hc hd lb ld h = floor_rises a b c d q (omega (arith, ints)) (omega (arith, ints)) (omega (arith, ints)) (omega (arith, ints)) (omega (arith, ints))
+floor_rises_ℤ (negsuc a) b c d q ha hb hc hd lb ld h = absurd ha.le
+floor_rises_ℤ (pos a) (negsuc b) c d q ha hb hc hd lb ld h = absurd hb.lt
+floor_rises_ℤ (pos a) (pos b) (negsuc c) d q ha hb hc hd lb ld h = absurd hc.le
+floor_rises_ℤ (pos a) (pos b) (pos c) (negsuc d) q ha hb hc hd lb ld h = absurd hd.lt
+
+-- a fraction that rises comes closer to L
+pub rest_falls : (L n d m e : ℤ) → (n *ℤ e) <ℤ (m *ℤ d) → ((L *ℤ e -ℤ m) *ℤ d) <ℤ ((L *ℤ d -ℤ n) *ℤ e)
+rest_falls L n d m e h = lt_by (positive_difference h) (read (L ∷ n ∷ d ∷ m ∷ e ∷ []) (λ xs a b c f g. simp (a, b, c, f, g, polys) (den-ring xs _ _ tt)))

@@ -2,6 +2,7 @@ pub mod RingLaws
 pub mod Polynomials
 pub mod Identities
 pub mod Order
+pub mod Magnitudes
 pub mod Sums
 pub mod MaxMin
 pub mod Extremes

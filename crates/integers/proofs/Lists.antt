@@ -1,16 +1,36 @@
--- Lists of which each element, or none, has a property, one element after another.
-use Rattle.std.proofs.Common.{◌≡◌, sym, subst, ap, ◌∙◌, ℕ, ◌+◌, ◌<◌, ◌⊎◌, inl, inr, arith, Bool, true, false, List, length, get_or}
-use Rattle.std.specs.Prelude.{slice_get, Some, All, map, take}
+-- Lists of which each element, or none, has a property, one element after another; indices in order; what a push and a pop leave.
+use Rattle.std.proofs.Common.{◌≡◌, refl, sym, subst, ap, ◌∙◌, ℕ, ◌+◌, ◌-◌, ◌<◌, ◌≤◌, ◌⊎◌, inl, inr, arith, Bool, true, false, List, [], ◌∷◌, ◌++◌, length, get_or}
+use Rattle.std.specs.Prelude.{slice_get, Some, All, Contains, map, take}
 use Rattle.std.proofs.lemmas.List.Elements.{All-more}
-use Rattle.std.proofs.lemmas.List.{get_or_default, get_or-map, length-map}
-use Rattle.std.proofs.lemmas.Option.{get_or_from_slice_get, slice_get_within}
+use Rattle.std.proofs.lemmas.List.{get_or_default, get_or-map, length-map, length_push, take_at}
+use Rattle.std.proofs.lemmas.Option.{get_or_from_slice_get, slice_get-get_or, slice_get_within}
 
 -- no test answers both
 pub clash : {b : Bool} → b ≡ true → b ≡ false → ⊥
 clash is is_not = cc
 
-below_or_at : (k i : ℕ) → k < i + 1 → (k < i) ⊎ (k ≡ i)
+-- a number below i + 1 is below i, or i
+pub below_or_at : (k i : ℕ) → k < i + 1 → (k < i) ⊎ (k ≡ i)
 below_or_at k i h = grind arith
+
+-- of two numbers one is below the other, or not below it
+pub before_or_after : (k n : ℕ) → (k < n) ⊎ (n ≤ k)
+before_or_after k n = grind arith
+
+-- the first element is one of the list
+pub Contains-head : {X : Type 0} (x : X) (xs : List X) → Contains (x ∷ xs) x
+Contains-head x xs = (0, omega arith, refl)
+
+-- an element that is there is the same with any other in its stead
+pub any_default : {X : Type 0} (xs : List X) (k : ℕ) (d e : X) → k < length xs → get_or xs k e ≡ get_or xs k d
+any_default xs k d e l = get_or_from_slice_get xs k (get_or xs k d) e (slice_get-get_or xs k d l)
+
+-- what a push added, a pop takes away
+pub popped : {X : Type 0} (old pushed kept now : List X) (x : X) → pushed ≡ old ++ x ∷ [] → kept ≡ pushed → now ≡ take (length kept - 1) kept → now ≡ old
+popped old pushed kept now x is same rest = rest ∙ ap (λ xs. take (length xs - 1) xs) (same ∙ is) ∙ take_at old (x ∷ []) (length (old ++ x ∷ []) - 1) (one_less (length old) (length (old ++ x ∷ [])) (length_push old x))
+  where
+    one_less : (m n : ℕ) → n ≡ m + 1 → m ≡ n - 1
+    one_less m n e = omega (arith, e)
 
 -- no element before i, nor that at i
 pub none_more : {X : Type 0} (P : X → Type 0) (xs : List X) (i : ℕ) (x : X) → i < length xs → x ≡ get_or xs i x

@@ -8,8 +8,8 @@
 -- - `fits xs h w _ tt` for an overflow, w being `w32`, `w64` or `w128` (`w128` of `mir.Syntax`), `computes xs h _ _ tt tt` for a result, and
 --   `size_within xs h _ tt` for a bound that the function ensures.
 -- - A numeral of the goal wants its rule: `number xs 3` for 3, `number_below xs 6` for -7.
--- - An `abbrev inputs` shares the inputs of a function's answers (proofs/examples/orientation).
--- - An unsigned number that is cast to a signed one: `simp (to_z_pos w128 n below)` first (proofs/examples/weighted_sum). For unsigned code
+-- - An `abbrev inputs` shares the inputs of a function's answers.
+-- - An unsigned number that is cast to a signed one: `simp (to_z_pos w128 n below)` first. For unsigned code
 --   see UnsignedArithmetic.
 use Rattle.std.proofs.Common.{◌≡◌, refl, sym, ◌∙◌, ap, ap₂, subst, ℕ, zero, suc, ◌+◌, ◌*◌, ◌^◌, ℤ, pos, negsuc, ◌+ℤ◌, ◌*ℤ◌, neg_ℤ, arith, List, [], ◌∷◌, Bool, true, false, T, ltb, leb, zero-le, FitsSigned, to_z, of_z, to_z-of_z}
 use Rattle.std.proofs.lemmas.Int.{ints}
@@ -18,6 +18,7 @@ use mir.Val.{hbits}
 use Rattle.integers.specs.Size.{Size}
 use Rattle.integers.proofs.Sizes.{size_add, size_mul, size_neg, size_more, size_fits_in}
 use Rattle.integers.proofs.Polynomials.{Expr, var, lit, ◌⊕◌, ◌⊗◌, neg, ring, eval, Same, nth}
+use Rattle.integers.proofs.Identities.{at, at_all}
 
 -- an expression of code: `back w e` is e as it comes back from its bits
 pub data Code : Type 0 where
@@ -79,11 +80,13 @@ fits_all ns (back w e) = both (fits_all ns e) (ltb (bound ns e) (2 ^ hbits w))
 pub record Sizes (ns : List ℕ) (xs : List ℤ) : Type 0 where
   pub each : (i : ℕ) → Size (bound_at ns i) (nth xs i)
 
-both_first : (a b : Bool) → T (both a b) → T a
+-- so the first does
+pub both_first : (a b : Bool) → T (both a b) → T a
 both_first true b t = tt
 both_first false b t = t
 
-both_second : (a b : Bool) → T (both a b) → T b
+-- and the second
+pub both_second : (a b : Bool) → T (both a b) → T b
 both_second true b t = t
 both_second false b t = absurd t
 
@@ -172,18 +175,6 @@ fits {ns} xs h w e t =
 abbrev pub Inputs : List ℤ → ℕ → List ℤ → Type 0 → Type 0
 Inputs [] i xs P = P
 Inputs (v ∷ vs) i xs P = v ≡ res xs (input i) → Inputs vs (suc i) xs P
-
-abbrev at : List ℤ → ℕ → List ℤ → Type 0
-at [] i xs = Unit {0}
-at (v ∷ vs) i xs = (v ≡ nth xs i) × at vs (suc i) xs
-
-at-more : (v : ℤ) (us xs : List ℤ) (i : ℕ) → at us i xs → at us (suc i) (v ∷ xs)
-at-more v [] xs i h = tt
-at-more v (u ∷ us) xs i h = (h.0, at-more v us xs (suc i) h.1)
-
-at_all : (vs : List ℤ) → at vs 0 vs
-at_all [] = tt
-at_all (v ∷ vs) = (refl, at-more v vs vs 0 (at_all vs))
 
 give : (vs : List ℤ) (i : ℕ) (xs : List ℤ) (P : Type 0) → at vs i xs → Inputs vs i xs P → P
 unfolding res

@@ -1,7 +1,8 @@
 -- Numbers that become narrower in code, and stay the same.
-use Rattle.std.proofs.Common.{◌≡◌, sym, subst, ap, ap₂, ◌∙◌, ℕ, ◌<◌, ◌^◌, ℤ, pos, nat_abs, ◌-ℤ◌, ◌*ℤ◌, ◌≤ℤ◌, Bool, IsTrue, arith, to_z, of_z, w32, w64}
+use Rattle.std.proofs.Common.{◌≡◌, sym, subst, ap, ap₂, ◌∙◌, ℕ, ◌<◌, ◌^◌, ℤ, pos, nat_abs, ◌-ℤ◌, ◌*ℤ◌, ◌≤ℤ◌, Bool, IsTrue, arith, to_z, of_z, to_z-of_z, w32, w64}
 use Rattle.std.proofs.lemmas.Int.{ints, to_z_pos}
 use mir.Syntax.{w128}
+use lib.Signed.{mag}
 use Rattle.std.proofs.Common.{◌↔◌}
 use Rattle.integers.specs.Size.{Size}
 use Rattle.integers.proofs.Sizes.{wrap_is, wrap_is_in, size_mul}
@@ -20,6 +21,10 @@ narrowed_unsigned {m} {n} e h = let s : Size 1000000 (pos m) = subst (Size 10000
 -- a number of 32 bits in 64
 pub widened : {f z n : ℤ} → f ≡ to_z w32 (of_z w32 z) → z ≡ n → Size 200000 n → to_z w64 (of_z w64 f) ≡ n
 widened {f} {z} {n} is e h = ap (λ v. to_z w64 (of_z w64 v)) (is ∙ ap (λ v. to_z w32 (of_z w32 v)) e ∙ wrap_is_in w32 h tt) ∙ wrap_is_in w64 h tt
+
+-- a number that 64 bits hold
+pub kept64 : {z : ℤ} → mag z < 2 ^ 63 → to_z w64 (of_z w64 z) ≡ z
+kept64 {z} h = to_z-of_z {w = w64} {z = z} (record { sfits = h })
 
 -- a product in 64 bits
 pub product64 : {a b m n : ℤ} → a ≡ m → b ≡ n → Size 1000000 m → Size 2 n → to_z w64 (of_z w64 (a *ℤ b)) ≡ m *ℤ n

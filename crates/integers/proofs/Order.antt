@@ -2,8 +2,10 @@
 --
 -- To show A ≤ B, name a D that is at least 0 and equals B - A: `le_by (why D is at least 0) (read ..)`, where `read` (Identities)
 -- sees that B - A is D, and `nonneg_mul`, `nonneg_add`, `square_nonneg` and `nonneg_difference` say why D is at least 0.
-use Rattle.std.proofs.Common.{◌≡◌, refl, sym, ◌∙◌, ap, ◌*◌, ◌<◌, ◌⊎◌, inl, inr, ℤ, zero, suc, pos, negsuc, ◌+ℤ◌, ◌-ℤ◌, ◌*ℤ◌, neg_ℤ, ◌≤ℤ◌, ◌<ℤ◌, arith, [], ◌∷◌, mul-pos}
+use Rattle.std.proofs.Common.{◌≡◌, refl, sym, ◌∙◌, ap, ◌*◌, ◌<◌, ◌⊎◌, inl, inr, ℤ, zero, suc, pos, negsuc, ◌+ℤ◌, ◌-ℤ◌, ◌*ℤ◌, neg_ℤ, ◌≤ℤ◌, ◌<ℤ◌, arith, [], ◌∷◌, mul-pos, true, false, not}
 use Rattle.std.proofs.lemmas.Int.{ints, by_lt_z}
+use Rattle.std.specs.Int.Signed.{lt_z, lt_z_yes, lt_z_no}
+use Rattle.std.proofs.lemmas.Float.{T_from_true}
 use lib.Signed.{<ℤ_irrefl}
 use Rattle.integers.proofs.Identities.{den-ring, read, polys, lits}
 
@@ -40,9 +42,17 @@ nonneg_add h k = omega (arith, ints)
 pub positive_add : {a b : ℤ} → pos 0 <ℤ a → pos 0 ≤ℤ b → pos 0 <ℤ (a +ℤ b)
 positive_add h k = omega (arith, ints)
 
--- a number above 0 is at least 0, and at least 1
-pub nonneg_from_positive : {a : ℤ} → pos 0 <ℤ a → pos 0 ≤ℤ a
-nonneg_from_positive h = omega (arith, ints)
+-- a number of at least 1 is at least 0
+pub nonneg_from_one : {a : ℤ} → pos 1 ≤ℤ a → pos 0 ≤ℤ a
+nonneg_from_one h = omega (arith, ints)
+
+-- the negative of a number that is at most 0 is at least 0
+pub nonneg_neg : {a : ℤ} → a ≤ℤ pos 0 → pos 0 ≤ℤ neg_ℤ a
+nonneg_neg h = omega (arith, ints)
+
+-- a number above 0 is not 0
+pub positive-not_zero : {a : ℤ} → pos 0 <ℤ a → a ≡ pos 0 → ⊥
+positive-not_zero h e = omega (arith, ints)
 
 -- a number above 0 is at least 1
 pub at_least_one : {a : ℤ} → pos 0 <ℤ a → pos 1 ≤ℤ a
@@ -61,6 +71,18 @@ nonneg_of_mul {a} k h l =
     absurd (<ℤ_irrefl {a = pos 0} (omega (arith, ints))))
     (λ above. above)
 
+-- and so has a product above 0 with a factor that is at least 0
+pub positive_of_mul : {a : ℤ} (k : ℤ) → pos 0 ≤ℤ k → pos 0 <ℤ (k *ℤ a) → pos 0 <ℤ a
+positive_of_mul {a} k h l =
+    by_lt_z (pos 0) a
+    (λ above. above)
+    (λ below. let p : pos 0 ≤ℤ (k *ℤ neg_ℤ a) = nonneg_mul h (nonneg_neg below) in
+    let e : k *ℤ neg_ℤ a ≡ neg_ℤ (k *ℤ a) = read (k ∷ a ∷ []) (λ xs p q. simp (p, q, polys) (den-ring xs _ _ tt)) in
+    absurd (contrary p e l))
+  where
+    contrary : {x y : ℤ} → pos 0 ≤ℤ x → x ≡ neg_ℤ y → pos 0 <ℤ y → ⊥
+    contrary h e l = omega (arith, ints)
+
 -- ---- an order by the difference of its sides
 
 -- a ≤ b, where b - a is at least 0
@@ -71,6 +93,10 @@ le_by h e = omega (arith, ints)
 pub lt_by : {a b d : ℤ} → pos 0 <ℤ d → b -ℤ a ≡ d → a <ℤ b
 lt_by h e = omega (arith, ints)
 
+-- the same where the difference stays as it is
+pub le_from_difference : {a b : ℤ} → pos 0 ≤ℤ (b -ℤ a) → a ≤ℤ b
+le_from_difference h = omega (arith, ints)
+
 -- from a ≤ b, that b - a is at least 0
 pub nonneg_difference : {a b : ℤ} → a ≤ℤ b → pos 0 ≤ℤ (b -ℤ a)
 nonneg_difference h = omega (arith, ints)
@@ -79,9 +105,17 @@ nonneg_difference h = omega (arith, ints)
 pub positive_difference : {a b : ℤ} → a <ℤ b → pos 0 <ℤ (b -ℤ a)
 positive_difference h = omega (arith, ints)
 
+-- what is less is at most
+pub le_from_lt : {a b : ℤ} → a <ℤ b → a ≤ℤ b
+le_from_lt h = omega (arith, ints)
+
 -- a chain of two orders
 pub le_trans_ℤ : {a b c : ℤ} → a ≤ℤ b → b ≤ℤ c → a ≤ℤ c
 le_trans_ℤ h k = omega (arith, ints)
+
+-- and one of which the second is strict
+pub le_lt_trans_ℤ : {a b c : ℤ} → a ≤ℤ b → b <ℤ c → a <ℤ c
+le_lt_trans_ℤ h k = omega (arith, ints)
 
 -- numbers in order both ways are equal
 pub le_antisymm_ℤ : {a b : ℤ} → a ≤ℤ b → b ≤ℤ a → a ≡ b
@@ -94,6 +128,14 @@ le_of_same e = omega (arith, ints)
 -- of two numbers one is at most the other
 pub le_total_ℤ : (a b : ℤ) → (a ≤ℤ b) ⊎ (b ≤ℤ a)
 le_total_ℤ a b = by_lt_z a b (λ h. inl (omega (arith, ints))) (λ h. inr h)
+
+-- what code's test for below says where it passes
+pub is_less : {a b : ℤ} → lt_z a b ≡ true → a <ℤ b
+is_less {a} {b} e = lt_z_yes (T_from_true (lt_z a b) e)
+
+-- and where it fails
+pub is_not_less : {a b : ℤ} → lt_z a b ≡ false → b ≤ℤ a
+is_not_less {a} {b} e = lt_z_no (T_from_true (not (lt_z a b)) (ap not e))
 
 -- ---- monotone products
 
@@ -160,6 +202,12 @@ lt_of_square_lt {a} {b} h l =
     by_lt_z a b
     (λ lt. lt)
     (λ above. let m = square_le h above in absurd (<ℤ_irrefl {a = a *ℤ a} (omega (arith, ints))))
+
+-- a number whose square is at most 0 is 0
+pub zero_of_square : (a : ℤ) → (a *ℤ a) ≤ℤ pos 0 → a ≡ pos 0
+zero_of_square (pos zero) h = refl
+zero_of_square (pos (suc n)) h = let p : pos 0 <ℤ (pos (suc n) *ℤ pos (suc n)) = square_positive (pos (suc n)) (λ e. absurd (cc)) in absurd (omega (arith, ints))
+zero_of_square (negsuc n) h = let p : pos 0 <ℤ (negsuc n *ℤ negsuc n) = square_positive (negsuc n) (λ e. absurd (cc)) in absurd (omega (arith, ints))
 
 -- twice a product is at most the sum of the squares
 pub twice_product_le : (a b : ℤ) → (pos 2 *ℤ (a *ℤ b)) ≤ℤ (a *ℤ a +ℤ b *ℤ b)

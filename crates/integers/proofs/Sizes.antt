@@ -2,7 +2,7 @@
 --
 -- `size_fits (size_mul h k) tt` proves that a product fits 128 bits, where h and k bound its factors. For a whole expression of code
 -- MachineArithmetic is shorter.
-use Rattle.std.proofs.Common.{◌≡◌, ℕ, ◌+◌, ◌*◌, ◌≤◌, ◌^◌, ℤ, pos, ◌+ℤ◌, ◌-ℤ◌, ◌*ℤ◌, neg_ℤ, ◌≤ℤ◌, FitsSigned, to_z, of_z, to_z-of_z, arith, mul-le-mul, w32, w64, T, ltb, ltb→lt, leb, leb→le, le_trans}
+use Rattle.std.proofs.Common.{◌≡◌, subst, ◌⊎◌, inl, inr, ℕ, ◌+◌, ◌*◌, ◌≤◌, ◌^◌, ℤ, pos, ◌+ℤ◌, ◌-ℤ◌, ◌*ℤ◌, neg_ℤ, ◌≤ℤ◌, FitsSigned, to_z, of_z, to_z-of_z, arith, mul-le-mul, w32, w64, T, ltb, ltb→lt, leb, leb→le, le_refl, le_trans}
 use Rattle.std.proofs.lemmas.Int.{ints, unsigned_abs-mul, fits_signed_from_abs}
 use mir.Syntax.{Width, w128}
 use mir.Val.{hbits}
@@ -55,6 +55,18 @@ size_of_i64 f = record { abs = omega (arith, ints) }
 -- an unsigned number that is read as a signed one
 pub size_unsigned : (n : ℕ) {m : ℕ} → n ≤ m → Size m (pos n)
 size_unsigned n h = record { abs = omega arith }
+
+-- a flag, which is 0 or 1
+pub size_of_flag : {a : ℤ} → (a ≡ pos 0) ⊎ (a ≡ pos 1) → Size 1 a
+size_of_flag (inl e) = record { abs = omega (arith, ints) }
+size_of_flag (inr e) = record { abs = omega (arith, ints) }
+
+-- a weighted sum with one number more: t is the sum of the weights so far, r bounds each number
+pub size_more_weight : (t w r : ℕ) {a x : ℤ} → Size (t * r) a → Size r x → Size ((t + w) * r) (a +ℤ pos w *ℤ x)
+size_more_weight t w r {a} {x} h k = subst (λ n. Size n (a +ℤ pos w *ℤ x)) (distributes t w r) (size_add h (size_mul (size_unsigned w (le_refl w)) k))
+  where
+    distributes : (t w r : ℕ) → t * r + w * r ≡ (t + w) * r
+    distributes t w r = omega arith
 
 -- ---- that it fits
 

@@ -4,7 +4,6 @@ pub mod Extremes
 pub mod LowestTerms
 pub mod Determinants
 pub mod Moments
-pub mod Weighted
 pub mod OrderLaws
 pub mod SumLaws
 pub mod FractionLaws

@@ -8,9 +8,9 @@
 //! - `Sizes`, `MachineArithmetic` and `UnsignedArithmetic`: bounds, and overflows and results at 32, 64 and 128 bits in one line.
 //! - `Divisors`, `LowestTerms`, `Fractions` and `LeastDifferences`: the greatest common divisor, the one lowest form, orders, how far apart fractions lie.
 //! - `Lagrange`, `ParallelAxis`, `Cone`, `Circles` and `Cramer`: identities of geometry over plain variables.
+//! - `Lists` and `Narrowing`: properties of a list one element after another, and numbers that become narrower in code.
 //!
-//! [`laws`] has the main laws as contracts, and [`examples`] small functions that use each tool.
+//! [`laws`] has the main laws as contracts.
 #![tactic(auto)]
 
-pub mod examples;
 pub mod laws;
