@@ -5,16 +5,6 @@ use Rattle.integers.proofs.Identities.{den-ring, read, polys, lits}
 
 -- ---- in the plane
 
--- the four triangles of four points: their areas, with signs, have the sum 0
-pub turns_vanish : (ax ay bx by cx cy dx dy : ℤ)
-    → turn bx by cx cy dx dy -ℤ turn ax ay cx cy dx dy +ℤ turn ax ay bx by dx dy -ℤ turn ax ay bx by cx cy ≡ pos 0
-turns_vanish ax ay bx by cx cy dx dy = read (ax ∷ ay ∷ bx ∷ by ∷ cx ∷ cy ∷ dx ∷ dy ∷ []) (λ xs a b c d e f g h. simp (a, b, c, d, e, f, g, h, polys, lits xs) (den-ring xs _ _ tt))
-
--- and so has each coordinate times the area of the other three
-pub turns_balance : (ax ay bx by cx cy dx dy : ℤ)
-    → ax *ℤ turn bx by cx cy dx dy -ℤ bx *ℤ turn ax ay cx cy dx dy +ℤ cx *ℤ turn ax ay bx by dx dy -ℤ dx *ℤ turn ax ay bx by cx cy ≡ pos 0
-turns_balance ax ay bx by cx cy dx dy = read (ax ∷ ay ∷ bx ∷ by ∷ cx ∷ cy ∷ dx ∷ dy ∷ []) (λ xs a b c d e f g h. simp (a, b, c, d, e, f, g, h, polys, lits xs) (den-ring xs _ _ tt))
-
 -- a turn can begin at any corner
 pub turn_rotates : (ax ay bx by cx cy : ℤ) → turn ax ay bx by cx cy ≡ turn bx by cx cy ax ay
 turn_rotates ax ay bx by cx cy = read (ax ∷ ay ∷ bx ∷ by ∷ cx ∷ cy ∷ []) (λ xs a b c d e f. simp (a, b, c, d, e, f, polys) (den-ring xs _ _ tt))

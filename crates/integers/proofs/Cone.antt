@@ -36,17 +36,3 @@ pub cone_of_forms : (a b e f x1 y1 x2 y2 m s t : ℤ)
 cone_of_forms a b e f x1 y1 x2 y2 m s t hX1 hY1 hX2 hY2 hm hs ht h1 h2 =
     le_by (nonneg_difference (cone x1 y1 x2 y2 (a *ℤ x1 +ℤ b *ℤ y1) (e *ℤ x1 +ℤ f *ℤ y1) (a *ℤ x2 +ℤ b *ℤ y2) (e *ℤ x2 +ℤ f *ℤ y2) m s t hX1 hY1 hX2 hY2 hm hs ht h1 h2))
     (read (a ∷ b ∷ e ∷ f ∷ x1 ∷ y1 ∷ x2 ∷ y2 ∷ m ∷ s ∷ t ∷ []) (λ xs a b c d e f g h i j k. simp (a, b, c, d, e, f, g, h, i, j, k, polys) (den-ring xs _ _ tt)))
-
--- two linear forms whose product is at least m at both ends of a segment have it between: X1 and X2 are the first form's values, Y1 and Y2 the second's, and s + t = 1 is scaled to any s + t
-pub chord : (X1 Y1 X2 Y2 m s t : ℤ) → pos 0 ≤ℤ X1 → pos 0 ≤ℤ Y1 → pos 0 ≤ℤ X2 → pos 0 ≤ℤ Y2 → pos 0 ≤ℤ m → pos 0 ≤ℤ s → pos 0 ≤ℤ t
-    → m ≤ℤ (X1 *ℤ Y1) → m ≤ℤ (X2 *ℤ Y2) → (m *ℤ ((s +ℤ t) *ℤ (s +ℤ t))) ≤ℤ ((s *ℤ X1 +ℤ t *ℤ X2) *ℤ (s *ℤ Y1 +ℤ t *ℤ Y2))
-chord X1 Y1 X2 Y2 m s t hX1 hY1 hX2 hY2 hm hs ht h1 h2 =
-    let product : (m *ℤ m) ≤ℤ (X1 *ℤ Y1 *ℤ (X2 *ℤ Y2)) = mul_le_both hm hm h1 h2 in
-    let middle : (pos 2 *ℤ m) ≤ℤ (X1 *ℤ Y2 +ℤ X2 *ℤ Y1)
-    = le_of_square_le (nonneg_add (nonneg_mul hX1 hY2) (nonneg_mul hX2 hY1))
-    (le_by
-    (nonneg_add (square_nonneg (X1 *ℤ Y2 -ℤ X2 *ℤ Y1)) (nonneg_mul {a = pos 4} (omega (arith, ints)) (nonneg_difference product)))
-    (read (X1 ∷ Y1 ∷ X2 ∷ Y2 ∷ m ∷ []) (λ xs a b c d e. simp (a, b, c, d, e, polys, lits xs) (den-ring xs _ _ tt)))) in
-    le_by
-    (nonneg_add (nonneg_add (nonneg_mul (square_nonneg s) (nonneg_difference h1)) (nonneg_mul (square_nonneg t) (nonneg_difference h2))) (nonneg_mul (nonneg_mul hs ht) (nonneg_difference middle)))
-    (read (X1 ∷ Y1 ∷ X2 ∷ Y2 ∷ m ∷ s ∷ t ∷ []) (λ xs a b c d e f g. simp (a, b, c, d, e, f, g, polys, lits xs) (den-ring xs _ _ tt)))

@@ -1,4 +1,4 @@
--- Cramer's rule for two and three linear equations: what the unknowns are, times the determinant, and that these numbers solve the equations.
+-- Cramer's rule for two and three linear equations: what the unknowns are, times the determinant.
 use Rattle.std.proofs.Common.{◌≡◌, ℤ, ◌+ℤ◌, ◌*ℤ◌, neg_ℤ, [], ◌∷◌}
 use Rattle.integers.specs.Determinants.{det2, det3}
 use Rattle.integers.proofs.Identities.{den-ring, read, polys}
@@ -13,14 +13,6 @@ cramer2_x a b c d x y p q h k = combine2 d (neg_ℤ b) h k (read (a ∷ b ∷ c 
 -- the second unknown, times the determinant
 pub cramer2_y : (a b c d x y p q : ℤ) → a *ℤ x +ℤ b *ℤ y ≡ p → c *ℤ x +ℤ d *ℤ y ≡ q → det2 a b c d *ℤ y ≡ det2 a p c q
 cramer2_y a b c d x y p q h k = combine2 (neg_ℤ c) a h k (read (a ∷ b ∷ c ∷ d ∷ x ∷ y ∷ p ∷ q ∷ []) (λ xs a b c d e f g h. simp (a, b, c, d, e, f, g, h, polys) (den-ring xs _ _ tt)))
-
--- these numbers solve the first equation
-pub cramer2_first : (a b c d p q : ℤ) → a *ℤ det2 p b q d +ℤ b *ℤ det2 a p c q ≡ det2 a b c d *ℤ p
-cramer2_first a b c d p q = read (a ∷ b ∷ c ∷ d ∷ p ∷ q ∷ []) (λ xs a b c d e f. simp (a, b, c, d, e, f, polys) (den-ring xs _ _ tt))
-
--- and the second
-pub cramer2_second : (a b c d p q : ℤ) → c *ℤ det2 p b q d +ℤ d *ℤ det2 a p c q ≡ det2 a b c d *ℤ q
-cramer2_second a b c d p q = read (a ∷ b ∷ c ∷ d ∷ p ∷ q ∷ []) (λ xs a b c d e f. simp (a, b, c, d, e, f, polys) (den-ring xs _ _ tt))
 
 -- ---- three unknowns: the rows (ax, ay, az), (bx, by, bz), (cx, cy, cz) times (x, y, z) are p, q and r
 
@@ -41,15 +33,3 @@ pub cramer3_z : (ax ay az bx by bz cx cy cz x y z p q r : ℤ) → ax *ℤ x +�
 cramer3_z ax ay az bx by bz cx cy cz x y z p q r h k l =
     combine3 (det2 bx by cx cy) (neg_ℤ (det2 ax ay cx cy)) (det2 ax ay bx by) h k l
     (read (ax ∷ ay ∷ az ∷ bx ∷ by ∷ bz ∷ cx ∷ cy ∷ cz ∷ x ∷ y ∷ z ∷ p ∷ q ∷ r ∷ []) (λ xs a b c d e f g h i j k l m n o. simp (a, b, c, d, e, f, g, h, i, j, k, l, m, n, o, polys) (den-ring xs _ _ tt)))
-
--- these numbers solve the first equation
-pub cramer3_first : (ax ay az bx by bz cx cy cz p q r : ℤ) → ax *ℤ det3 p ay az q by bz r cy cz +ℤ ay *ℤ det3 ax p az bx q bz cx r cz +ℤ az *ℤ det3 ax ay p bx by q cx cy r ≡ det3 ax ay az bx by bz cx cy cz *ℤ p
-cramer3_first ax ay az bx by bz cx cy cz p q r = read (ax ∷ ay ∷ az ∷ bx ∷ by ∷ bz ∷ cx ∷ cy ∷ cz ∷ p ∷ q ∷ r ∷ []) (λ xs a b c d e f g h i j k l. simp (a, b, c, d, e, f, g, h, i, j, k, l, polys) (den-ring xs _ _ tt))
-
--- the second
-pub cramer3_second : (ax ay az bx by bz cx cy cz p q r : ℤ) → bx *ℤ det3 p ay az q by bz r cy cz +ℤ by *ℤ det3 ax p az bx q bz cx r cz +ℤ bz *ℤ det3 ax ay p bx by q cx cy r ≡ det3 ax ay az bx by bz cx cy cz *ℤ q
-cramer3_second ax ay az bx by bz cx cy cz p q r = read (ax ∷ ay ∷ az ∷ bx ∷ by ∷ bz ∷ cx ∷ cy ∷ cz ∷ p ∷ q ∷ r ∷ []) (λ xs a b c d e f g h i j k l. simp (a, b, c, d, e, f, g, h, i, j, k, l, polys) (den-ring xs _ _ tt))
-
--- and the third
-pub cramer3_third : (ax ay az bx by bz cx cy cz p q r : ℤ) → cx *ℤ det3 p ay az q by bz r cy cz +ℤ cy *ℤ det3 ax p az bx q bz cx r cz +ℤ cz *ℤ det3 ax ay p bx by q cx cy r ≡ det3 ax ay az bx by bz cx cy cz *ℤ r
-cramer3_third ax ay az bx by bz cx cy cz p q r = read (ax ∷ ay ∷ az ∷ bx ∷ by ∷ bz ∷ cx ∷ cy ∷ cz ∷ p ∷ q ∷ r ∷ []) (λ xs a b c d e f g h i j k l. simp (a, b, c, d, e, f, g, h, i, j, k, l, polys) (den-ring xs _ _ tt))

@@ -5,7 +5,7 @@ use Rattle.std.specs.Prelude.{All}
 use Rattle.std.specs.Int.{IsGcd}
 use Rattle.std.proofs.lemmas.Int.{unsigned_abs-mul}
 use Rattle.std.proofs.Math.Nat.{dvd_refl, dvd-zero, dvd_trans, dvd_antisymm, dvd-mul_left, dvd-mul_right, one-dvd, mul-dvd-mul_left, mul-div_cancel', dvd_of_mul-dvd-mul_left, eq-one_of_dvd-one}
-use Rattle.std.proofs.lemmas.Nat.Gcd.{IsGcd-from_zero, IsGcd-from_mod, IsGcd-swap, same_from_IsGcd}
+use Rattle.std.proofs.lemmas.Nat.Gcd.{IsGcd-from_zero, IsGcd-from_mod, same_from_IsGcd}
 use Rattle.std.proofs.lemmas.List.Elements.{All-nil, All-cons, All-head, All-tail}
 
 -- ---- two numbers
@@ -44,14 +44,6 @@ gcd-dvd_right a b = (IsGcd-gcd a b).1
 -- each common divisor divides it
 pub dvd-gcd : (k a b : ℕ) → k ∣ a → k ∣ b → k ∣ gcd a b
 dvd-gcd k a b h l = (IsGcd-gcd a b).2 k h l
-
--- the order of the numbers does not matter
-pub gcd-comm : (a b : ℕ) → gcd a b ≡ gcd b a
-gcd-comm a b = gcd_is a b (gcd b a) (IsGcd-swap b a (gcd b a) (IsGcd-gcd b a))
-
--- with 0 it is the number itself
-pub gcd-zero : (a : ℕ) → gcd a 0 ≡ a
-gcd-zero a = refl
 
 -- numbers of which one is above 0 have a greatest common divisor above 0
 pub gcd_positive : (a b : ℕ) → 0 < a + b → 0 < gcd a b

@@ -6,10 +6,8 @@ use Rattle.std.proofs.lemmas.Int.{ints}
 use Rattle.std.proofs.lemmas.List.{take_more, map-append, length-take-le}
 use Rattle.std.proofs.lemmas.List.Sums.{fold-append}
 use Rattle.std.proofs.lemmas.List.Elements.{All-nil, All-cons, All-contains}
-use Rattle.std.proofs.lemmas.Simd.{map-map}
-use Rattle.integers.specs.Size.{Size}
 use Rattle.integers.specs.Extremes.{greatest, least}
-use Rattle.integers.proofs.MaxMin.{left-le-max, right-le-max, min-le-left, min-le-right, max_keeps, max_takes, min_keeps, min_takes, pick_max, pick_min}
+use Rattle.integers.proofs.MaxMin.{left-le-max, right-le-max, min-le-left, min-le-right, pick_max, pick_min}
 use Rattle.integers.proofs.Order.{le_trans_ℤ, le_antisymm_ℤ}
 use Rattle.integers.proofs.Lists.{Contains-head}
 
@@ -137,22 +135,6 @@ pub least-take_one : {A : Type 0} (f : A → ℤ) (s : List A) (d : A) → 0 < l
 least-take_one f [] d h = absurd (omega arith)
 least-take_one f (x ∷ s) d h = refl
 
--- where the loop has an `if`: the value so far stays, or the element's value is taken
-pub greatest_keeps : {A : Type 0} (f : A → ℤ) (s : List A) (i : ℕ) (d : A) → 0 < i → i < length s → f (get_or s i d) ≤ℤ greatest f (take i s) → greatest f (take (i + 1) s) ≡ greatest f (take i s)
-greatest_keeps f s i d h l k = greatest-take_more f s i d h l ∙ max_keeps _ _ k
-
--- the loop takes the element's value
-pub greatest_takes : {A : Type 0} (f : A → ℤ) (s : List A) (i : ℕ) (d : A) → 0 < i → i < length s → greatest f (take i s) ≤ℤ f (get_or s i d) → greatest f (take (i + 1) s) ≡ f (get_or s i d)
-greatest_takes f s i d h l k = greatest-take_more f s i d h l ∙ max_takes _ _ k
-
--- the same for the least value: it stays
-pub least_keeps : {A : Type 0} (f : A → ℤ) (s : List A) (i : ℕ) (d : A) → 0 < i → i < length s → least f (take i s) ≤ℤ f (get_or s i d) → least f (take (i + 1) s) ≡ least f (take i s)
-least_keeps f s i d h l k = least-take_more f s i d h l ∙ min_keeps _ _ k
-
--- or is taken
-pub least_takes : {A : Type 0} (f : A → ℤ) (s : List A) (i : ℕ) (d : A) → 0 < i → i < length s → f (get_or s i d) ≤ℤ least f (take i s) → least f (take (i + 1) s) ≡ f (get_or s i d)
-least_takes f s i d h l k = least-take_more f s i d h l ∙ min_takes _ _ k
-
 -- ---- what fixes them
 
 -- an element whose value no other exceeds has the greatest
@@ -176,45 +158,3 @@ least_is f s x c h =
   where
     some : Contains s x → 0 < length s
     some c = let l = c.1 in omega arith
-
--- a bound of every value is one of the greatest
-pub greatest_le : {A : Type 0} (f : A → ℤ) (s : List A) (m : ℤ) → 0 < length s → All (λ x. f x ≤ℤ m) s → greatest f s ≤ℤ m
-greatest_le f s m l h =
-    let g = has_greatest f s l in
-    subst (λ v. v ≤ℤ m) (sym g.2) (All-contains (λ x. f x ≤ℤ m) s g.0 h g.1)
-
--- a bound of every value is one of the least
-pub le_least : {A : Type 0} (f : A → ℤ) (s : List A) (m : ℤ) → 0 < length s → All (λ x. m ≤ℤ f x) s → m ≤ℤ least f s
-le_least f s m l h =
-    let g = has_least f s l in
-    subst (λ v. m ≤ℤ v) (sym g.2) (All-contains (λ x. m ≤ℤ f x) s g.0 h g.1)
-
--- the least value is not above the greatest
-pub least-le-greatest : {A : Type 0} (f : A → ℤ) (s : List A) → 0 < length s → least f s ≤ℤ greatest f s
-least-le-greatest f s l =
-    let g = has_greatest f s l in
-    subst (λ v. least f s ≤ℤ v) (sym g.2) (All-contains (λ x. least f s ≤ℤ f x) s g.0 (above_least f s) g.1)
-
--- numbers of at most n in size have a greatest and a least one that are
-pub size_greatest : {A : Type 0} (f : A → ℤ) (n : ℕ) (s : List A) → 0 < length s → All (λ x. Size n (f x)) s → Size n (greatest f s)
-size_greatest f n s l h =
-    let g = has_greatest f s l in
-    subst (Size n) (sym g.2) (All-contains (λ x. Size n (f x)) s g.0 h g.1)
-
--- the same of the least
-pub size_least : {A : Type 0} (f : A → ℤ) (n : ℕ) (s : List A) → 0 < length s → All (λ x. Size n (f x)) s → Size n (least f s)
-size_least f n s l h =
-    let g = has_least f s l in
-    subst (Size n) (sym g.2) (All-contains (λ x. Size n (f x)) s g.0 h g.1)
-
--- ---- over a mapped list
-
--- the greatest value over a mapped list is that of the composed function
-pub greatest-map : {A B : Type 0} (f : B → ℤ) (g : A → B) (s : List A) → greatest f (map g s) ≡ greatest (λ a. f (g a)) s
-greatest-map f g [] = refl
-greatest-map f g (a ∷ s) = ap (fold int_max (f (g a))) (map-map f g s)
-
--- and so is the least
-pub least-map : {A B : Type 0} (f : B → ℤ) (g : A → B) (s : List A) → least f (map g s) ≡ least (λ a. f (g a)) s
-least-map f g [] = refl
-least-map f g (a ∷ s) = ap (fold int_min (f (g a))) (map-map f g s)

@@ -18,7 +18,7 @@
 -- - For an order: `le_by (why D is at least 0) (read ..)` proves a ≤ b, where b - a is D (Order).
 -- - A product with the numeral 0 or 1 computes away and can hide what is to be read: use `omega (arith, ints)` there.
 -- - An identity that is false fails at `tt`: 'the two sides are `⊥` (left) and `Unit` (right)'.
-use Rattle.std.proofs.Common.{◌≡◌, refl, ℕ, suc, ℤ, pos, negsuc, ◌+ℤ◌, ◌*ℤ◌, neg_ℤ, ◌-ℤ◌, List, [], ◌∷◌}
+use Rattle.std.proofs.Common.{◌≡◌, refl, ℕ, suc, ℤ, pos, negsuc, ◌+ℤ◌, ◌*ℤ◌, neg_ℤ, List, [], ◌∷◌}
 use Rattle.integers.proofs.Polynomials.{Expr, var, lit, ◌⊕◌, ◌⊗◌, neg, ring, eval, Same, nth}
 
 -- what an expression means at the numbers xs, as `simp` writes it
@@ -85,17 +85,3 @@ read vs {P} f = give vs 0 vs P (at_all vs) (f vs)
 
 -- the sums, products and negatives, for `simp`
 pub ruleset polys = (den-add, den-mul, den-neg)
-
--- ---- examples
-
--- no numeral
-pub difference_of_squares : (a b : ℤ) → (a -ℤ b) *ℤ (a +ℤ b) ≡ a *ℤ a -ℤ b *ℤ b
-difference_of_squares a b = read (a ∷ b ∷ []) (λ xs p q. simp (p, q, polys) (den-ring xs _ _ tt))
-
--- a numeral
-pub square_of_sum : (a b : ℤ) → (a +ℤ b) *ℤ (a +ℤ b) ≡ a *ℤ a +ℤ pos 2 *ℤ (a *ℤ b) +ℤ b *ℤ b
-square_of_sum a b = read (a ∷ b ∷ []) (λ xs p q. simp (p, q, polys, lits xs) (den-ring xs _ _ tt))
-
--- a numeral below 0, and terms for variables
-pub square_less_one : (f : ℕ → ℤ) (i : ℕ) → (f i -ℤ pos 1) *ℤ (f i +ℤ pos 1) ≡ f i *ℤ f i -ℤ pos 1
-square_less_one f i = read (f i ∷ []) (λ xs p. simp (p, polys, lits xs, below_lits xs) (den-ring xs _ _ tt))

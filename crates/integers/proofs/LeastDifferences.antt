@@ -1,10 +1,10 @@
 -- Fractions with small denominators lie apart: two that differ, with denominators of at most q, differ by at least 1 / q².
-use Rattle.std.proofs.Common.{◌≡◌, ℕ, suc, ◌+◌, ◌*◌, ◌/◌, ◌≤◌, ◌<◌, ℤ, pos, negsuc, nat_abs, ◌+ℤ◌, ◌-ℤ◌, ◌*ℤ◌, ◌≤ℤ◌, ◌<ℤ◌, arith, [], ◌∷◌, le_of_mul-le-mul_right, mul-le-mul_right, mul-le-mul}
-use Rattle.std.proofs.lemmas.Int.{ints, by_lt_z}
+use Rattle.std.proofs.Common.{ℕ, suc, ◌+◌, ◌*◌, ◌/◌, ◌≤◌, ◌<◌, ℤ, pos, negsuc, nat_abs, ◌+ℤ◌, ◌-ℤ◌, ◌*ℤ◌, ◌≤ℤ◌, ◌<ℤ◌, arith, [], ◌∷◌, le_of_mul-le-mul_right, mul-le-mul_right, mul-le-mul}
+use Rattle.std.proofs.lemmas.Int.{ints}
 use Rattle.std.proofs.lemmas.Nat.{le-div}
 use Rattle.std.proofs.Math.Nat.{mul-div-le}
 use Rattle.integers.proofs.Identities.{den-ring, read, polys, below_lits}
-use Rattle.integers.proofs.Order.{nonneg_mul, nonneg_add, le_from_lt, le_by, mul_le_both, nonneg_difference, positive_difference, at_least_one, le_antisymm_ℤ, lt_by}
+use Rattle.integers.proofs.Order.{nonneg_mul, nonneg_add, le_from_lt, le_by, mul_le_both, nonneg_difference, positive_difference, at_least_one, lt_by}
 
 -- ---- over `ℕ`
 
@@ -40,19 +40,6 @@ fraction_difference a b c d q pb pd hb hd h =
   where
     above : {b q : ℤ} → pos 0 <ℤ b → b ≤ℤ q → pos 0 ≤ℤ q
     above p h = omega (arith, ints)
-
--- fractions that are closer than 1 / q² in both directions are equal
-pub same_within_difference : (a b c d q : ℤ) → pos 0 <ℤ b → pos 0 <ℤ d → b ≤ℤ q → d ≤ℤ q
-    → (c *ℤ b *ℤ (q *ℤ q)) <ℤ (a *ℤ d *ℤ (q *ℤ q) +ℤ b *ℤ d)
-    → (a *ℤ d *ℤ (q *ℤ q)) <ℤ (c *ℤ b *ℤ (q *ℤ q) +ℤ d *ℤ b)
-    → a *ℤ d ≡ c *ℤ b
-same_within_difference a b c d q pb pd hb hd near_above near_below =
-    by_lt_z (a *ℤ d) (c *ℤ b)
-    (λ less. absurd (clash (fraction_difference a b c d q pb pd hb hd less) near_above))
-    (λ at_least. by_lt_z (c *ℤ b) (a *ℤ d) (λ more. absurd (clash (fraction_difference c d a b q pd pb hd hb more) near_below)) (λ at_most. le_antisymm_ℤ at_most at_least))
-  where
-    clash : {x y : ℤ} → x ≤ℤ y → y <ℤ x → ⊥
-    clash h k = omega (arith, ints)
 
 -- so a value of ℤ that rises takes a greater whole number each time
 pub floor_rises_ℤ : (a b c d : ℤ) (q : ℕ) → pos 0 ≤ℤ a → pos 0 <ℤ b → pos 0 ≤ℤ c → pos 0 <ℤ d → b ≤ℤ pos q → d ≤ℤ pos q → (a *ℤ d) <ℤ (c *ℤ b)

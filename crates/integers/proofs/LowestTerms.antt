@@ -1,26 +1,16 @@
--- Fractions in lowest terms: each has one such form, which its other forms are multiples of.
+-- Fractions in lowest terms: each has one such form.
 use Prim.Native.Nat.{◌∣◌}
-use Rattle.std.proofs.Common.{◌≡◌, refl, sym, ◌∙◌, ap, ap₂, subst, ℕ, zero, suc, ◌*◌, ◌/◌, ◌<◌, ℤ, pos, ◌*ℤ◌, ◌<ℤ◌, nat_abs, List, [], ◌∷◌, map, arith, mul_comm}
+use Rattle.std.proofs.Common.{◌≡◌, refl, sym, ◌∙◌, ap, ap₂, subst, ℕ, zero, suc, ◌*◌, ◌/◌, ◌<◌, ℤ, pos, ◌*ℤ◌, ◌<ℤ◌, nat_abs, List, [], ◌∷◌, map, arith}
 use Rattle.std.specs.Int.{IsGcd}
 use Rattle.std.proofs.lemmas.Int.{ints, unsigned_abs-mul}
 use Rattle.std.proofs.Math.IntN.{*ℤ_comm}
-use Rattle.std.proofs.Math.Nat.{dvd_antisymm, dvd-mul_left, mul-div_cancel', eq_of_mul-eq-mul_left, eq-one_of_dvd-one}
+use Rattle.std.proofs.Math.Nat.{dvd_antisymm, dvd-mul_left, mul-div_cancel', eq_of_mul-eq-mul_left}
 use Rattle.std.proofs.lemmas.Nat.Gcd.{IsGcd-swap}
 use Rattle.integers.specs.LowestTerms.{IsLowestTerms}
-use Rattle.integers.proofs.Divisors.{dvd_of_dvd-mul, IsGcd-div, IsGcd-one, gcd_all, gcd_all-scale}
+use Rattle.integers.proofs.Divisors.{dvd_of_dvd-mul, IsGcd-div, gcd_all, gcd_all-scale}
 use Rattle.integers.proofs.Order.{same_of_mul}
 
 -- ---- over `ℕ`
-
--- m / e is a multiple of the lowest form n / d of the same value
-pub multiple_of_lowest : (n d m e : ℕ) → IsLowestTerms n d → n * e ≡ m * d → (k : ℕ) × (m ≡ k * n) × (e ≡ k * d)
-multiple_of_lowest n d m e h q =
-    let divides : d ∣ e = dvd_of_dvd-mul d n e (IsGcd-swap n d 1 h.common_factor) (subst (λ v. d ∣ v) (sym q) (dvd-mul_left d m)) in
-    let whole : d * (e / d) ≡ e = mul-div_cancel' d divides in
-    (e / d, eq_of_mul-eq-mul_left d h.denominator m (e / d * n) (sides (e / d) whole q), sym whole ∙ mul_comm d (e / d))
-  where
-    sides : (k : ℕ) → d * k ≡ e → n * e ≡ m * d → d * m ≡ d * (k * n)
-    sides k w q = let v : n * (d * k) ≡ m * d = subst (λ e. n * e ≡ m * d) (sym w) q in omega arith
 
 -- two lowest forms of one value are the same
 pub lowest_unique : (n d m e : ℕ) → IsLowestTerms n d → IsLowestTerms m e → n * e ≡ m * d → (n ≡ m) × (d ≡ e)
@@ -55,10 +45,6 @@ lowest_value n d g h = sides (n / g) (d / g) (mul-div_cancel' g h.0) (mul-div_ca
 
     sides : (a b : ℕ) → g * a ≡ n → g * b ≡ d → a * d ≡ n * b
     sides a b e f = ap (λ d. a * d) (sym f) ∙ swap a g b ∙ ap (λ n. n * b) e
-
--- 0 in lowest terms is 0 / 1
-pub lowest_zero : (d : ℕ) → IsLowestTerms 0 d → d ≡ 1
-lowest_zero d h = (lowest_unique 0 d 0 1 h (record { denominator = omega arith; common_factor = IsGcd-one 0 1 (λ k _ l. eq-one_of_dvd-one l) }) (omega arith)).1
 
 -- ---- over `ℤ`
 

@@ -144,11 +144,6 @@ pub mul_le_left : {a b : ℤ} (k : ℤ) → pos 0 ≤ℤ k → a ≤ℤ b → (k
 mul_le_left {a} {b} k h l =
     le_by (nonneg_mul h (nonneg_difference l)) (read (a ∷ b ∷ k ∷ []) (λ xs p q r. simp (p, q, r, polys) (den-ring xs _ _ tt)))
 
--- both sides times a number that is at most 0, which turns the order
-pub mul_le_neg : {a b : ℤ} (k : ℤ) → k ≤ℤ pos 0 → a ≤ℤ b → (k *ℤ b) ≤ℤ (k *ℤ a)
-mul_le_neg {a} {b} k h l =
-    le_by (nonneg_mul {a = neg_ℤ k} (omega (arith, ints)) (nonneg_difference l)) (read (a ∷ b ∷ k ∷ []) (λ xs p q r. simp (p, q, r, polys) (den-ring xs _ _ tt)))
-
 -- both sides times a number above 0
 pub mul_lt_left : {a b : ℤ} (k : ℤ) → pos 0 <ℤ k → a <ℤ b → (k *ℤ a) <ℤ (k *ℤ b)
 mul_lt_left {a} {b} k h l =
@@ -183,10 +178,6 @@ same_of_mul k h e = le_antisymm_ℤ (le_of_mul_le k h (le_of_same e)) (le_of_mul
 
 -- ---- squares
 
--- squares keep the order of numbers that are at least 0
-pub square_le : {a b : ℤ} → pos 0 ≤ℤ a → a ≤ℤ b → (a *ℤ a) ≤ℤ (b *ℤ b)
-square_le h l = mul_le_both h h l l
-
 -- a number whose square is at most that of b, which is at least 0, is at most b
 pub le_of_square_le : {a b : ℤ} → pos 0 ≤ℤ b → (a *ℤ a) ≤ℤ (b *ℤ b) → a ≤ℤ b
 le_of_square_le {a} {b} h l =
@@ -196,22 +187,11 @@ le_of_square_le {a} {b} h l =
     absurd (<ℤ_irrefl {a = a *ℤ a} (omega (arith, ints))))
     (λ le. le)
 
--- and strictly
-pub lt_of_square_lt : {a b : ℤ} → pos 0 ≤ℤ b → (a *ℤ a) <ℤ (b *ℤ b) → a <ℤ b
-lt_of_square_lt {a} {b} h l =
-    by_lt_z a b
-    (λ lt. lt)
-    (λ above. let m = square_le h above in absurd (<ℤ_irrefl {a = a *ℤ a} (omega (arith, ints))))
-
 -- a number whose square is at most 0 is 0
 pub zero_of_square : (a : ℤ) → (a *ℤ a) ≤ℤ pos 0 → a ≡ pos 0
 zero_of_square (pos zero) h = refl
 zero_of_square (pos (suc n)) h = let p : pos 0 <ℤ (pos (suc n) *ℤ pos (suc n)) = square_positive (pos (suc n)) (λ e. absurd (cc)) in absurd (omega (arith, ints))
 zero_of_square (negsuc n) h = let p : pos 0 <ℤ (negsuc n *ℤ negsuc n) = square_positive (negsuc n) (λ e. absurd (cc)) in absurd (omega (arith, ints))
-
--- twice a product is at most the sum of the squares
-pub twice_product_le : (a b : ℤ) → (pos 2 *ℤ (a *ℤ b)) ≤ℤ (a *ℤ a +ℤ b *ℤ b)
-twice_product_le a b = le_by (square_nonneg (a -ℤ b)) (read (a ∷ b ∷ []) (λ xs p q. simp (p, q, polys, lits xs) (den-ring xs _ _ tt)))
 
 -- ---- an equation by a linear combination of equations (the coefficients are written, the last premise is for `read`)
 

@@ -1,10 +1,10 @@
 -- The parallel-axis identity: the weighted squared distances from a point are those from the centre of mass, and the total weight times the squared distance of the two.
-use Rattle.std.proofs.Common.{◌≡◌, ℤ, pos, ◌+ℤ◌, ◌-ℤ◌, ◌*ℤ◌, ◌≤ℤ◌, List, [], ◌∷◌}
+use Rattle.std.proofs.Common.{◌≡◌, ℤ, pos, ◌+ℤ◌, ◌-ℤ◌, ◌*ℤ◌, List, [], ◌∷◌}
 use Rattle.integers.specs.Total.{total}
 use Rattle.integers.specs.Determinants.{square2, square3}
 use Rattle.integers.specs.Moments.{moment, second_moment2, second_moment3, distances2, distances3}
 use Rattle.integers.proofs.Identities.{den-ring, read, polys, lits}
-use Rattle.integers.proofs.Order.{nonneg_add, square_nonneg, le_by, combine1}
+use Rattle.integers.proofs.Order.{combine1}
 
 -- ---- in the plane
 
@@ -35,15 +35,6 @@ pub parallel_axis_plane : {A : Type 0} (weight x y : A → ℤ) (k p q : ℤ) (s
 parallel_axis_plane weight x y k p q s =
     plane_axis k p q (distances2 weight x y k p q s) (second_moment2 weight x y s) (moment weight x s) (moment weight y s) (total weight s) (distances2_by_moments weight x y k p q s)
 
-plane_least : (u v R D : ℤ) → D ≡ u *ℤ u +ℤ v *ℤ v +ℤ R → R ≤ℤ D
-plane_least u v R D h = le_by (nonneg_add (square_nonneg u) (square_nonneg v)) (combine1 (pos 1) h (read (u ∷ v ∷ R ∷ D ∷ []) (λ xs a b c d. simp (a, b, c, d, polys, lits xs) (den-ring xs _ _ tt))))
-
--- so no point has a smaller weighted sum than the centre of mass
-pub least_at_centre_plane : {A : Type 0} (weight x y : A → ℤ) (k p q : ℤ) (s : List A)
-    → (k *ℤ k *ℤ (total weight s *ℤ second_moment2 weight x y s -ℤ square2 (moment weight x s) (moment weight y s))) ≤ℤ (total weight s *ℤ distances2 weight x y k p q s)
-least_at_centre_plane weight x y k p q s =
-    plane_least (total weight s *ℤ p -ℤ k *ℤ moment weight x s) (total weight s *ℤ q -ℤ k *ℤ moment weight y s) _ _ (parallel_axis_plane weight x y k p q s)
-
 -- ---- in space
 
 -- one more point (x, y, z) of weight w before points with the sums D, Q, S, T, U and W
@@ -72,13 +63,3 @@ pub parallel_axis_space : {A : Type 0} (weight x y z : A → ℤ) (k p q r : ℤ
     +ℤ k *ℤ k *ℤ (total weight s *ℤ second_moment3 weight x y z s -ℤ square3 (moment weight x s) (moment weight y s) (moment weight z s))
 parallel_axis_space weight x y z k p q r s =
     space_axis k p q r (distances3 weight x y z k p q r s) (second_moment3 weight x y z s) (moment weight x s) (moment weight y s) (moment weight z s) (total weight s) (distances3_by_moments weight x y z k p q r s)
-
-space_least : (u v w R D : ℤ) → D ≡ u *ℤ u +ℤ v *ℤ v +ℤ w *ℤ w +ℤ R → R ≤ℤ D
-space_least u v w R D h =
-    le_by (nonneg_add (nonneg_add (square_nonneg u) (square_nonneg v)) (square_nonneg w)) (combine1 (pos 1) h (read (u ∷ v ∷ w ∷ R ∷ D ∷ []) (λ xs a b c d e. simp (a, b, c, d, e, polys, lits xs) (den-ring xs _ _ tt))))
-
--- so no point has a smaller weighted sum than the centre of mass
-pub least_at_centre_space : {A : Type 0} (weight x y z : A → ℤ) (k p q r : ℤ) (s : List A)
-    → (k *ℤ k *ℤ (total weight s *ℤ second_moment3 weight x y z s -ℤ square3 (moment weight x s) (moment weight y s) (moment weight z s))) ≤ℤ (total weight s *ℤ distances3 weight x y z k p q r s)
-least_at_centre_space weight x y z k p q r s =
-    space_least (total weight s *ℤ p -ℤ k *ℤ moment weight x s) (total weight s *ℤ q -ℤ k *ℤ moment weight y s) (total weight s *ℤ r -ℤ k *ℤ moment weight z s) _ _ (parallel_axis_space weight x y z k p q r s)

@@ -2,7 +2,7 @@
 --
 -- `size_fits (size_mul h k) tt` proves that a product fits 128 bits, where h and k bound its factors. For a whole expression of code
 -- MachineArithmetic is shorter.
-use Rattle.std.proofs.Common.{◌≡◌, subst, ◌⊎◌, inl, inr, ℕ, ◌+◌, ◌*◌, ◌≤◌, ◌^◌, ℤ, pos, ◌+ℤ◌, ◌-ℤ◌, ◌*ℤ◌, neg_ℤ, ◌≤ℤ◌, FitsSigned, to_z, of_z, to_z-of_z, arith, mul-le-mul, w32, w64, T, ltb, ltb→lt, leb, leb→le, le_refl, le_trans}
+use Rattle.std.proofs.Common.{◌≡◌, subst, ◌⊎◌, inl, inr, ℕ, ◌+◌, ◌*◌, ◌≤◌, ◌^◌, ℤ, pos, ◌+ℤ◌, ◌-ℤ◌, ◌*ℤ◌, neg_ℤ, ◌≤ℤ◌, FitsSigned, to_z, of_z, to_z-of_z, arith, mul-le-mul, w64, T, ltb, ltb→lt, leb, leb→le, le_refl, le_trans}
 use Rattle.std.proofs.lemmas.Int.{ints, unsigned_abs-mul, fits_signed_from_abs}
 use mir.Syntax.{Width, w128}
 use mir.Val.{hbits}
@@ -44,14 +44,6 @@ below_size h = let l = h.abs in omega (arith, ints)
 pub above_size : {a : ℤ} {n : ℕ} → Size n a → neg_ℤ (pos n) ≤ℤ a
 above_size h = let l = h.abs in omega (arith, ints)
 
--- the numbers of an `i32`
-pub size_of_i32 : {a : ℤ} → FitsSigned w32 a → Size (2 ^ 31) a
-size_of_i32 f = record { abs = omega (arith, ints) }
-
--- the numbers of an `i64`
-pub size_of_i64 : {a : ℤ} → FitsSigned w64 a → Size (2 ^ 63) a
-size_of_i64 f = record { abs = omega (arith, ints) }
-
 -- an unsigned number that is read as a signed one
 pub size_unsigned : (n : ℕ) {m : ℕ} → n ≤ m → Size m (pos n)
 size_unsigned n h = record { abs = omega arith }
@@ -82,14 +74,6 @@ size_fits h t = size_fits_in w128 h t
 pub size_fits64 : {a : ℤ} {n : ℕ} → Size n a → T (ltb n (2 ^ 63)) → FitsSigned w64 a
 size_fits64 h t = size_fits_in w64 h t
 
--- 32 bits
-pub size_fits32 : {a : ℤ} {n : ℕ} → Size n a → T (ltb n (2 ^ 31)) → FitsSigned w32 a
-size_fits32 h t = size_fits_in w32 h t
-
--- a number of a narrow type in a wide one: `fits_wider w32 w128 c.ranges.x tt`
-pub fits_wider : (v w : Width) {a : ℤ} → FitsSigned v a → T (leb (2 ^ hbits v) (2 ^ hbits w)) → FitsSigned w a
-fits_wider v w f t = record { sfits = le_trans f.sfits (leb→le (2 ^ hbits v) (2 ^ hbits w) t) }
-
 -- ---- a number that went to its bits and back
 
 -- it is the same number, at any width
@@ -103,6 +87,3 @@ wrap_is h t = wrap_is_in w128 h t
 -- so its bound stays
 pub size_wrap : {a : ℤ} {n : ℕ} → Size n a → T (ltb n (2 ^ 127)) → Size n (to_z w128 (of_z w128 a))
 size_wrap {a} {n} h t = record { abs = rw (to_z-of_z (size_fits h t)) h.abs }
-
--- for `search`
-pub ruleset sizes = (size_fits, size_wrap, size_add, size_sub, size_mul, size_neg)

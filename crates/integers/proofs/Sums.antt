@@ -1,14 +1,12 @@
 -- Sums of a whole number for each element of a list.
-use Rattle.std.proofs.Common.{◌≡◌, refl, sym, ◌∙◌, ap, ap₂, ℕ, suc, ◌+◌, ◌*◌, ◌<◌, take, get_or, length, map, ℤ, pos, ◌+ℤ◌, ◌-ℤ◌, ◌*ℤ◌, neg_ℤ, ◌≤ℤ◌, ◌<ℤ◌, List, [], ◌∷◌, ◌++◌, arith}
+use Rattle.std.proofs.Common.{◌≡◌, refl, sym, ◌∙◌, ap, ap₂, ℕ, ◌+◌, ◌<◌, take, get_or, length, map, ℤ, pos, ◌+ℤ◌, ◌*ℤ◌, ◌≤ℤ◌, ◌<ℤ◌, List, [], ◌∷◌, ◌++◌, arith}
 use Rattle.std.specs.Prelude.{All}
 use Rattle.std.proofs.lemmas.Int.{ints}
 use Rattle.std.proofs.lemmas.List.{take_more}
 use Rattle.std.proofs.lemmas.List.Elements.{All-head, All-tail}
-use Rattle.integers.specs.Size.{Size}
 use Rattle.integers.specs.Total.{total}
 use Rattle.integers.proofs.Identities.{den-ring, read, polys, lits}
 use Rattle.integers.proofs.Order.{nonneg_add, nonneg_mul, nonneg_difference, le_by, combine1}
-use Rattle.integers.proofs.Sizes.{size_add}
 
 -- ---- over lists
 
@@ -43,16 +41,6 @@ pub total-add : {A : Type 0} (f g : A → ℤ) (s : List A) → total (λ a. f a
 total-add f g [] = refl
 total-add f g (a ∷ s) = let ih = total-add f g s in omega (arith, ints)
 
--- the difference of two functions
-pub total-sub : {A : Type 0} (f g : A → ℤ) (s : List A) → total (λ a. f a -ℤ g a) s ≡ total f s -ℤ total g s
-total-sub f g [] = refl
-total-sub f g (a ∷ s) = let ih = total-sub f g s in omega (arith, ints)
-
--- the negative of a function
-pub total-neg : {A : Type 0} (f : A → ℤ) (s : List A) → total (λ a. neg_ℤ (f a)) s ≡ neg_ℤ (total f s)
-total-neg f [] = refl
-total-neg f (a ∷ s) = let ih = total-neg f s in omega (arith, ints)
-
 scale_step : (k x t u : ℤ) → u ≡ k *ℤ t → k *ℤ x +ℤ u ≡ k *ℤ (x +ℤ t)
 scale_step k x t u ih =
     combine1 (pos 1) ih (read (k ∷ x ∷ t ∷ u ∷ []) (λ xs p q r t. simp (p, q, r, t, polys, lits xs) (den-ring xs _ _ tt)))
@@ -76,17 +64,6 @@ pub total-zero : {A : Type 0} (s : List A) → total (λ (a : A). pos 0) s ≡ p
 total-zero [] = refl
 total-zero (a ∷ s) = let ih = total-zero s in omega (arith, ints)
 
-const_step : (k : ℤ) (n : ℕ) (u : ℤ) → u ≡ pos n *ℤ k → k +ℤ u ≡ pos (suc n) *ℤ k
-const_step k n u ih = let m = one_more (pos n) k in omega (arith, ints)
-  where
-    one_more : (m k : ℤ) → (m +ℤ pos 1) *ℤ k ≡ m *ℤ k +ℤ k
-    one_more m k = read (m ∷ k ∷ []) (λ xs p q. simp (p, q, polys, lits xs) (den-ring xs _ _ tt))
-
--- one number for each element
-pub total-constant : {A : Type 0} (k : ℤ) (s : List A) → total (λ (a : A). k) s ≡ pos (length s) *ℤ k
-total-constant k [] = omega (arith, ints)
-total-constant {A} k (a ∷ s) = const_step k (length s) (total (λ (a : A). k) s) (total-constant k s)
-
 -- the order of two sums can be exchanged
 pub total-exchange : {A B : Type 0} (f : A → B → ℤ) (s : List A) (t : List B) → total (λ a. total (λ b. f a b) t) s ≡ total (λ b. total (λ a. f a b) s) t
 total-exchange f [] t = sym (total-zero t)
@@ -95,11 +72,6 @@ total-exchange f (a ∷ s) t =
     ∙ sym (total-add (λ b. f a b) (λ b. total (λ a. f a b) s) t)
 
 -- ---- orders
-
--- a sum of numbers that are at least 0 is
-pub total_nonneg : {A : Type 0} (f : A → ℤ) (s : List A) → ((a : A) → pos 0 ≤ℤ f a) → pos 0 ≤ℤ total f s
-total_nonneg f [] h = omega (arith, ints)
-total_nonneg f (a ∷ s) h = nonneg_add (h a) (total_nonneg f s h)
 
 -- the same, where only the list's own elements are known
 pub total_nonneg_all : {A : Type 0} (f : A → ℤ) (s : List A) → All (λ a. pos 0 ≤ℤ f a) s → pos 0 ≤ℤ total f s
@@ -144,14 +116,3 @@ total_weighted_le weight f d M (a ∷ s) p h =
     (All-head (λ a. pos 0 ≤ℤ weight a) a s p)
     (All-head (λ a. (d *ℤ f a) ≤ℤ M) a s h)
     (total_weighted_le weight f d M s (All-tail (λ a. pos 0 ≤ℤ weight a) a s p) (All-tail (λ a. (d *ℤ f a) ≤ℤ M) a s h))
-
--- ---- size
-
-size_step : {x t : ℤ} (m n : ℕ) → Size m x → Size (n * m) t → Size (suc n * m) (x +ℤ t)
-size_step m n h k = let g = size_add h k in record { abs = omega (arith, g.abs) }
-
--- numbers of at most m have a sum of at most m for each
-pub size_total : {A : Type 0} (f : A → ℤ) (m : ℕ) (s : List A) → All (λ a. Size m (f a)) s → Size (length s * m) (total f s)
-size_total f m [] h = record { abs = omega arith }
-size_total f m (a ∷ s) h =
-    size_step m (length s) (All-head (λ a. Size m (f a)) a s h) (size_total f m s (All-tail (λ a. Size m (f a)) a s h))

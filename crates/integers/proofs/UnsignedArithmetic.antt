@@ -3,12 +3,11 @@
 -- `with_limited` takes the inputs, each with its limit, and a function of their list, of their limits and of an equation for each:
 --
 --   overflow_mul-x c =
---       with_limited (limited_below _ (2 ^ 40) c.requires.a ∷ limited _ 1000 c.requires.b ∷ []) (λ xs h a b. simp (a, b, amounts) (amount_fits xs h w128 _ tt))
+--       with_limited (limited _ (2 ^ 40) c.requires.a ∷ limited _ 1000 c.requires.b ∷ []) (λ xs h a b. simp (a, b, amounts) (amount_fits xs h w128 _ tt))
 --
 -- - `amount_fits xs h w _ tt` for an overflow, and `amount_within xs h _ tt` for a bound that the function ensures.
--- - A numeral of the goal wants its rule: `numeral_is xs 3`.
 -- - A result needs none of this, since unsigned code appears in goals as it is. One or two products are found without an answer.
-use Rattle.std.proofs.Common.{◌≡◌, refl, ℕ, zero, suc, ◌+◌, ◌-◌, ◌*◌, ◌^◌, ◌≤◌, ◌<◌, arith, List, [], ◌∷◌, T, ltb, ltb→lt, leb, leb→le, le_trans, mul-le-mul, zero-le, Fits}
+use Rattle.std.proofs.Common.{◌≡◌, refl, ℕ, zero, suc, ◌+◌, ◌-◌, ◌*◌, ◌^◌, ◌≤◌, arith, List, [], ◌∷◌, T, ltb, ltb→lt, leb, leb→le, le_trans, mul-le-mul, zero-le, Fits}
 use mir.Syntax.{Width}
 use mir.Val.{bits}
 use Rattle.integers.proofs.MachineArithmetic.{bound_at}
@@ -78,11 +77,6 @@ amount-minus xs e f = refl
 -- for `simp`
 pub ruleset amounts = (amount-plus, amount-times, amount-minus)
 
--- for each numeral of the goal, as `numeral_is xs 2`
-pub numeral_is : (xs : List ℕ) (n : ℕ) → n ≡ amount xs (numeral n)
-unfolding amount
-numeral_is xs n = refl
-
 -- the code's value fits
 pub amount_fits : {ns : List ℕ} (xs : List ℕ) → Limits ns xs → (w : Width) (e : Count) → T (ltb (most ns e) (2 ^ bits w)) → Fits w (amount xs e)
 unfolding amount
@@ -129,14 +123,6 @@ pub record Limited : Type 0 where
 -- `limited x n h`, where h says that x is at most n
 abbrev pub limited : (x n : ℕ) → x ≤ n → Limited
 limited x n h = record { value = x; limit = n; within = h }
-
--- a number below n is at most n
-pub le_of_below : {x n : ℕ} → x < n → x ≤ n
-le_of_below h = omega arith
-
--- the same, where h says that x is below n
-abbrev pub limited_below : (x n : ℕ) → x < n → Limited
-limited_below x n h = record { value = x; limit = n; within = le_of_below h }
 
 -- the numbers
 abbrev pub amounts_of : List Limited → List ℕ

@@ -3,7 +3,7 @@
 //! the words that contracts cite stand in `specs/`.
 //!
 //! - `Identities`: an identity of polynomials in one line, with a guide at its head. Below it stand `Polynomials` and `RingLaws`.
-//! - `Order`: signs and orders of products, cancelling, squares, an order from a difference, linear combinations of equations.
+//! - `Order` and `Magnitudes`: signs and orders of products, cancelling, squares, an order from a difference, linear combinations of equations; magnitudes.
 //! - `Sums` and `Extremes`: the sum, the greatest and the least value of a function over a list, and the steps of loops.
 //! - `Sizes`, `MachineArithmetic` and `UnsignedArithmetic`: bounds, and overflows and results at 32, 64 and 128 bits in one line.
 //! - `Divisors`, `LowestTerms`, `Fractions` and `LeastDifferences`: the greatest common divisor, the one lowest form, orders, how far apart fractions lie.
