@@ -1,7 +1,7 @@
 -- How large sums over weighted points are.
 use Rattle.std.proofs.Common.{◌≡◌, sym, subst, ℕ, ◌+◌, ◌*◌, ◌^◌, ◌≤◌, ◌⊎◌, inl, inr, ℤ, pos, ◌+ℤ◌, ◌*ℤ◌, arith, le_trans, mul-le-mul, le_refl}
 use Rattle.integers.specs.Size.{Size}
-use Rattle.integers.proofs.Sizes.{size_add, size_mul, size_unsigned}
+use Rattle.integers.proofs.Sizes.{size_add, size_mul, size_unsigned, size_more_weight}
 use Rattle.bounds_model.specs.Space.{SpacePoint}
 use Rattle.kernel_laws.specs.Limits.{IsVectorWithin, difference_limit, ball_limit}
 use Rattle.ball_sums.specs.Sums.{IsInRange, squared_length_limit}
@@ -19,12 +19,6 @@ second_moment_most {dim} {n} (inl e) h = subst (λ d. n * squared_length_limit d
 second_moment_most {dim} {n} (inr e) h = subst (λ d. n * squared_length_limit d ≤ 2 ^ 122) (sym e) (let fits : n ≤ 2 ^ 92 = subst (λ d. n ≤ ball_limit d) e h in omega arith)
 
 -- ---- one point more
-
-distributes : (t w r : ℕ) → t * r + w * r ≡ (t + w) * r
-distributes t w r = omega arith
-
-size_more_weight : (t w r : ℕ) {a x : ℤ} → Size (t * r) a → Size r x → Size ((t + w) * r) (a +ℤ pos w *ℤ x)
-size_more_weight t w r {a} {x} h k = subst (λ n. Size n (a +ℤ pos w *ℤ x)) (distributes t w r) (size_add h (size_mul (size_unsigned w (le_refl w)) k))
 
 more_second_moment : (t w q m r : ℕ) → m ≤ t * r → q ≤ r → m + w * q ≤ (t + w) * r
 more_second_moment t w q m r h k = let product : w * q ≤ w * r = mul-le-mul (le_refl w) k in omega (arith, distributes t w r)

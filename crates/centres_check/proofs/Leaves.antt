@@ -150,10 +150,3 @@ none_found side depth points squares seen found leaves same none h leaves_there 
   where
     itself : (n : ℕ) → n ≤ n
     itself n = omega arith
-
--- what a push added, a pop takes away
-pub popped : {X : Type 0} (old pushed kept now : List X) (x : X) → pushed ≡ old ++ x ∷ [] → kept ≡ pushed → now ≡ take (length kept - 1) kept → now ≡ old
-popped old pushed kept now x is same rest = rest ∙ ap (λ xs. take (length xs - 1) xs) (same ∙ is) ∙ take_at old (x ∷ []) (length (old ++ x ∷ []) - 1) (one_less (length old) (length (old ++ x ∷ [])) (length_push old x))
-  where
-    one_less : (m n : ℕ) → n ≡ m + 1 → m ≡ n - 1
-    one_less m n e = omega (arith, e)

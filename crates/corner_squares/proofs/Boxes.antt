@@ -7,6 +7,7 @@ use Rattle.std.proofs.lemmas.List.{get_or_default}
 use Rattle.std.proofs.lemmas.List.Elements.{Contains-get_or}
 use Rattle.integers.specs.Extremes.{greatest, least}
 use Rattle.integers.proofs.Extremes.{greatest_is, least_is}
+use Rattle.integers.proofs.Lists.{below_or_at}
 use Rattle.bounds_model.specs.Numbers.{IsWithin}
 use Rattle.bounds_model.specs.Plane.{PlanePoint, point_at, origin, plane_limit, IsInPlane}
 use Rattle.bounds_model.specs.CentresAnswer as model
@@ -18,10 +19,6 @@ use Rattle.corner_squares.specs.Extents.{Sees, HasAt, IsExtent, IsBox, Adds, IsF
 use Rattle.corner_squares.proofs.LeftOver.{Contains-left_over, All-left_over, left_over-push}
 
 -- ---- one point more
-
--- an index below i + 1 is below i or i
-pub below_or_at : (k i : ℕ) → k < i + 1 → (k < i) ⊎ (k ≡ i)
-below_or_at k i h = grind arith
 
 one_later : (k i : ℕ) → k < i → k < i + 1
 one_later k i h = omega (arith, h)

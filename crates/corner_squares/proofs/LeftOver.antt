@@ -2,6 +2,7 @@
 use Rattle.std.proofs.Common.{◌≡◌, inl, inr, refl, sym, subst, ap, ◌∙◌, ℕ, zero, suc, ◌<◌, Bool, true, false, List, [], ◌∷◌, ◌++◌, length, get_or, All, Contains, arith}
 use Rattle.std.specs.Prelude.{filter, not, cond, IsTrue}
 use Rattle.std.proofs.lemmas.List.Elements.{All-contains, All-filter, All-contains_itself, filter_passes, Contains-append_cases, Contains-append_right}
+use Rattle.integers.proofs.Lists.{Contains-head}
 use Rattle.bounds_model.specs.Plane.{PlanePoint}
 use Rattle.bounds_model.specs.CentresAnswer.{contains, outside}
 use Rattle.corner_squares.specs.declared.square.Square.{Square}
@@ -17,9 +18,6 @@ first_of_one : {X : Type 0} (x p : X) → Contains (x ∷ []) p → x ≡ p
 first_of_one x p (zero, below, is) = is
 first_of_one x p (suc k, below, is) = absurd (omega arith)
 
-head_of : {X : Type 0} (x : X) (xs : List X) → Contains (x ∷ xs) x
-head_of x xs = (0, omega arith, refl)
-
 -- what passes a test stays
 pub Contains-filter : {X : Type 0} (test : X → Bool) (xs : List X) (p : X) → Contains xs p → test p ≡ true → Contains (filter test xs) p
 Contains-filter test [] p m passes = let l = m.1 in absurd (omega arith)
@@ -27,7 +25,7 @@ Contains-filter {X} test (x ∷ xs) p m passes = elim (Contains-append_cases (x 
   | inl here ↦
       let is = first_of_one x p here in
       let ok : test x ≡ true = ap test is ∙ passes in
-      subst (λ b. Contains (cond b (x ∷ filter test xs) (filter test xs)) p) (sym ok) (subst (λ y. Contains (x ∷ filter test xs) y) is (head_of x (filter test xs)))
+      subst (λ b. Contains (cond b (x ∷ filter test xs) (filter test xs)) p) (sym ok) (subst (λ y. Contains (x ∷ filter test xs) y) is (Contains-head x (filter test xs)))
   | inr there ↦ later (test x) (Contains-filter test xs p there passes)
 ]
   where

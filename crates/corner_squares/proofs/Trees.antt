@@ -1,6 +1,7 @@
 -- The leaves of a tree of corners, from those below each corner and back.
 use Rattle.std.proofs.Common.{◌≡◌, ◌⊎◌, inl, inr, refl, sym, subst, ap, ap₂, ◌∙◌, ℕ, zero, suc, ◌+◌, ◌-◌, ◌*◌, ◌/◌, ◌%◌, ◌^◌, ◌<◌, ◌≤◌, List, [], ◌∷◌, ◌++◌, length, get_or, take, drop, Contains, arith}
 use Rattle.std.proofs.lemmas.List.{length-append, get_or_append_left, get_or-append_right, get_or-take, get_or-drop, length-take-le, length-drop}
+use Rattle.integers.proofs.Lists.{before_or_after}
 use Rattle.bounds_model.specs.Numbers.{AllNumbered}
 use Rattle.bounds_model.specs.Plane.{PlanePoint, point_at}
 use Rattle.bounds_model.specs.CentresAnswer.{Leaf, digits, IsLeftOver, AreFar, AreLeaves, outside, corner_square}
@@ -68,9 +69,6 @@ pub record AreBelowFirst (side depth corner : ℕ) (points rest : List PlanePoin
 
 pub none_below : (side depth : ℕ) (points rest : List PlanePoint) → AreBelowFirst side depth 0 points rest []
 none_below side depth points rest = record { as_many = omega arith; each = λ k d below. absurd (omega arith) }
-
-before_or_after : (k n : ℕ) → (k < n) ⊎ (n ≤ k)
-before_or_after k n = grind arith
 
 -- and those below one corner more
 pub more_below : (side depth corner : ℕ) (points rest : List PlanePoint) (leaves own : List Leaf) → depth ≤ 1 → corner < 4 → AreBelowFirst side depth corner points rest leaves

@@ -4,6 +4,7 @@ use Rattle.std.specs.Prelude.{All, IsTrue, ◌↔◌}
 use Rattle.std.specs.Int.Signed.{lt_z}
 use Rattle.std.proofs.lemmas.Int.{ints}
 use Rattle.std.proofs.lemmas.List.Elements.{All-nil, All-cons}
+use Rattle.integers.proofs.Order.{is_less, is_not_less}
 use Rattle.bounds_model.specs.Space.{SpacePoint, plus, times, origin}
 use Rattle.bounds_model.specs.Slacks.{WeightedVector, mass, slack, AreAffinelyDependent, IsDependence, IsLow}
 use Rattle.kernel_laws.specs.Vectors.{sum_of}
@@ -17,7 +18,6 @@ use Rattle.corral.specs.Balances.{IsBalance}
 use Rattle.corral.proofs.Supports.{all_vectors}
 use Rattle.corral.proofs.Moments.{below_common}
 use Rattle.corral.proofs.MomentSums.{AreLimited, limited}
-use Rattle.corral.proofs.Running.{is_less, is_not_less}
 use Rattle.corral.proofs.Solutions.{within_difference_limit, slack_is}
 
 -- its sums are within the limits

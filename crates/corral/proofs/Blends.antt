@@ -3,6 +3,7 @@ use Rattle.std.proofs.Common.{◌≡◌, refl, ◌∙◌, ap, ℕ, suc, ℤ, pos
 use Rattle.std.specs.Prelude.{All}
 use Rattle.std.proofs.lemmas.Int.{ints}
 use Rattle.std.proofs.lemmas.List.Elements.{All-nil, All-cons, All-head, All-tail}
+use Rattle.std.proofs.Math.Nat.{suc_inj}
 use Rattle.integers.proofs.Identities.{den-ring, read, polys, lits}
 use Rattle.integers.proofs.Order.{combine1}
 use Rattle.bounds_model.specs.Space.{SpacePoint, plus, times, squared_length}
@@ -37,27 +38,24 @@ numbered (item ∷ items) (n ∷ ns) = record { weight = item.weight; number = n
 
 -- ---- as many numbers as items
 
-tails : {m n : ℕ} → suc m ≡ suc n → m ≡ n
-tails e = omega arith
-
 -- there are as many
 pub length-numbered : (items : List WeightedVector) (ns : List ℤ) → length ns ≡ length items → length (numbered items ns) ≡ length items
 length-numbered [] ns e = refl
 length-numbered (item ∷ items) [] e = absurd (omega arith)
-length-numbered (item ∷ items) (n ∷ ns) e = ap suc (length-numbered items ns (tails e))
+length-numbered (item ∷ items) (n ∷ ns) e = ap suc (length-numbered items ns (suc_inj e))
 
 -- by weight they are the items again
 pub by_weight-numbered : (items : List WeightedVector) (ns : List ℤ) → length ns ≡ length items → by_weight (numbered items ns) ≡ items
 by_weight-numbered [] ns e = refl
 by_weight-numbered (item ∷ items) [] e = absurd (omega arith)
-by_weight-numbered (item ∷ items) (n ∷ ns) e = ap (λ rest. item ∷ rest) (by_weight-numbered items ns (tails e))
+by_weight-numbered (item ∷ items) (n ∷ ns) e = ap (λ rest. item ∷ rest) (by_weight-numbered items ns (suc_inj e))
 
 -- by number they are the vectors with the numbers for weights
 pub by_number-numbered : (items : List WeightedVector) (ns : List ℤ) → length ns ≡ length items → by_number (numbered items ns) ≡ weighted ns (support_vectors items)
 by_number-numbered [] [] e = refl
 by_number-numbered [] (n ∷ ns) e = absurd (omega arith)
 by_number-numbered (item ∷ items) [] e = absurd (omega arith)
-by_number-numbered (item ∷ items) (n ∷ ns) e = ap (λ rest. record { weight = n; vector = item.vector } ∷ rest) (by_number-numbered items ns (tails e))
+by_number-numbered (item ∷ items) (n ∷ ns) e = ap (λ rest. record { weight = n; vector = item.vector } ∷ rest) (by_number-numbered items ns (suc_inj e))
 
 -- what holds of each item's number holds of all numbers
 pub all-numbered : (P : ℤ → Type 0) (items : List WeightedVector) (ns : List ℤ) → length ns ≡ length items → All (λ t. P t.number) (numbered items ns) → All P ns
@@ -66,7 +64,7 @@ all-numbered P [] (n ∷ ns) e h = absurd (omega arith)
 all-numbered P (item ∷ items) [] e h = All-nil P
 all-numbered P (item ∷ items) (n ∷ ns) e h =
     let t : Numbered = record { weight = item.weight; number = n; vector = item.vector } in
-    All-cons P n ns (All-head (λ (t : Numbered). P t.number) t (numbered items ns) h) (all-numbered P items ns (tails e) (All-tail (λ (t : Numbered). P t.number) t (numbered items ns) h))
+    All-cons P n ns (All-head (λ (t : Numbered). P t.number) t (numbered items ns) h) (all-numbered P items ns (suc_inj e) (All-tail (λ (t : Numbered). P t.number) t (numbered items ns) h))
 
 -- what holds of each item's weight holds of each weight
 pub all-by_weight : (P : ℤ → Type 0) (ts : List Numbered) → All (λ item. P item.weight) (by_weight ts) → All (λ t. P t.weight) ts

@@ -4,7 +4,7 @@ use Rattle.std.specs.Prelude.{All}
 use Rattle.std.proofs.lemmas.Int.{ints}
 use Rattle.std.proofs.lemmas.List.{length-map}
 use Rattle.integers.proofs.Identities.{den-ring, read, polys, lits}
-use Rattle.integers.proofs.Order.{nonneg_from_positive, positive_from_one, positive_mul, nonneg_mul}
+use Rattle.integers.proofs.Order.{le_from_lt, positive_from_one, positive_mul, nonneg_mul}
 use Rattle.bounds_model.specs.Space.{SpacePoint, origin, dot, plus, times, squared_length}
 use Rattle.bounds_model.specs.Fractions.{Fraction, IsAtMost}
 use Rattle.bounds_model.specs.Slacks.{WeightedVector, mass, moment, second_moment, slack, value}
@@ -114,9 +114,9 @@ drop_towards quadratic p ts some weights heavy_u heavy_w level_u level_w best {s
     let one = at_inserted (λ (t : Numbered). pos 1 ≤ℤ t.weight) h.inserted weights in
     let n = least_not_positive h.at s one (at_inserted (λ (t : Numbered). pos 1 ≤ℤ t.weight) at weights) (at_inserted (λ (t : Numbered). (h.at.number *ℤ t.weight) ≤ℤ (t.number *ℤ h.at.weight)) at h.least) low in
     let k = turned n in
-    let l = nonneg_from_positive (positive_from_one one) in
+    let l = le_from_lt (positive_from_one one) in
     drop_least quadratic ts h
-    (subst (λ m. pos 0 <ℤ m) (sym (mass-blended (neg_ℤ h.at.number) h.at.weight ts)) (swapped (positive_mul (positive_from_one one) heavy_w) (nonneg_mul k (nonneg_from_positive heavy_u))))
+    (subst (λ m. pos 0 <ℤ m) (sym (mass-blended (neg_ℤ h.at.number) h.at.weight ts)) (swapped (positive_mul (positive_from_one one) heavy_w) (nonneg_mul k (le_from_lt heavy_u))))
     (subst (λ v. IsAtMost (value quadratic u) v) (sym (value-blended quadratic (neg_ℤ h.at.number) h.at.weight ts))
     (towards_is_no_less quadratic (mass w) (second_moment w) (squared_length (moment w)) (mass u) (second_moment u) (squared_length (moment u)) (dot (moment u) (moment w)) p (neg_ℤ h.at.number) h.at.weight heavy_w heavy_u k l
     (mean_is quadratic w w p level_w) (mean_is quadratic w u p level_u) best))
@@ -139,11 +139,11 @@ drop_along quadratic ts some weights heavy none still side {s} at low =
     let one = at_inserted (λ (t : Numbered). pos 1 ≤ℤ t.weight) h.inserted weights in
     let n = least_negative h.at s one (at_inserted (λ (t : Numbered). pos 1 ≤ℤ t.weight) at weights) (at_inserted (λ (t : Numbered). (h.at.number *ℤ t.weight) ≤ℤ (t.number *ℤ h.at.weight)) at h.least) low in
     let k = turned n in
-    let l = nonneg_from_positive (positive_from_one one) in
+    let l = le_from_lt (positive_from_one one) in
     drop_least quadratic ts h
     (subst (λ m. pos 0 <ℤ m) (sym (mass-along (neg_ℤ h.at.number) h.at.weight ts none)) (positive_mul k heavy))
     (subst (λ v. IsAtMost (value quadratic u) v) (sym (value-along quadratic (neg_ℤ h.at.number) h.at.weight ts none still))
-    (along_is_no_less quadratic (mass u) (second_moment u) (squared_length (moment u)) (second_moment (by_number ts)) (neg_ℤ h.at.number) h.at.weight heavy (nonneg_from_positive k) l side))
+    (along_is_no_less quadratic (mass u) (second_moment u) (squared_length (moment u)) (second_moment (by_number ts)) (neg_ℤ h.at.number) h.at.weight heavy (le_from_lt k) l side))
   where
     turned : {n : ℤ} → n <ℤ pos 0 → pos 0 <ℤ neg_ℤ n
     turned h = omega (arith, ints)

@@ -3,6 +3,7 @@ use Rattle.std.proofs.Common.{◌≡◌, refl, sym, ◌∙◌, ap, ap₂, subst,
 use Rattle.std.specs.Prelude.{All}
 use Rattle.std.proofs.lemmas.List.{length-map}
 use Rattle.std.proofs.lemmas.List.Elements.{All-cons, All-head, All-tail, All-map}
+use Rattle.integers.proofs.Lists.{All-unmap}
 use Rattle.bounds_model.specs.Space.{SpacePoint}
 use Rattle.bounds_model.specs.Slacks.{WeightedVector, IsLow, value}
 use Rattle.exact_fractions.specs.Order.{IsBelow}
@@ -21,7 +22,6 @@ use Rattle.corral.specs.Balances.{IsBalance, vectors, candidate_names, AreCandid
 use Rattle.corral.proofs.Parts.{part_all, part_map, part_of_map, part_length}
 use Rattle.corral.proofs.Settled.{not_all_are_refuted, value_rises}
 use Rattle.corral.proofs.TooMany.{independent_are_few}
-use Rattle.corral.proofs.Mapped.{all_unmap}
 
 -- the vectors of candidates are the items of their names
 pub vectors_are : {K P : Type 0} (place : P → SpacePoint) (items : Items K P) (cs : List Candidate) → AreCandidates place items cs → vectors cs ≡ map (item place items) (candidate_names cs)
@@ -93,13 +93,13 @@ module _ {K P : Type 0} (dim : ℕ) (quadratic : ℤ) (place : P → SpacePoint)
       let most = independent_are_few dim h.dims (support_vectors (weighted_items place xs b.members.items)) (omega arith) new_balance.differences new_balance.independent in
       record {
         count = record { at_least = omega arith; at_most = omega arith };
-        listed = all_unmap (IsItem xs) (λ s. s.id) b.members.items (part_all (IsItem xs) new_part all_names);
+        listed = All-unmap (IsItem xs) (λ s. s.id) b.members.items (part_all (IsItem xs) new_part all_names);
       }
 
   -- none of the old ones and the new item is low
   pub new_none_low : All (λ other. ¬ IsLow quadratic (weighted_items place xs b.members.items) (item place xs other)) (id ∷ names old)
   new_none_low =
-      all_unmap (λ v. ¬ IsLow quadratic (weighted_items place xs b.members.items) v) (item place xs) (id ∷ names old)
+      All-unmap (λ v. ¬ IsLow quadratic (weighted_items place xs b.members.items) v) (item place xs) (id ∷ names old)
       (subst (All (λ v. ¬ IsLow quadratic (weighted_items place xs b.members.items) v)) all_vectors_are
       (subst (λ items. All (λ v. ¬ IsLow quadratic items v) (vectors all)) same h.found.none_low))
 

@@ -3,10 +3,10 @@ use Rattle.std.proofs.Common.{sym, subst, inl, inr, ℕ, ◌*◌, ◌/◌, ◌<�
 use Rattle.std.specs.Prelude.{All}
 use Rattle.std.proofs.lemmas.Int.{ints}
 use Rattle.integers.proofs.Identities.{den-ring, read, polys, lits}
-use Rattle.integers.proofs.Order.{nonneg_add, nonneg_mul, nonneg_from_positive, positive_difference, nonneg_difference, positive_mul, square_nonneg, mul_le_both, le_by, lt_by}
+use Rattle.integers.proofs.Order.{nonneg_add, nonneg_mul, le_from_lt, positive_difference, nonneg_difference, positive_mul, square_nonneg, mul_le_both, le_by, lt_by}
 use Rattle.integers.proofs.Sums.{total_weighted_le}
 use Rattle.std.proofs.lemmas.List.Elements.{All-weaker}
-use Rattle.integers.proofs.LeastDifferences.{floor_rises}
+use Rattle.integers.proofs.LeastDifferences.{floor_rises, floor_rises_ℤ, rest_falls}
 use Rattle.integers.specs.Size.{Size}
 use Rattle.integers.proofs.Sizes.{size_mul}
 use Rattle.bounds_model.specs.Space.{SpacePoint, squared_length}
@@ -38,7 +38,7 @@ difference_nonneg quadratic (inl e) longest limit items h =
     (difference_of_distance (mass items) (second_moment items) (squared_length (moment items)) (pos longest) (omega (arith, ints)) (squared_length_nonneg (moment items)))
 difference_nonneg quadratic (inr e) longest limit items h =
     subst (λ g. pos 0 ≤ℤ (pos longest *ℤ (value g items).d -ℤ (value g items).n)) (sym e)
-    (difference_of_ball (mass items) (second_moment items) (squared_length (moment items)) (pos longest) (nonneg_from_positive h.some) (squared_length_nonneg (moment items))
+    (difference_of_ball (mass items) (second_moment items) (squared_length (moment items)) (pos longest) (le_from_lt h.some) (squared_length_nonneg (moment items))
     (total_weighted_le (λ (item : WeightedVector). item.weight) (λ item. squared_length item.vector) (pos 1) (pos longest) items (λ k d l. weaken (h.weights k d l)) (λ k d l. once (h.short k d l))))
   where
     weaken : {a : ℤ} → pos 1 ≤ℤ a → pos 0 ≤ℤ a
@@ -47,30 +47,19 @@ difference_nonneg quadratic (inr e) longest limit items h =
     once : {a b : ℤ} → a ≤ℤ b → (pos 1 *ℤ a) ≤ℤ b
     once h = omega (arith, ints)
 
--- ---- a fraction with a small denominator that falls
+-- ---- a fraction with a small denominator that floor_rises_ℤ
 
-falls : (a b c d : ℤ) (q : ℕ) → pos 0 ≤ℤ a → pos 0 <ℤ b → pos 0 ≤ℤ c → pos 0 <ℤ d → b ≤ℤ pos q → d ≤ℤ pos q → (a *ℤ d) <ℤ (c *ℤ b) → nat_abs a * (q * q) / nat_abs b < nat_abs c * (q * q) / nat_abs d
-falls (pos a) (pos b) (pos c) (pos d) q ha hb hc hd lb ld h = floor_rises a b c d q (omega (arith, ints)) (omega (arith, ints)) (omega (arith, ints)) (omega (arith, ints)) (omega (arith, ints))
-falls (negsuc a) b c d q ha hb hc hd lb ld h = absurd ha.le
-falls (pos a) (negsuc b) c d q ha hb hc hd lb ld h = absurd hb.lt
-falls (pos a) (pos b) (negsuc c) d q ha hb hc hd lb ld h = absurd hc.le
-falls (pos a) (pos b) (pos c) (negsuc d) q ha hb hc hd lb ld h = absurd hd.lt
-
--- what rises comes closer to L
-closer : (L n d m e : ℤ) → (n *ℤ e) <ℤ (m *ℤ d) → ((L *ℤ e -ℤ m) *ℤ d) <ℤ ((L *ℤ d -ℤ n) *ℤ e)
-closer L n d m e h = lt_by (positive_difference h) (read (L ∷ n ∷ d ∷ m ∷ e ∷ []) (λ xs a b c f g. simp (a, b, c, f, g, polys) (den-ring xs _ _ tt)))
-
--- where the value rises, the measure falls
+-- where the value rises, the measure floor_rises_ℤ
 pub measure_falls : MeasureFalls
 measure_falls quadratic flag longest limit old found bounded_old bounded_found below =
     let v = value quadratic old in
     let w = value quadratic found in
-    falls (pos longest *ℤ w.d -ℤ w.n) w.d (pos longest *ℤ v.d -ℤ v.n) v.d (limit * limit)
+    floor_rises_ℤ (pos longest *ℤ w.d -ℤ w.n) w.d (pos longest *ℤ v.d -ℤ v.n) v.d (limit * limit)
     (difference_nonneg quadratic flag longest limit found bounded_found) (positive_mul bounded_found.some bounded_found.some)
     (difference_nonneg quadratic flag longest limit old bounded_old) (positive_mul bounded_old.some bounded_old.some)
-    (mul_le_both (nonneg_from_positive bounded_found.some) (nonneg_from_positive bounded_found.some) bounded_found.light bounded_found.light)
-    (mul_le_both (nonneg_from_positive bounded_old.some) (nonneg_from_positive bounded_old.some) bounded_old.light bounded_old.light)
-    (closer (pos longest) v.n v.d w.n w.d below)
+    (mul_le_both (le_from_lt bounded_found.some) (le_from_lt bounded_found.some) bounded_found.light bounded_found.light)
+    (mul_le_both (le_from_lt bounded_old.some) (le_from_lt bounded_old.some) bounded_old.light bounded_old.light)
+    (rest_falls (pos longest) v.n v.d w.n w.d below)
 
 -- ---- supports are bounded
 

@@ -4,13 +4,7 @@ use Rattle.std.specs.Int.Signed.{lt_z, lt_z_yes, lt_z_no}
 use Rattle.std.proofs.lemmas.Int.{ints}
 use Rattle.std.proofs.lemmas.Float.{T_from_true}
 use borrow.Author.Count.{below_more}
-
--- what a test of the order says
-pub is_less : {a b : ℤ} → lt_z a b ≡ true → a <ℤ b
-is_less {a} {b} e = lt_z_yes (T_from_true (lt_z a b) e)
-
-pub is_not_less : {a b : ℤ} → lt_z a b ≡ false → b ≤ℤ a
-is_not_less {a} {b} e = lt_z_no (T_from_true (not (lt_z a b)) (ap not e))
+use Rattle.integers.proofs.Order.{is_less, is_not_less}
 
 -- the least of f 0 to f (i - 1) is reached at `best`
 pub record IsLeastBelow (f : ℕ → ℤ) (i best : ℕ) (value : ℤ) : Type 0 where

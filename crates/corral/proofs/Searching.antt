@@ -15,13 +15,6 @@ take_pushed [] x (suc n) e = absurd (omega arith)
 take_pushed (y ∷ xs) x zero e = absurd (omega arith)
 take_pushed (y ∷ xs) x (suc n) e = ap (λ zs. y ∷ zs) (take_pushed xs x n (omega arith))
 
-pub popped : {A : Type 0} (xs pushed searched left : List A) (x : A) → pushed ≡ xs ++ x ∷ [] → searched ≡ pushed → left ≡ take (length searched - 1) searched → left ≡ xs
-popped xs pushed searched left x e f g =
-    let whole : searched ≡ xs ++ x ∷ [] = f ∙ e in
-    let many = ap length whole ∙ length-append xs (x ∷ []) in
-    let one : length (x ∷ []) ≡ 1 = refl in
-    g ∙ ap (λ zs. take (length searched - 1) zs) whole ∙ take_pushed xs x (length searched - 1) (omega arith)
-
 -- what is chosen, with the rest but its first
 pub part_without : {A : Type 0} (chosen all others : List A) → 1 ≤ length others → IsPart (chosen ++ others) all → IsPart (chosen ++ rest others) all
 part_without chosen all [] some h = absurd (omega arith)

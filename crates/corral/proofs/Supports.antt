@@ -3,14 +3,12 @@ use Rattle.std.proofs.Common.{◌≡◌, refl, ap, ℕ, suc, ◌≤◌, ℤ, pos
 use Rattle.std.specs.Prelude.{All, zip}
 use Rattle.std.proofs.lemmas.Int.{ints}
 use Rattle.std.proofs.lemmas.List.Elements.{All-nil, All-cons, All-head, All-tail}
+use Rattle.std.proofs.Math.Nat.{suc_inj}
 use Rattle.integers.specs.Total.{total}
 use Rattle.bounds_model.specs.Space.{SpacePoint, plus, times, weighted_sum}
 use Rattle.bounds_model.specs.Slacks.{WeightedVector, mass, moment}
 use Rattle.kernel_laws.specs.Solutions.{weighted, IsWeighting}
 use Rattle.corral.specs.Supports.{support_vectors, AreSupports, AreBalanced}
-
-tails : {m n : ℕ} → suc m ≡ suc n → m ≡ n
-tails e = omega arith
 
 -- ---- weights beside their vectors
 
@@ -19,13 +17,13 @@ pub vectors-weighted : (ws : List ℤ) (vs : List SpacePoint) → length ws ≡ 
 vectors-weighted [] [] e = refl
 vectors-weighted [] (v ∷ vs) e = absurd (omega arith)
 vectors-weighted (w ∷ ws) [] e = absurd (omega arith)
-vectors-weighted (w ∷ ws) (v ∷ vs) e = ap (λ rest. v ∷ rest) (vectors-weighted ws vs (tails e))
+vectors-weighted (w ∷ ws) (v ∷ vs) e = ap (λ rest. v ∷ rest) (vectors-weighted ws vs (suc_inj e))
 
 -- the sum of the weights
 pub mass-weighted : (ws : List ℤ) (vs : List SpacePoint) → length ws ≡ length vs → mass (weighted ws vs) ≡ total (λ w. w) ws
 mass-weighted [] vs e = refl
 mass-weighted (w ∷ ws) [] e = absurd (omega arith)
-mass-weighted (w ∷ ws) (v ∷ vs) e = ap (λ t. w +ℤ t) (mass-weighted ws vs (tails e))
+mass-weighted (w ∷ ws) (v ∷ vs) e = ap (λ t. w +ℤ t) (mass-weighted ws vs (suc_inj e))
 
 -- the weighted sum of pairs
 pub moment-weighted : (ws : List ℤ) (vs : List SpacePoint) → moment (weighted ws vs) ≡ weighted_sum (λ pair. pair.0) (λ pair. pair.1) (zip ws vs)
@@ -37,7 +35,7 @@ moment-weighted (w ∷ ws) (v ∷ vs) = ap (λ s. plus (times w v) s) (moment-we
 pub length-weighted : (ws : List ℤ) (vs : List SpacePoint) → length ws ≡ length vs → length (weighted ws vs) ≡ length vs
 length-weighted [] vs e = e
 length-weighted (w ∷ ws) [] e = absurd (omega arith)
-length-weighted (w ∷ ws) (v ∷ vs) e = ap suc (length-weighted ws vs (tails e))
+length-weighted (w ∷ ws) (v ∷ vs) e = ap suc (length-weighted ws vs (suc_inj e))
 
 -- what holds of all weights holds of those of the items
 pub all-weighted : (P : ℤ → Type 0) (ws : List ℤ) (vs : List SpacePoint) → All P ws → All (λ item. P item.weight) (weighted ws vs)

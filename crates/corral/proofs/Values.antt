@@ -5,7 +5,7 @@
 use Rattle.std.proofs.Common.{◌≡◌, subst, ℤ, suc, pos, negsuc, ◌+ℤ◌, ◌-ℤ◌, ◌*ℤ◌, neg_ℤ, ◌≤ℤ◌, ◌<ℤ◌, arith, [], ◌∷◌}
 use Rattle.std.proofs.lemmas.Int.{ints}
 use Rattle.integers.proofs.Identities.{den-ring, read, polys, lits, below_lits}
-use Rattle.integers.proofs.Order.{nonneg_mul, nonneg_add, positive_add, square_nonneg, nonneg_from_positive, nonneg_difference, positive_difference, at_least_one, mul_le_both, le_by, lt_by, le_of_mul_le, combine1, combine2}
+use Rattle.integers.proofs.Order.{nonneg_mul, nonneg_add, positive_add, square_nonneg, le_from_lt, nonneg_difference, positive_difference, at_least_one, mul_le_both, le_by, lt_by, le_of_mul_le, combine1, combine2}
 use Rattle.bounds_model.specs.Space.{SpacePoint, plus, times, dot, squared_length}
 
 -- ---- squared lengths of sums
@@ -31,7 +31,7 @@ pub level_is_best : (g M Q W N R U A p : ℤ) → pos 0 <ℤ M → pos 0 <ℤ N
     → pos 0 ≤ℤ (M *ℤ M *ℤ U -ℤ pos 2 *ℤ (M *ℤ N *ℤ A) +ℤ N *ℤ N *ℤ W)
     → ((g *ℤ (N *ℤ R) -ℤ U) *ℤ (M *ℤ M)) ≤ℤ ((g *ℤ (M *ℤ Q) -ℤ W) *ℤ (N *ℤ N))
 level_is_best g M Q W N R U A p hM hN level mean spread =
-    le_by (nonneg_add spread (nonneg_mul (nonneg_mul (nonneg_from_positive hN) (nonneg_from_positive hM)) (nonneg_difference mean)))
+    le_by (nonneg_add spread (nonneg_mul (nonneg_mul (le_from_lt hN) (le_from_lt hM)) (nonneg_difference mean)))
     (combine1 (N *ℤ N) level (read (g ∷ M ∷ Q ∷ W ∷ N ∷ R ∷ U ∷ A ∷ p ∷ []) (λ xs a b c d e f h i j. simp (a, b, c, d, e, f, h, i, j, polys, lits xs) (den-ring xs _ _ tt))))
 
 -- ---- along a line of weightings
@@ -46,7 +46,7 @@ towards_is_no_less g M Q W N R U A p k l hM hN hk hl level mean best =
     le_of_mul_le M hM
     (le_by
     (nonneg_mul
-    (nonneg_add (nonneg_mul (two k hk) (nonneg_mul hl (nonneg_from_positive hN))) (nonneg_mul (nonneg_mul hl hl) (nonneg_from_positive hM)))
+    (nonneg_add (nonneg_mul (two k hk) (nonneg_mul hl (le_from_lt hN))) (nonneg_mul (nonneg_mul hl hl) (le_from_lt hM)))
     (nonneg_difference best))
     (combine2 (neg_ℤ (k *ℤ l *ℤ N *ℤ N *ℤ N)) (k *ℤ l *ℤ N *ℤ N *ℤ M) level mean
     (read (g ∷ M ∷ Q ∷ W ∷ N ∷ R ∷ U ∷ A ∷ p ∷ k ∷ l ∷ []) (λ xs a b c d e f h i j m n. simp (a, b, c, d, e, f, h, i, j, m, n, polys, lits xs) (den-ring xs _ _ tt)))))
@@ -58,7 +58,7 @@ towards_is_no_less g M Q W N R U A p k l hM hN hk hl level mean best =
 pub along_is_no_less : (g N R U T k l : ℤ) → pos 0 <ℤ N → pos 0 ≤ℤ k → pos 0 ≤ℤ l → pos 0 ≤ℤ (g *ℤ T)
     → ((g *ℤ (N *ℤ R) -ℤ U) *ℤ ((k *ℤ N) *ℤ (k *ℤ N))) ≤ℤ ((g *ℤ ((k *ℤ N) *ℤ (k *ℤ R +ℤ l *ℤ T)) -ℤ k *ℤ k *ℤ U) *ℤ (N *ℤ N))
 along_is_no_less g N R U T k l hN hk hl side =
-    let n = nonneg_from_positive hN in
+    let n = le_from_lt hN in
     le_by (nonneg_mul (nonneg_mul (nonneg_mul hk hl) (nonneg_mul n (nonneg_mul n n))) side)
     (read (g ∷ N ∷ R ∷ U ∷ T ∷ k ∷ l ∷ []) (λ xs a b c d e f h. simp (a, b, c, d, e, f, h, polys) (den-ring xs _ _ tt)))
 

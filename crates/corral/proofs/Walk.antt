@@ -4,7 +4,7 @@ use Rattle.std.specs.Prelude.{All}
 use Rattle.std.proofs.lemmas.Int.{ints, by_lt_z}
 use Rattle.std.proofs.lemmas.List.{length-map}
 use Rattle.std.proofs.lemmas.List.Elements.{All-map}
-use Rattle.integers.proofs.Order.{le_of_same}
+use Rattle.integers.proofs.Order.{le_of_same, nonneg_from_one}
 use Rattle.bounds_model.specs.Space.{SpacePoint}
 use Rattle.bounds_model.specs.Fractions.{IsAtMost}
 use Rattle.bounds_model.specs.Slacks.{WeightedVector, mass, slack, value, AreAffinelyDependent}
@@ -22,9 +22,6 @@ use Rattle.corral.proofs.Drops.{HasFewer, drop_towards}
 use Rattle.corral.proofs.Dependent.{drop_dependent}
 
 -- ---- one step
-
-weaken : {a : ℤ} → pos 1 ≤ℤ a → pos 0 ≤ℤ a
-weaken h = omega (arith, ints)
 
 -- what weights that balance the vectors of some items say of them
 record AboutWeights (quadratic : ℤ) (items : List WeightedVector) (ws : List ℤ) : Type 0 where
@@ -50,7 +47,7 @@ about_weights quadratic items ws some weights balanced =
       level = common.1;
       same = same;
       heavy = heavy;
-      no_less = level_is_greatest quadratic w items common.0 heavy (mass_positive items some weights) common.1 (λ k d l. weaken (weights k d l)) (λ k d l. le_of_same (sym (same k d l)));
+      no_less = level_is_greatest quadratic w items common.0 heavy (mass_positive items some weights) common.1 (λ k d l. nonneg_from_one (weights k d l)) (λ k d l. le_of_same (sym (same k d l)));
     }
 
 -- such weights are all at least 1, or an item can be dropped

@@ -3,9 +3,9 @@ use Rattle.std.proofs.Common.{◌≡◌, refl, sym, subst, ap, ◌∙◌, inl, i
 use Rattle.std.proofs.lemmas.List.{get_or_append_left, get_or_push, length_push}
 use Rattle.std.proofs.lemmas.List.Elements.{All-nil, All-push, All-same}
 use Rattle.integers.specs.Size.{Size}
+use Rattle.integers.proofs.Lists.{below_or_at}
 use Rattle.bounds_model.specs.Plane.{PlanePoint}
 use Rattle.extremal_kgon.specs.Rows.{at, area_at, pairs_below, AddsAreas, AreAreas, IsBestSum}
-use Rattle.extremal_kgon.proofs.Reading.{below_or_at}
 
 -- the pairs below the next number
 pub pairs_next : (n : ℕ) → pairs_below (n + 1) ≡ pairs_below n + n

@@ -5,8 +5,8 @@ use Rattle.std.proofs.Common.{int_cmp, cond, Ordering}
 use Rattle.std.specs.declared.cmp.Ordering.TheVariants.{Less, Equal, Greater}
 use Rattle.std.specs.Ordering.{ord_max, is_lt, MatchOrdering}
 use Rattle.std.specs.Cmp.{int_ranks}
+use Rattle.integers.proofs.Lists.{below_or_at}
 use Rattle.extremal_kgon.specs.Rows.{at, IsBestSum}
-use Rattle.extremal_kgon.proofs.Reading.{below_or_at}
 
 -- none comes to less than 0
 pub best_sum-none : (area : ℕ → ℤ) (before : List ℤ) → IsBestSum area before 0 (pos 0)

@@ -3,10 +3,10 @@ use Rattle.std.proofs.Common.{◌≡◌, refl, sym, subst, ◌⊎◌, inl, inr, 
 use Rattle.std.proofs.lemmas.Int.{ints}
 use Rattle.std.proofs.lemmas.List.Elements.{All-from_get_or}
 use Rattle.integers.specs.Size.{Size}
+use Rattle.integers.proofs.Lists.{below_or_at}
 use Rattle.extremal_kgon.specs.declared.table.Best.{Best}
 use Rattle.extremal_kgon.specs.Rows.{at}
 use Rattle.extremal_kgon.specs.Tables.{IsFoundAt, TakesBest}
-use Rattle.extremal_kgon.proofs.Reading.{below_or_at}
 
 -- the greatest of the first numbers of a row, or none is greater than that before
 pub record TakesSoFar (old : Best) (row : List ℤ) (first layer i : ℕ) (new : Best) : Type 0 where

@@ -1,9 +1,9 @@
 -- A row, number by number.
 use Rattle.std.proofs.Common.{◌≡◌, refl, sym, subst, ap, ◌∙◌, inl, inr, ℕ, zero, suc, ◌+◌, ◌<◌, arith, ℤ, pos, List, [], ◌∷◌, ◌++◌, length}
 use Rattle.std.proofs.lemmas.List.{get_or_append_left, get_or_push, length_push}
+use Rattle.integers.proofs.Lists.{below_or_at}
 use Rattle.bounds_model.specs.Plane.{PlanePoint}
 use Rattle.extremal_kgon.specs.Rows.{at, area_at, IsBestSum, IsNextRow, IsZeroRow}
-use Rattle.extremal_kgon.proofs.Reading.{below_or_at}
 
 -- the first numbers of a row
 pub record IsRowSoFar (ways : List PlanePoint) (before row : List ℤ) (i : ℕ) : Type 0 where

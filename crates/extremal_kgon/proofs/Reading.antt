@@ -5,6 +5,7 @@ use Rattle.std.proofs.Common.{◌^◌, ℤ, to_z, of_z, to_z-of_z, w64}
 use lib.Signed.{mag}
 use Rattle.std.proofs.Common.{ap₂, ◌∙◌, take}
 use Rattle.std.proofs.lemmas.List.{get_or_append_left, get_or_push, length_push, map-append, take_more}
+use Rattle.integers.proofs.Lists.{below_or_at}
 use Rattle.bounds_model.specs.Numbers.{AllNumbered}
 
 -- a list that is seen by a view, read anywhere
@@ -12,10 +13,6 @@ pub read-map : {X Y : Type 0} (f : X → Y) (xs : List X) (i : ℕ) (d : X) → 
 read-map f [] i d = refl
 read-map f (x ∷ xs) zero d = refl
 read-map f (x ∷ xs) (suc i) d = read-map f xs i d
-
--- below the next number is below it or at it
-pub below_or_at : (k i : ℕ) → k < i + 1 → (k < i) ⊎ (k ≡ i)
-below_or_at k i h = grind arith
 
 -- nothing is asked of a list that is empty
 pub numbered-nil : {X : Type 0} (P : ℕ → X → Type 0) (xs : List X) → xs ≡ [] → AllNumbered P xs
@@ -30,10 +27,6 @@ numbered-push P xs pushed x is all here = subst (AllNumbered P) (sym is) (λ k d
   | inl less ↦ subst (P k) (sym (get_or_append_left xs (x ∷ []) d k less)) (all k d less)
   | inr same ↦ subst (λ n. P n (slice_index_or (xs ++ x ∷ []) n d)) (sym same) (subst (P (length xs)) (sym (get_or_push xs x d (length xs) refl)) here)
 ])
-
--- a number of 64 bits stays the same
-pub kept64 : {z : ℤ} → mag z < 2 ^ 63 → to_z w64 (of_z w64 z) ≡ z
-kept64 {z} h = to_z-of_z {w = w64} {z = z} (record { sfits = h })
 
 -- one element more of those that are taken, seen by a function
 pub taken-more : {X Y : Type 0} (f : X → Y) (xs : List X) (ys more : List Y) (i : ℕ) (d : X) (y : Y) → ys ≡ map f (take i xs) → more ≡ ys ++ y ∷ [] → y ≡ f (slice_index_or xs i d) → i < length xs → more ≡ map f (take (i + 1) xs)

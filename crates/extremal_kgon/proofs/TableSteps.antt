@@ -8,6 +8,7 @@ use Rattle.std.proofs.lemmas.List.Elements.{All-head, All-tail, All-nil}
 use Rattle.std.proofs.lemmas.Int.{ints}
 use native.Mathlib.Nat.{mul-le-mul}
 use Rattle.integers.specs.Size.{Size}
+use Rattle.integers.proofs.Lists.{below_or_at}
 use Rattle.std.proofs.lemmas.List.{length-append, get_or_append_left}
 use Rattle.std.proofs.lemmas.List.Elements.{All-append, All-weaker, All-from_get_or}
 use Rattle.bounds_model.specs.Plane.{PlanePoint, point_at, turn}
@@ -17,7 +18,6 @@ use Rattle.extremal_kgon.specs.declared.table.Best.{Best}
 use Rattle.extremal_kgon.specs.Ways.{vector_of, AreWays}
 use Rattle.extremal_kgon.specs.Rows.{at, area_at, IsBestSum, IsNextRow}
 use Rattle.extremal_kgon.specs.Tables.{index, ending, potential_or_zero, IsPotential, StandsAt, IsBestOf, IsFoundAt, IsTable, TakesBest}
-use Rattle.extremal_kgon.proofs.Reading.{below_or_at}
 use Rattle.extremal_kgon.proofs.PotentialIndices.{pairs-next, layer-next, layers-below, potential_or_zero-next, potential_or_zero-more, potential_or_zero-row}
 use Rattle.extremal_kgon.proofs.WayAreas.{area-turn, area-limit}
 

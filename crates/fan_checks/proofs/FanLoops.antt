@@ -3,6 +3,7 @@ use Rattle.std.proofs.Common.{◌≡◌, sym, subst, ap, ◌∙◌, ℕ, ◌+◌
 use Rattle.std.specs.Prelude.{slice_get, Some, All, map, slice_index_or}
 use Rattle.std.proofs.lemmas.List.{length-map, length-append}
 use Rattle.std.proofs.lemmas.Option.{slice_get_within}
+use Rattle.integers.proofs.Lists.{below_or_at}
 use Rattle.bounds_model.specs.Plane.{PlanePoint, point_at, origin}
 use Rattle.bounds_model.specs.Fans.{IsShort, half_directions, quarter_directions}
 use Rattle.bounds_model.specs.Fans.{NamesPoints}
@@ -14,9 +15,6 @@ use Rattle.answers.specs.declared.fans.HalfFan as halves
 use Rattle.answers.specs.declared.fans.QuarterFan as quarters
 use Rattle.directions.proofs.FanLists.{cone_at, direction_at, seen_at}
 use Rattle.fan_checks.specs.Limits.{NamesFour}
-
-below_or_at : (k i : ℕ) → k < i + 1 → (k < i) ⊎ (k ≡ i)
-below_or_at k i h = grind arith
 
 -- what each cone before i has with its number, and cone i, each before i + 1 has
 pub numbered_more : {C M : Type 0} (P : ℕ → M → Type 0) (f : C → M) (cones : List C) (i : ℕ) (x : C) → slice_get cones i ≡ Some x

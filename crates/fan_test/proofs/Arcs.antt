@@ -2,7 +2,7 @@
 use Rattle.std.proofs.Common.{◌≡◌, sym, ◌∙◌, subst, ap, ◌⊎◌, inl, inr, ℕ, zero, suc, ◌+◌, ◌-◌, ◌<◌, ◌≤◌, ℤ, pos, neg_ℤ, ◌+ℤ◌, ◌-ℤ◌, ◌*ℤ◌, ◌≤ℤ◌, ◌<ℤ◌, [], ◌∷◌, arith, add-one}
 use Rattle.std.proofs.lemmas.Int.{ints}
 use Rattle.integers.proofs.Identities.{den-ring, read, polys, lits}
-use Rattle.integers.proofs.Order.{nonneg_mul, nonneg_add, nonneg_difference, nonneg_of_mul, nonneg_from_positive, le_trans_ℤ, le_of_same, le_antisymm_ℤ, le_by}
+use Rattle.integers.proofs.Order.{nonneg_mul, nonneg_add, nonneg_difference, nonneg_of_mul, le_from_lt, le_trans_ℤ, le_of_same, le_antisymm_ℤ, le_by, nonneg_neg}
 use Rattle.std.specs.Prelude.{List, All}
 use Rattle.std.proofs.lemmas.List.Elements.{All-contains}
 use Rattle.bounds_model.specs.Plane.{PlanePoint, dot, cross, vector}
@@ -34,9 +34,6 @@ further d p q h = subst (λ z. pos 0 ≤ℤ z) (sym (dot_vector d p q)) (nonneg_
 of_further : (d p q : PlanePoint) → pos 0 ≤ℤ dot d (vector p q) → dot d p ≤ℤ dot d q
 of_further d p q h = le_by h (sym (dot_vector d p q))
 
-turned_around : {a : ℤ} → a ≤ℤ pos 0 → pos 0 ≤ℤ neg_ℤ a
-turned_around h = omega (arith, ints)
-
 -- where q is as far along u as p, and along e, so it is along d between them
 pub between : (u d e p q : PlanePoint) → pos 0 <ℤ cross u e → pos 0 ≤ℤ cross u d → pos 0 ≤ℤ cross d e → dot u p ≤ℤ dot u q → dot e p ≤ℤ dot e q → dot d p ≤ℤ dot d q
 between u d e p q ue ud de hu he =
@@ -49,7 +46,7 @@ between u d e p q ue ud de hu he =
 pub beyond : (u d e p q : PlanePoint) → pos 0 <ℤ cross u d → pos 0 ≤ℤ cross u e → pos 0 ≤ℤ cross d e → dot u q ≤ℤ dot u p → dot d p ≤ℤ dot d q → dot e p ≤ℤ dot e q
 beyond u d e p q ud ue de hu hd =
     let w = vector p q in
-    let back : pos 0 ≤ℤ neg_ℤ (dot u w) = turned_around (subst (λ z. z ≤ℤ pos 0) (sym (dot_vector u p q)) (lower hu)) in
+    let back : pos 0 ≤ℤ neg_ℤ (dot u w) = nonneg_neg (subst (λ z. z ≤ℤ pos 0) (sym (dot_vector u p q)) (lower hu)) in
     of_further e p q
     (nonneg_of_mul (cross u d) ud
     (subst (λ z. pos 0 ≤ℤ z) (sym (beyond_is u.x u.y d.x d.y e.x e.y w.x w.y)) (nonneg_add (nonneg_mul ue (further d p q hd)) (nonneg_mul de back))))
@@ -62,7 +59,7 @@ pub before : (u d e p q : PlanePoint) → pos 0 <ℤ cross d e → pos 0 <ℤ cr
 before u d e p q de ue ud he hd =
     let w = vector p q in
     let flat : dot e w ≡ pos 0 = dot_vector e p q ∙ none he in
-    of_further u p q (nonneg_of_mul (cross d e) de (less (cross u d) (dot e w) (subst (λ z. pos 0 ≤ℤ z) (between_is u.x u.y d.x d.y e.x e.y w.x w.y) (nonneg_mul (nonneg_from_positive ue) (further d p q hd))) flat))
+    of_further u p q (nonneg_of_mul (cross d e) de (less (cross u d) (dot e w) (subst (λ z. pos 0 ≤ℤ z) (between_is u.x u.y d.x d.y e.x e.y w.x w.y) (nonneg_mul (le_from_lt ue) (further d p q hd))) flat))
   where
     none : {a b : ℤ} → a ≡ b → b -ℤ a ≡ pos 0
     none e = omega (arith, ints)
@@ -84,7 +81,7 @@ record IsPassed (D H : ℕ → PlanePoint) (from : ℕ) (p : PlanePoint) (i : �
 passed_step : (D H : ℕ → PlanePoint) (from to : ℕ) (p : PlanePoint) → Turns D to → IsArc D H from to → (i : ℕ) → from ≤ i → i + 1 + 1 < to → IsPassed D H from p i → IsPassed D H from p (i + 1)
 passed_step D H from to p turns arc i low high h =
     let edge = arc.edges (i + 1) (omega arith) high in
-    let reached = beyond (D from) (D (i + 1)) (D (i + 1 + 1)) p (H (i + 1)) (arc.left i low (omega arith)) (nonneg_from_positive (arc.left (i + 1) (omega arith) high)) (nonneg_from_positive (turns (i + 1) (omega arith))) h.along h.out in
+    let reached = beyond (D from) (D (i + 1)) (D (i + 1 + 1)) p (H (i + 1)) (arc.left i low (omega arith)) (le_from_lt (arc.left (i + 1) (omega arith) high)) (le_from_lt (turns (i + 1) (omega arith))) h.along h.out in
     record {
       out = le_trans_ℤ reached (le_of_same edge.level);
       along = le_trans_ℤ edge.falling h.along;
@@ -115,7 +112,7 @@ awaited_step D H from to p turns arc i low high h =
     let edge = arc.edges i low (omega arith) in
     let next = arc.edges (i + 1) (omega arith) high in
     record {
-      out = between (D from) (D (i + 1)) (D (i + 1 + 1)) p (H (i + 1)) (arc.left (i + 1) (omega arith) high) (nonneg_from_positive (arc.left i low (omega arith))) (nonneg_from_positive (turns (i + 1) (omega arith))) h.along (le_trans_ℤ h.out (le_of_same (sym next.level)));
+      out = between (D from) (D (i + 1)) (D (i + 1 + 1)) p (H (i + 1)) (arc.left (i + 1) (omega arith) high) (le_from_lt (arc.left i low (omega arith))) (le_from_lt (turns (i + 1) (omega arith))) h.along (le_trans_ℤ h.out (le_of_same (sym next.level)));
       along = le_trans_ℤ h.along edge.falling;
     }
 

@@ -1,6 +1,6 @@
 -- What is no further out than a point of an arc in the arc's first and last direction is below the arc.
 use Rattle.std.proofs.Common.{◌≡◌, refl, sym, subst, ◌⊎◌, inl, inr, ℕ, zero, suc, ◌+◌, ◌-◌, ◌<◌, ◌≤◌, pos, ◌≤ℤ◌, arith, add-one}
-use Rattle.integers.proofs.Order.{nonneg_from_positive, le_trans_ℤ, le_of_same}
+use Rattle.integers.proofs.Order.{le_from_lt, le_trans_ℤ, le_of_same}
 use Rattle.bounds_model.specs.Plane.{PlanePoint, dot, cross}
 use Rattle.fan_test.specs.Chains.{Turns, IsWithinEach, IsArc, IsNoFurther}
 use Rattle.fan_test.proofs.Arcs.{between, below_or_same, falls, inner, of_parts}
@@ -23,7 +23,7 @@ nearer D H from to p q turns arc first zero high last i low below = subst (λ k.
 nearer D H from to p q turns arc first (suc j) high last i low below = elim (below_or_same i j below) [
   | inl less ↦ nearer D H from to p q turns arc first j (omega arith)
       (between (D from) (D j) (D (j + 1)) p q (arc.left j (omega arith) (omega arith)) (not_right D H from to j arc (omega arith) (omega arith))
-      (nonneg_from_positive (turns j (omega arith))) first (subst (λ k. dot (D k) p ≤ℤ dot (D k) q) (sym (add-one j)) last))
+      (le_from_lt (turns j (omega arith))) first (subst (λ k. dot (D k) p ≤ℤ dot (D k) q) (sym (add-one j)) last))
       i low less
   | inr same ↦ subst (λ k. dot (D k) p ≤ℤ dot (D k) q) (sym same) last
 ]

@@ -2,20 +2,15 @@
 use Rattle.std.proofs.Common.{◌≡◌, ◌≢◌, sym, ◌∙◌, subst, ◌⊎◌, inl, inr, ℕ, ◌+◌, ◌<◌, ◌≤◌, Bool, true, false, List, length, get_or, arith}
 use Rattle.std.proofs.Math.ListN.{replicate, set}
 use Rattle.std.proofs.lemmas.List.{get_or-replicate, get_or_past, get_or-set_same, get_or-set_other, length-replicate}
+use Rattle.integers.proofs.Lists.{clash, before_or_after}
 use Rattle.bounds_model.specs.Plane.{PlanePoint, point_at}
 use Rattle.fan_test.specs.Chains.{AreNamed}
 
-two_ways : (i j : ℕ) → (i < j) ⊎ (j ≤ i)
-two_ways i j = grind arith
-
-both_answers : {b : Bool} → b ≡ true → b ≡ false → ⊥
-both_answers is is_not = cc
-
 -- at first there is none
 pub none_marked : (cloud : List PlanePoint) (H : ℕ → PlanePoint) (from size : ℕ) → AreNamed cloud H from from (replicate size false)
-none_marked cloud H from size n is = elim (two_ways n size) [
-  | inl below ↦ absurd (both_answers is (get_or-replicate size n false false below))
-  | inr past ↦ absurd (both_answers is (get_or_past (replicate size false) n false (subst (λ k. k ≤ n) (sym (length-replicate size false)) past)))
+none_marked cloud H from size n is = elim (before_or_after n size) [
+  | inl below ↦ absurd (clash is (get_or-replicate size n false false below))
+  | inr past ↦ absurd (clash is (get_or_past (replicate size false) n false (subst (λ k. k ≤ n) (sym (length-replicate size false)) past)))
 ]
 
 same_or_other : (i j : ℕ) → (i ≡ j) ⊎ (i ≢ j)

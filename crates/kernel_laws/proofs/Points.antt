@@ -2,7 +2,7 @@
 use Rattle.std.proofs.Common.{◌≡◌, refl, ap, ap₂, ◌∙◌, ℤ, zero, suc, pos, negsuc, ◌*ℤ◌, ◌<ℤ◌, ◌≤ℤ◌, ◌⊎◌, inl, inr, arith}
 use Rattle.std.proofs.lemmas.Int.{ints, by_lt_z}
 use Rattle.integers.specs.Size.{Size}
-use Rattle.integers.proofs.Order.{square_nonneg, square_positive}
+use Rattle.integers.proofs.Order.{square_nonneg, square_positive, zero_of_square}
 use Rattle.bounds_model.specs.Space.{SpacePoint, origin, squared_length}
 use Rattle.kernel_laws.specs.Signs.{determinant}
 
@@ -15,16 +15,6 @@ same_point {a} {b} {c} {d} {e} {f} h k l =
 -- determinants of equal vectors are equal
 pub same_determinant : {a b c d e f : SpacePoint} → a ≡ d → b ≡ e → c ≡ f → determinant a b c ≡ determinant d e f
 same_determinant {a} {b} {c} {d} {e} {f} h k l = ap (λ v. determinant v b c) h ∙ ap₂ (λ v w. determinant d v w) k l
-
--- 0 and 1 are at most 1
-pub square_size : {q : ℤ} → (q ≡ pos 0) ⊎ (q ≡ pos 1) → Size 1 q
-square_size (inl e) = record { abs = omega (arith, ints) }
-square_size (inr e) = record { abs = omega (arith, ints) }
-
-zero_of_square : (z : ℤ) → (z *ℤ z) ≤ℤ pos 0 → z ≡ pos 0
-zero_of_square (pos zero) h = refl
-zero_of_square (pos (suc n)) h = let p : pos 0 <ℤ (pos (suc n) *ℤ pos (suc n)) = square_positive (pos (suc n)) (λ e. absurd (cc)) in absurd (omega (arith, ints))
-zero_of_square (negsuc n) h = let p : pos 0 <ℤ (negsuc n *ℤ negsuc n) = square_positive (negsuc n) (λ e. absurd (cc)) in absurd (omega (arith, ints))
 
 -- a vector that is not zero has a squared length above 0
 pub squared_length_positive : (v : SpacePoint) → (v ≡ origin → ⊥) → pos 0 <ℤ squared_length v

@@ -3,6 +3,7 @@ use Rattle.std.proofs.Common.{◌≡◌, refl, ℕ, ℤ, pos, List, [], ◌∷�
 use Rattle.std.specs.Prelude.{All}
 use Rattle.std.proofs.lemmas.Int.{ints}
 use Rattle.std.proofs.lemmas.List.Elements.{All-nil, All-cons}
+use Rattle.integers.proofs.MachineArithmetic.{both_first, both_second}
 use Rattle.bounds_model.specs.Space.{SpacePoint, vector}
 use Rattle.kernel_laws.specs.Limits.{IsVectorWithin, IsDifference}
 use Rattle.kernel_laws.specs.Solutions.{AreItems}
@@ -11,14 +12,6 @@ use Rattle.kernel_laws.specs.Solutions.{AreItems}
 abbrev pub both : Bool → Bool → Bool
 both true b = b
 both false b = false
-
-both_first : (a b : Bool) → T (both a b) → T a
-both_first true b t = tt
-both_first false b t = t
-
-both_second : (a b : Bool) → T (both a b) → T b
-both_second true b t = t
-both_second false b t = absurd t
 
 -- whether a vector is within n
 abbrev pub is_within : ℕ → SpacePoint → Bool

@@ -4,7 +4,7 @@ use Rattle.std.proofs.lemmas.Int.{ints, by_lt_z}
 use Rattle.integers.specs.Size.{Size}
 use Rattle.integers.proofs.Sizes.{below_size, above_size}
 use Rattle.integers.proofs.Identities.{den-ring, read, polys, lits, below_lits}
-use Rattle.integers.proofs.Order.{combine1, combine2, nonneg_mul, nonneg_add, nonneg_of_mul, positive_mul, square_nonneg, le_antisymm_ℤ}
+use Rattle.integers.proofs.Order.{combine1, combine2, nonneg_mul, nonneg_add, nonneg_of_mul, positive_mul, square_nonneg, le_antisymm_ℤ, zero_of_square, le_from_lt}
 use Rattle.integers.proofs.Sizes.{size_add, size_mul, size_more}
 use Rattle.bounds_model.specs.Plane.{PlanePoint, point_at, squared_length}
 use Rattle.bounds_model.specs.AnnulusAnswer.{pair_sum, weighted_differences}
@@ -52,21 +52,6 @@ along_nonneg ex ey ux uy hey parallel e_ahead u_ahead =
 plain_inside : (ex ey ux uy : ℤ) → ex *ℤ uy -ℤ ey *ℤ ux ≡ pos 0
     → (ex *ℤ ex +ℤ ey *ℤ ey) *ℤ (ux *ℤ (ex -ℤ ux) +ℤ uy *ℤ (ey -ℤ uy)) ≡ (ex *ℤ ux +ℤ ey *ℤ uy) *ℤ (ex *ℤ (ex -ℤ ux) +ℤ ey *ℤ (ey -ℤ uy))
 plain_inside ex ey ux uy h = combine1 (ex *ℤ (pos 0 -ℤ uy) +ℤ ey *ℤ ux) h (read (ex ∷ ey ∷ ux ∷ uy ∷ []) (λ xs a b c d. simp (a, b, c, d, polys, lits xs) (den-ring xs _ _ tt)))
-
-zero_of_square : (a : ℤ) → (a *ℤ a) ≤ℤ pos 0 → a ≡ pos 0
-zero_of_square a h = by_lt_z a (pos 0) (λ l. absurd (clash (positive_mul (negative l) (negative l)) h)) (λ k. by_lt_z (pos 0) a (λ l. absurd (clash_plain (positive_mul l l) h)) (λ l. le_antisymm_ℤ l k))
-  where
-    negative : a <ℤ pos 0 → pos 0 <ℤ neg_ℤ a
-    negative l = omega (arith, ints)
-
-    plain : (a : ℤ) → neg_ℤ a *ℤ neg_ℤ a ≡ a *ℤ a
-    plain a = read (a ∷ []) (λ xs p. simp (p, polys) (den-ring xs _ _ tt))
-
-    clash_plain : pos 0 <ℤ (a *ℤ a) → (a *ℤ a) ≤ℤ pos 0 → ⊥
-    clash_plain h k = omega (arith, ints)
-
-    clash : pos 0 <ℤ (neg_ℤ a *ℤ neg_ℤ a) → (a *ℤ a) ≤ℤ pos 0 → ⊥
-    clash h k = clash_plain (subst (λ z. pos 0 <ℤ z) (plain a) h) k
 
 left_part : {a b : ℤ} → pos 0 ≤ℤ b → (a +ℤ b) ≤ℤ pos 0 → a ≤ℤ pos 0
 left_part h k = omega (arith, ints)
@@ -160,9 +145,6 @@ none z = omega (arith, ints)
 above : {s l q : ℤ} → s ≡ l +ℤ q → pos 0 <ℤ l → pos 0 ≤ℤ q → pos 0 <ℤ s
 above e h k = omega (arith, ints)
 
-not_below : {s : ℤ} → pos 0 <ℤ s → pos 0 ≤ℤ s
-not_below h = omega (arith, ints)
-
 -- two pairs, from the nearest point to the ends
 pub two_show : (points : List PlanePoint) (first last : ℕ) (e : Extremes) (whole done left right : Pair) → AreCollinear points first last
     → AreExtremes (λ i. level (middle_form (point_at points first) (point_at points last)) (point_at points i)) (length points) e
@@ -176,7 +158,7 @@ pub two_show : (points : List PlanePoint) (first last : ℕ) (e : Extremes) (who
 two_show points first last e whole done left right line extremes hw w1 w2 hd d1 d2 hl l1 l2 hr r1 r2 reach_within apart = record {
   count = count_two left right u v some_u;
   numbers = all_two (λ pair. (pair.first < length points) × (pair.second < length points)) left right u v (λ _. (hl.first, hl.second)) (λ _. (hr.first, hr.second));
-  weights = all_two (λ pair. (pos 1 ≤ℤ pair.weight) × (pair.weight ≤ℤ pos (2 ^ 42))) left right u v (λ h. (h, part_light (not_below some_v) light)) (λ h. (h, other_light (not_below some_u) light));
+  weights = all_two (λ pair. (pos 1 ≤ℤ pair.weight) × (pair.weight ≤ℤ pos (2 ^ 42))) left right u v (λ h. (h, part_light (le_from_lt some_v) light)) (λ h. (h, other_light (le_from_lt some_u) light));
   weight_limit = subst (λ s. s ≤ℤ pos (2 ^ 42)) (sym pair_total) light;
   balanced_x = sum_of (λ p. p.x) ∙ subst (λ s. s *ℤ (a.x -ℤ q.x) +ℤ v *ℤ (b.x -ℤ q.x) ≡ pos 0) (sym u_is) (subst (λ t. u_plain *ℤ (a.x -ℤ q.x) +ℤ t *ℤ (b.x -ℤ q.x) ≡ pos 0) (sym v_is) zero_x);
   balanced_y = sum_of (λ p. p.y) ∙ subst (λ s. s *ℤ (a.y -ℤ q.y) +ℤ v *ℤ (b.y -ℤ q.y) ≡ pos 0) (sym u_is) (subst (λ t. u_plain *ℤ (a.y -ℤ q.y) +ℤ t *ℤ (b.y -ℤ q.y) ≡ pos 0) (sym v_is) zero_y);
@@ -249,11 +231,11 @@ two_show points first last e whole done left right line extremes hw w1 w2 hd d1 
     zero_y = plain_line_y a.x a.y b.x b.y q.x q.y parallel
 
     pair_total : pair_sum (weighted left u ++ weighted right v) ≡ u +ℤ v
-    pair_total = total_two (λ pair. pair.weight) left right u v (not_below some_u) (not_below some_v) refl refl
+    pair_total = total_two (λ pair. pair.weight) left right u v (le_from_lt some_u) (le_from_lt some_v) refl refl
 
     sum_of : (g : PlanePoint → ℤ) → weighted_differences points g (weighted left u ++ weighted right v) ≡ u *ℤ (g a -ℤ g q) +ℤ v *ℤ (g b -ℤ g q)
     sum_of g =
-        total_two (λ pair. pair.weight *ℤ (g (point_at points pair.first) -ℤ g (point_at points pair.second))) left right u v (not_below some_u) (not_below some_v) (none (g (point_at points left.first) -ℤ g (point_at points left.second))) (none (g (point_at points right.first) -ℤ g (point_at points right.second)))
+        total_two (λ pair. pair.weight *ℤ (g (point_at points pair.first) -ℤ g (point_at points pair.second))) left right u v (le_from_lt some_u) (le_from_lt some_v) (none (g (point_at points left.first) -ℤ g (point_at points left.second))) (none (g (point_at points right.first) -ℤ g (point_at points right.second)))
         ∙ ap₂ (λ s t. u *ℤ s +ℤ v *ℤ t) (ap₂ (λ i j. g (point_at points i) -ℤ g (point_at points j)) l1 l2) (ap₂ (λ i j. g (point_at points i) -ℤ g (point_at points j)) r1 r2)
 
     plain_whole : (ax ay bx by qx qy : ℤ) → ((bx -ℤ ax) *ℤ (bx -ℤ qx) +ℤ (by -ℤ ay) *ℤ (by -ℤ qy)) +ℤ ((bx -ℤ ax) *ℤ (qx -ℤ ax) +ℤ (by -ℤ ay) *ℤ (qy -ℤ ay)) ≡ (bx -ℤ ax) *ℤ (bx -ℤ ax) +ℤ (by -ℤ ay) *ℤ (by -ℤ ay)

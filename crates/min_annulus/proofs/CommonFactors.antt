@@ -11,6 +11,7 @@ use Rattle.integers.specs.Total.{total}
 use Rattle.integers.proofs.Sums.{total_nonneg_all}
 use Rattle.integers.proofs.Identities.{den-ring, read, polys, lits, below_lits}
 use Rattle.integers.proofs.Order.{nonneg_mul, le_by, le_trans_ℤ, same_of_mul, combine1}
+use Rattle.integers.proofs.Lists.{All-unmap}
 use Rattle.bounds_model.specs.Plane.{PlanePoint, point_at, squared_length}
 use Rattle.bounds_model.specs.AnnulusAnswer as model
 use Rattle.bounds_model.specs.AnnulusAnswer.{pair_sum, weighted_differences}
@@ -39,11 +40,6 @@ times_more k pairs lowest i none below same divides =
     map-append (times k) lowest (record { first = pair.first; second = pair.second; weight = pair.weight / k } ∷ [])
     ∙ ap₂ (λ s w. let last : WeightedPair = record { first = pair.first; second = pair.second; weight = w } in s ++ last ∷ []) same (mul-div_cancel' k divides)
     ∙ sym (take_more pairs i none below)
-
--- what is seen by a function of all elements, each element shows
-All-unmap : {X Y : Type 0} (P : Y → Type 0) (f : X → Y) (xs : List X) → All P (map f xs) → All (λ x. P (f x)) xs
-All-unmap P f xs all k d below =
-    subst P (get_or-map f xs k d (f d) below) (all k (f d) (subst (λ n. k < n) (sym (length-map xs f)) below))
 
 -- no number but 1 divides all weights over the greatest common divisor
 pub no_factor_left : (pairs lowest : List WeightedPair) (factor : ℕ) → 0 < factor → IsCommonFactor pairs factor → pairs ≡ map (times factor) lowest → (k : ℕ) → All (λ pair. k ∣ pair.weight) lowest → k ≡ 1

@@ -1,29 +1,18 @@
--- The target's lift rises at each exchange, and the measure falls.
+-- The target's lift rises at each exchange, and the measure floor_rises_ℤ.
 use Rattle.std.proofs.Common.{◌≡◌, refl, sym, ◌∙◌, subst, ℕ, ◌^◌, ◌*◌, ◌/◌, ◌<◌, ℤ, pos, negsuc, ◌+ℤ◌, ◌-ℤ◌, ◌*ℤ◌, neg_ℤ, ◌≤ℤ◌, ◌<ℤ◌, nat_abs, arith, [], ◌∷◌}
 use Rattle.std.proofs.lemmas.Int.{ints}
 use Rattle.integers.specs.Size.{Size}
 use Rattle.integers.proofs.Sizes.{size_sub, size_mul, size_more, below_size}
 use Rattle.integers.proofs.Identities.{den-ring, read, polys, lits}
-use Rattle.integers.proofs.Order.{nonneg_mul, nonneg_add, nonneg_difference, positive_difference, positive_mul, nonneg_from_positive, lt_by, le_by, combine1}
-use Rattle.integers.proofs.LeastDifferences.{floor_rises}
+use Rattle.integers.proofs.Order.{nonneg_mul, nonneg_add, nonneg_difference, positive_difference, positive_mul, le_from_lt, lt_by, le_by, combine1}
+use Rattle.integers.proofs.LeastDifferences.{floor_rises, floor_rises_ℤ, rest_falls}
 use Rattle.min_annulus.specs.declared.difference_vectors.DifferenceVector.{DifferenceVector}
 use Rattle.min_annulus.specs.LinearForms.{rise, form_through}
 use Rattle.min_annulus.specs.DifferenceVectors.{IsDifference, IsAround, side, scale, area, lift_over, lift_under, lift_limit}
 use Rattle.min_annulus.specs.Laws.{MeasureFalls}
 use Rattle.min_annulus.proofs.Exchange.{side_turned, sides_balance}
 
--- ---- a fraction with a small denominator that falls
-
-falls : (a b c d : ℤ) (q : ℕ) → pos 0 ≤ℤ a → pos 0 <ℤ b → pos 0 ≤ℤ c → pos 0 <ℤ d → b ≤ℤ pos q → d ≤ℤ pos q → (a *ℤ d) <ℤ (c *ℤ b) → nat_abs a * (q * q) / nat_abs b < nat_abs c * (q * q) / nat_abs d
-falls (pos a) (pos b) (pos c) (pos d) q ha hb hc hd lb ld h = floor_rises a b c d q (omega (arith, ints)) (omega (arith, ints)) (omega (arith, ints)) (omega (arith, ints)) (omega (arith, ints))
-falls (negsuc a) b c d q ha hb hc hd lb ld h = absurd ha.le
-falls (pos a) (negsuc b) c d q ha hb hc hd lb ld h = absurd hb.lt
-falls (pos a) (pos b) (negsuc c) d q ha hb hc hd lb ld h = absurd hc.le
-falls (pos a) (pos b) (pos c) (negsuc d) q ha hb hc hd lb ld h = absurd hd.lt
-
--- what rises comes closer to L
-closer : (L n d m e : ℤ) → (n *ℤ e) <ℤ (m *ℤ d) → ((L *ℤ e -ℤ m) *ℤ d) <ℤ ((L *ℤ d -ℤ n) *ℤ e)
-closer L n d m e h = lt_by (positive_difference h) (read (L ∷ n ∷ d ∷ m ∷ e ∷ []) (λ xs a b c f g. simp (a, b, c, f, g, polys) (den-ring xs _ _ tt)))
+-- ---- a fraction with a small denominator that floor_rises_ℤ
 
 -- ---- the weights of the target in a triangle
 
@@ -71,7 +60,7 @@ difference_nonneg a b c ha hb hc around =
     plain : (L u v w f g h : ℤ) → pos 0 <ℤ u → pos 0 <ℤ v → pos 0 <ℤ w → f ≤ℤ L → g ≤ℤ L → h ≤ℤ L → pos 0 ≤ℤ (L *ℤ (u +ℤ v +ℤ w) -ℤ (u *ℤ f +ℤ v *ℤ g +ℤ w *ℤ h))
     plain L u v w f g h pu pv pw lf lg lh =
         le_by
-        (nonneg_add (nonneg_add (nonneg_mul (nonneg_from_positive pu) (nonneg_difference lf)) (nonneg_mul (nonneg_from_positive pv) (nonneg_difference lg))) (nonneg_mul (nonneg_from_positive pw) (nonneg_difference lh)))
+        (nonneg_add (nonneg_add (nonneg_mul (le_from_lt pu) (nonneg_difference lf)) (nonneg_mul (le_from_lt pv) (nonneg_difference lg))) (nonneg_mul (le_from_lt pw) (nonneg_difference lh)))
         (read (L ∷ u ∷ v ∷ w ∷ f ∷ g ∷ h ∷ []) (λ xs a b c d e i j. simp (a, b, c, d, e, i, j, polys, lits xs) (den-ring xs _ _ tt)))
 
 -- ---- how far the target's lift rises
@@ -109,10 +98,10 @@ lift_rises a b c d around above =
     difference : (u v w : ℤ) → ℤ
     difference u v w = (u *ℤ a.lift +ℤ v *ℤ b.lift +ℤ w *ℤ d.lift) *ℤ lift_under a b c -ℤ lift_over a b c *ℤ (u +ℤ v +ℤ w)
 
--- the measure falls
+-- the measure floor_rises_ℤ
 pub measure_falls : MeasureFalls
 measure_falls a b c d ha hb hc hd old new above =
-    falls (pos lift_limit *ℤ lift_under a b d -ℤ lift_over a b d) (lift_under a b d) (pos lift_limit *ℤ lift_under a b c -ℤ lift_over a b c) (lift_under a b c) (2 ^ 85)
+    floor_rises_ℤ (pos lift_limit *ℤ lift_under a b d -ℤ lift_over a b d) (lift_under a b d) (pos lift_limit *ℤ lift_under a b c -ℤ lift_over a b c) (lift_under a b c) (2 ^ 85)
     (difference_nonneg a b d ha hb hd new) (under_positive a b d new) (difference_nonneg a b c ha hb hc old) (under_positive a b c old)
     (under_limit a b d ha hb hd) (under_limit a b c ha hb hc)
-    (closer (pos lift_limit) (lift_over a b c) (lift_under a b c) (lift_over a b d) (lift_under a b d) (lift_rises a b c d old above))
+    (rest_falls (pos lift_limit) (lift_over a b c) (lift_under a b c) (lift_over a b d) (lift_under a b d) (lift_rises a b c d old above))

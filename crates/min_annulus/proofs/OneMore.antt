@@ -9,9 +9,9 @@ use borrow.Author.Count.{below_more}
 use mir.Syntax.{w128}
 use Rattle.integers.specs.Size.{Size}
 use Rattle.integers.proofs.Sizes.{wrap_is}
+use Rattle.integers.proofs.Order.{is_less, is_not_less}
 use Rattle.min_annulus.specs.declared.extremes.Extremes.{Extremes}
 use Rattle.min_annulus.specs.Extremes.{AreExtremes}
-use Rattle.min_annulus.proofs.MachineNumbers.{test_says, test_denies}
 
 -- a number as it comes back from its bits
 abbrev pub back : ℤ → ℤ
@@ -52,7 +52,7 @@ pub high_seen : (f : ℕ → ℤ) (n : ℕ) (self e : Extremes) (v : ℤ) → Si
     → IsHigh f (n + 1) self e
 high_seen f n self e v size extremes is (inl taken) =
     let v_is : back v ≡ v = wrap_is size tt in
-    let less : self.high <ℤ v = subst (λ h. h <ℤ v) (wrap_is extremes.high_size tt) (subst (λ z. back self.high <ℤ z) v_is (test_says taken.1)) in
+    let less : self.high <ℤ v = subst (λ h. h <ℤ v) (wrap_is extremes.high_size tt) (subst (λ z. back self.high <ℤ z) v_is (is_less taken.1)) in
     subst (IsHigh f (n + 1) self) (sym taken.0) (record {
       far = omega arith;
       high = v_is ∙ is;
@@ -63,7 +63,7 @@ high_seen f n self e v size extremes is (inl taken) =
     })
 high_seen f n self e v size extremes is (inr kept) =
     let v_is : back v ≡ v = wrap_is size tt in
-    let most : v ≤ℤ self.high = subst (λ h. v ≤ℤ h) (wrap_is extremes.high_size tt) (subst (λ z. z ≤ℤ back self.high) v_is (test_denies kept.1)) in
+    let most : v ≤ℤ self.high = subst (λ h. v ≤ℤ h) (wrap_is extremes.high_size tt) (subst (λ z. z ≤ℤ back self.high) v_is (is_not_less kept.1)) in
     subst (IsHigh f (n + 1) self) (sym kept.0) (record {
       far = let old = extremes.far in omega arith;
       high = extremes.high;
@@ -79,7 +79,7 @@ pub low_taken : (f : ℕ → ℤ) (n : ℕ) (self e : Extremes) (v : ℤ) → Si
 low_taken f n self e v size extremes is seen test =
     let v_is : back v ≡ v = wrap_is size tt in
     let test_old : lt_z (back v) (back self.low) ≡ true = subst (λ l. lt_z (back v) (back l) ≡ true) seen.low test in
-    let less : v <ℤ self.low = subst (λ l. v <ℤ l) (wrap_is extremes.low_size tt) (subst (λ z. z <ℤ back self.low) v_is (test_says test_old)) in
+    let less : v <ℤ self.low = subst (λ l. v <ℤ l) (wrap_is extremes.low_size tt) (subst (λ z. z <ℤ back self.low) v_is (is_less test_old)) in
     record {
       far = seen.far;
       high = seen.high;
@@ -97,7 +97,7 @@ pub low_kept : (f : ℕ → ℤ) (n : ℕ) (self e : Extremes) (v : ℤ) → Siz
 low_kept f n self e v size extremes is seen test =
     let v_is : back v ≡ v = wrap_is size tt in
     let test_old : lt_z (back v) (back self.low) ≡ false = subst (λ l. lt_z (back v) (back l) ≡ false) seen.low test in
-    let least : self.low ≤ℤ v = subst (λ l. l ≤ℤ v) (wrap_is extremes.low_size tt) (subst (λ z. back self.low ≤ℤ z) v_is (test_denies test_old)) in
+    let least : self.low ≤ℤ v = subst (λ l. l ≤ℤ v) (wrap_is extremes.low_size tt) (subst (λ z. back self.low ≤ℤ z) v_is (is_not_less test_old)) in
     record {
       far = seen.far;
       high = seen.high;

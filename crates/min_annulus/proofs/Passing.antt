@@ -6,7 +6,7 @@ use Rattle.std.proofs.lemmas.List.{get_or_default}
 use Rattle.integers.specs.Extremes.{greatest, least}
 use Rattle.integers.proofs.Extremes.{greatest_is, least_is}
 use Rattle.integers.proofs.Identities.{den-ring, read, polys, lits}
-use Rattle.integers.proofs.Order.{mul_le_left, le_of_mul_le, same_of_mul, positive_mul, combine2, combine3, nonneg_from_positive, positive_from_one}
+use Rattle.integers.proofs.Order.{mul_le_left, le_of_mul_le, same_of_mul, positive_mul, combine2, combine3, le_from_lt, positive_from_one}
 use Rattle.bounds_model.specs.Numbers.{IsWithin}
 use Rattle.bounds_model.specs.Plane.{PlanePoint, PlaneRatio, point_at, origin, squared_length}
 use Rattle.bounds_model.specs.Space.{SamePlace, flat_ratio}
@@ -40,7 +40,7 @@ powers_order : (f : LinearForm) (c : PlaneRatio) (p q : PlanePoint) → Same f c
 powers_order f c p q same some other h =
     le_of_mul_le f.w (positive_from_one some)
     (subst (λ z. z ≤ℤ (f.w *ℤ power c q)) (sym (power_is f c p same))
-    (subst (λ z. (c.w *ℤ level f p) ≤ℤ z) (sym (power_is f c q same)) (mul_le_left c.w (nonneg_from_positive (positive_from_one other)) h)))
+    (subst (λ z. (c.w *ℤ level f p) ≤ℤ z) (sym (power_is f c q same)) (mul_le_left c.w (le_from_lt (positive_from_one other)) h)))
 
 -- ---- the extremes
 

@@ -6,6 +6,7 @@ use Rattle.std.proofs.lemmas.List.{length-map}
 use Rattle.std.proofs.lemmas.List.Elements.{All-map}
 use Rattle.std.proofs.lemmas.Option.{slice_get-get_or, get_or_from_slice_get}
 use Rattle.integers.proofs.Sums.{total-map}
+use Rattle.integers.proofs.Lists.{All-unmap, any_default}
 use Rattle.bounds_model.specs.Space.{SpacePoint, point_at, vector, plus, times, dot, squared_length, weighted_sum, origin}
 use Rattle.bounds_model.specs.Fractions.{Fraction, SameValue}
 use Rattle.bounds_model.specs.Ranges.{IsFraction}
@@ -21,17 +22,12 @@ use Rattle.corral.specs.declared.support.WeightedItem.{WeightedItem}
 use Rattle.corral.specs.Items.{IsItem, item, first_points}
 use Rattle.corral.specs.WeightedItems.{AreSupportItems, weighted_item, weighted_items}
 use Rattle.corral.specs.Supports.{AreSupports}
-use Rattle.corral.proofs.Mapped.{all_unmap}
 use Rattle.corral.proofs.Moments.{at_least_common, mass_positive}
 use Rattle.ball_sums.specs.declared.sums.Sums.{Sums}
 use Rattle.min_ball.specs.Balls.{weighted_point, FewDetermineBall}
 use Rattle.min_ball.proofs.SeenFromFirst.{sum_seen, on_ball_of_same, inside_of_above}
 
 -- ---- lists
-
--- an element that is there is the same with any other in its stead
-any_default : {X : Type 0} (xs : List X) (k : ℕ) (d e : X) → k < length xs → get_or xs k e ≡ get_or xs k d
-any_default xs k d e l = get_or_from_slice_get xs k (get_or xs k d) e (slice_get-get_or xs k d l)
 
 weighted_sum-map : {X Y : Type 0} (weight : Y → ℤ) (at : Y → SpacePoint) (f : X → Y) (xs : List X) → weighted_sum weight at (map f xs) ≡ weighted_sum (λ x. weight (f x)) (λ x. at (f x)) xs
 weighted_sum-map weight at f [] = refl
@@ -76,7 +72,7 @@ supports_on_ball K place cloud (first ∷ rest) h =
     let supports = map weighted_point members in
     let weighted = weighted_items place items members in
     let f = first_support points supports in
-    let equal = all_unmap (λ (a : WeightedVector). All (λ b. slack (pos 1) weighted a.vector ≡ slack (pos 1) weighted b.vector) weighted) (weighted_item place items) members h.equal in
+    let equal = All-unmap (λ (a : WeightedVector). All (λ b. slack (pos 1) weighted a.vector ≡ slack (pos 1) weighted b.vector) weighted) (weighted_item place items) members h.equal in
     All-map (IsOnBall points supports) weighted_point members (λ k d l.
     let p = point_at points (get_or members k d).id.first in
     subst (λ m. pos 2 *ℤ dot (vector f p) (pull points supports) ≡ m *ℤ squared_length (vector f p)) (mass_is place items members)
@@ -128,7 +124,7 @@ determined_by_supports K {P} dim place cloud items members size is are_members s
       count = record { at_least = let h = are_members.count.at_least in omega arith; at_most = let h = are_members.count.at_most in omega arith };
       numbers = All-map (λ (s : Weighted). s.point < length (map place (points_of cloud))) weighted_point members
           (λ k d l. let named = (are_members.listed k d l).0 in let count = length-map (points_of cloud) place in omega arith);
-      weights = All-map (λ (s : Weighted). pos 1 ≤ℤ s.weight) weighted_point members (all_unmap (λ (s : WeightedVector). pos 1 ≤ℤ s.weight) (weighted_item place (cloud_items K cloud)) members supports.weights);
+      weights = All-map (λ (s : Weighted). pos 1 ≤ℤ s.weight) weighted_point members (All-unmap (λ (s : WeightedVector). pos 1 ≤ℤ s.weight) (weighted_item place (cloud_items K cloud)) members supports.weights);
       weight_limit = subst (λ m. m ≤ℤ pos (ball_limit dim)) (mass_is place (cloud_items K cloud) members) limit;
       on_ball = supports_on_ball K place cloud members supports;
       none_outside = none_outside K place cloud members supports none_low;

@@ -4,7 +4,7 @@ use Rattle.std.specs.Prelude.{All, ◌≤◌, ◌^◌, map, slice_index_or}
 use Rattle.std.proofs.lemmas.Int.{ints}
 use Rattle.std.proofs.lemmas.List.{length-map}
 use Rattle.integers.proofs.Identities.{den-ring, read, polys, lits, below_lits}
-use Rattle.integers.proofs.Order.{nonneg_mul, nonneg_add, positive_mul, positive_from_one, square_nonneg, le_by, le_of_mul_le, nonneg_difference, combine1, combine2, combine3}
+use Rattle.integers.proofs.Order.{nonneg_mul, nonneg_add, positive_mul, positive_from_one, square_nonneg, le_by, le_of_mul_le, nonneg_difference, combine1, combine2, combine3, nonneg_from_one}
 use Rattle.integers.proofs.Sums.{total_weighted_le}
 use Rattle.integers.specs.Total.{total}
 use Rattle.bounds_model.specs.Space.{SpacePoint, point_at, origin, vector, times, squared_length, entries, flat}
@@ -18,10 +18,6 @@ use Rattle.bounds_model.specs.Answers.Answer.{circle, sphere}
 use Rattle.model_laws.specs.Laws.{PassingAnswersAreBest}
 use Rattle.model_laws.proofs.Decisions.{all-uncons}
 use Rattle.model_laws.proofs.WeightedVectors.{distances_sum, balance}
-
--- what is at least 1 is not below 0
-weaken : {a : ℤ} → pos 1 ≤ℤ a → pos 0 ≤ℤ a
-weaken h = omega (arith, ints)
 
 -- ---- the numbers of a ball that passes: q is the first support, C the weighted sum as seen from it, W the sum of the weights, S the second moment
 
@@ -62,7 +58,7 @@ inside_law : (D N W w X Y Z A B E Cx Cy Cz : ℤ) → pos 1 ≤ℤ W → pos 1 �
     → (D *ℤ (X *ℤ X +ℤ Y *ℤ Y +ℤ Z *ℤ Z)) ≤ℤ (N *ℤ (w *ℤ w))
 inside_law D N W w X Y Z A B E Cx Cy Cz pw pd hx hy hz h l =
     le_of_mul_le (W *ℤ W) (positive_mul (positive_from_one pw) (positive_from_one pw))
-    (le_by (nonneg_mul (nonneg_mul (nonneg_mul (weaken pd) (square_nonneg w)) (weaken pw)) (nonneg_difference l)) (inside_difference D N W w X Y Z A B E Cx Cy Cz hx hy hz h))
+    (le_by (nonneg_mul (nonneg_mul (nonneg_mul (nonneg_from_one pd) (square_nonneg w)) (nonneg_from_one pw)) (nonneg_difference l)) (inside_difference D N W w X Y Z A B E Cx Cy Cz hx hy hz h))
 
 -- W times the weighted squared distances from y/k is at least k*k times the squared length of C
 spread : (k W S T Cx Cy Cz x y z : ℤ)
@@ -83,9 +79,9 @@ best_law : (N D W S T Cx Cy Cz x y z k n d : ℤ) → pos 1 ≤ℤ W → pos 1 �
 best_law N D W S T Cx Cy Cz x y z k n d pw pd pk pe hT hC hN l =
     let CC = Cx *ℤ Cx +ℤ Cy *ℤ Cy +ℤ Cz *ℤ Cz in
     let above : (k *ℤ k *ℤ CC) ≤ℤ (W *ℤ T) = le_by (nonneg_add (nonneg_add (square_nonneg (W *ℤ x -ℤ k *ℤ Cx)) (square_nonneg (W *ℤ y -ℤ k *ℤ Cy))) (square_nonneg (W *ℤ z -ℤ k *ℤ Cz))) (spread k W S T Cx Cy Cz x y z hT hC) in
-    let chained = chain k CC W T d n (weaken pw) (weaken pe) above l in
+    let chained = chain k CC W T d n (nonneg_from_one pw) (nonneg_from_one pe) above l in
     let short : (d *ℤ CC) ≤ℤ (W *ℤ W *ℤ n) = le_of_mul_le (k *ℤ k) (positive_mul (positive_from_one pk) (positive_from_one pk)) chained in
-    le_of_mul_le (W *ℤ W) (positive_mul (positive_from_one pw) (positive_from_one pw)) (last D N W CC d n (weaken pd) hN short)
+    le_of_mul_le (W *ℤ W) (positive_mul (positive_from_one pw) (positive_from_one pw)) (last D N W CC d n (nonneg_from_one pd) hN short)
   where
     chain : (k CC W T d n : ℤ) → pos 0 ≤ℤ W → pos 0 ≤ℤ d → (k *ℤ k *ℤ CC) ≤ℤ (W *ℤ T) → (d *ℤ T) ≤ℤ (W *ℤ (n *ℤ (k *ℤ k))) → (k *ℤ k *ℤ (d *ℤ CC)) ≤ℤ (k *ℤ k *ℤ (W *ℤ W *ℤ n))
     chain k CC W T d n pw pe h l =
@@ -177,7 +173,7 @@ witness_best limit points ball supports some pd numbers h other fits =
     let k = other.centre.w in
     let y = vector (times k q) (entries other.centre) in
     let sums = distances_sum (λ (s : Weighted). s.weight) (seen_support points supports) k y supports in
-    let bound = total_weighted_le (λ (s : Weighted). s.weight) (λ s. Far k y (seen_support points supports s)) other.squared_radius.d (other.squared_radius.n *ℤ (k *ℤ k)) supports (λ i d l. weaken (h.weights i d l)) (support_in points other supports numbers fits) in
+    let bound = total_weighted_le (λ (s : Weighted). s.weight) (λ s. Far k y (seen_support points supports s)) other.squared_radius.d (other.squared_radius.n *ℤ (k *ℤ k)) supports (λ i d l. nonneg_from_one (h.weights i d l)) (support_in points other supports numbers fits) in
     best_law ball.squared_radius.n ball.squared_radius.d (weight_sum supports) (total (λ s. s.weight *ℤ squared_length (seen_support points supports s)) supports) (total (λ s. s.weight *ℤ Far k y (seen_support points supports s)) supports) c.x c.y c.z y.x y.y y.z k other.squared_radius.n other.squared_radius.d b.weight pd fits.denominator fits.radius.denominator sums b.moments b.size bound
 
 -- a size in lowest terms prints as itself

@@ -7,7 +7,7 @@ use Rattle.std.proofs.lemmas.Int.{ints}
 use Rattle.std.proofs.lemmas.List.{get_or_default}
 use Rattle.std.proofs.lemmas.List.Elements.{All-contains, All-get_or, All-map}
 use Rattle.integers.proofs.Identities.{den-ring, read, polys, lits}
-use Rattle.integers.proofs.Order.{combine2}
+use Rattle.integers.proofs.Order.{combine2, positive-not_zero}
 use Rattle.bounds_model.specs.Plane.{PlanePoint, origin, point_at, vector, cross, IsBefore, IsLeastPoint}
 use Rattle.bounds_model.specs.Hull.{around, AreCornerCycle}
 use Rattle.bounds_model.specs.CornerTest.{GoAround, FirstIsOnce}
@@ -85,10 +85,6 @@ on_line : (points corners : List PlanePoint) → Cycle points corners → (i k j
 on_line points corners r i k j p h m l e =
     between_turns (seen corners i) (seen corners k) (far_left points corners r i (k - i) k p (omega arith) (omega arith))
     (subst (λ q. pos 0 ≤ℤ cross (seen corners k) (vector (point_at corners 0) q)) (sym e) (far_left points corners r k (j - k) j (omega arith) (omega arith) l))
-
--- what is above 0 is not 0
-positive-not_zero : {z : ℤ} → pos 0 <ℤ z → z ≡ pos 0 → ⊥
-positive-not_zero h e = omega (arith, ints)
 
 -- a corner is not equal to the next
 next_differs : (points corners : List PlanePoint) → Cycle points corners → (i : ℕ) → i + 1 < length corners → point_at corners i ≢ point_at corners (i + 1)

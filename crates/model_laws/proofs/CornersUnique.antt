@@ -6,12 +6,12 @@ use Rattle.std.proofs.Math.Nat.{mod-lt, mod-mod, mod-add-mod, add-mod_left}
 use Rattle.std.proofs.lemmas.Int.{ints}
 use Rattle.std.proofs.lemmas.List.{ext_get_or}
 use Rattle.std.proofs.lemmas.List.Elements.{All-contains, All-get_or}
-use Rattle.integers.proofs.Order.{le_antisymm_ℤ}
+use Rattle.integers.proofs.Order.{le_antisymm_ℤ, positive-not_zero}
 use Rattle.bounds_model.specs.Plane.{PlanePoint, origin, point_at, vector, turn, IsBefore, IsLeastPoint, IsGreatestPoint}
 use Rattle.bounds_model.specs.Hull.{around, AreCornerCycle, AreEnds, IsOnlyPoint}
 use Rattle.model_laws.specs.Laws.{CornersAreUnique}
 use Rattle.model_laws.proofs.Turning.{ahead_of_before, no_turn, on_one_line}
-use Rattle.model_laws.proofs.NextCorner.{Follows, one_after, one_after_least, positive-not_zero}
+use Rattle.model_laws.proofs.NextCorner.{Follows, one_after, one_after_least}
 use Rattle.model_laws.proofs.CornerLaw.{around-below, cross_self}
 
 -- ---- least and greatest points

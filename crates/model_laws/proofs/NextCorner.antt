@@ -5,13 +5,13 @@ use Rattle.std.specs.Prelude.{List, All, Contains}
 use Rattle.std.proofs.lemmas.Int.{ints, by_lt_z}
 use Rattle.std.proofs.lemmas.List.Elements.{All-contains}
 use Rattle.integers.proofs.Identities.{den-ring, read, polys, lits, below_lits}
-use Rattle.integers.proofs.Order.{nonneg_mul, nonneg_add, positive_mul, positive_add, square_nonneg, nonneg_of_mul, nonneg_from_positive, le_by, le_of_mul_le, le_of_square_le, le_antisymm_ℤ, nonneg_difference, combine1, combine2}
+use Rattle.integers.proofs.Order.{nonneg_mul, nonneg_add, positive_mul, positive_add, square_nonneg, nonneg_of_mul, le_from_lt, le_by, le_of_mul_le, le_of_square_le, le_antisymm_ℤ, nonneg_difference, combine1, combine2, zero_of_square, positive-not_zero}
 use Rattle.bounds_model.specs.Plane.{PlanePoint, vector, dot, squared_length, cross, turn, IsBefore, IsLeastPoint}
 use Rattle.model_laws.proofs.Turning.{IsAhead, ahead_of_before, between_turns, edge_turn}
 
 -- a factor of a product above 0 is above 0 where the other is
 positive_of_mul : (k a : ℤ) → pos 0 <ℤ k → pos 0 <ℤ (k *ℤ a) → pos 0 <ℤ a
-positive_of_mul k a h l = by_lt_z (pos 0) a (λ p. p) (λ m. absurd (none (k *ℤ a) l (times_low k a (nonneg_from_positive h) m)))
+positive_of_mul k a h l = by_lt_z (pos 0) a (λ p. p) (λ m. absurd (none (k *ℤ a) l (times_low k a (le_from_lt h) m)))
   where
     none : (z : ℤ) → pos 0 <ℤ z → z ≤ℤ pos 0 → ⊥
     none z h l = omega (arith, ints)
@@ -77,19 +77,6 @@ no_farther u v e flat long turns left = no_more (nonneg_of_mul (cross u e) turns
     no_more : {a t : ℤ} → pos 0 ≤ℤ (a -ℤ t) → t ≤ℤ a
     no_more h = omega (arith, ints)
 
--- what has no square above 0 is 0
-pub zero_of_square : (x : ℤ) → (x *ℤ x) ≤ℤ pos 0 → x ≡ pos 0
-zero_of_square x h = le_antisymm_ℤ (le_of_square_le zero_least h) (turned (le_of_square_le zero_least (subst (λ z. z ≤ℤ pos 0) (mirrored x) h)))
-  where
-    zero_least : pos 0 ≤ℤ pos 0
-    zero_least = omega (arith, ints)
-
-    mirrored : (x : ℤ) → x *ℤ x ≡ neg_ℤ x *ℤ neg_ℤ x
-    mirrored x = read (x ∷ []) (λ xs a. simp (a, polys) (den-ring xs _ _ tt))
-
-    turned : {x : ℤ} → neg_ℤ x ≤ℤ pos 0 → pos 0 ≤ℤ x
-    turned h = omega (arith, ints)
-
 -- two vectors on a line that point the same way, neither farther than the other, are equal
 pub same_vector : (u v : PlanePoint) → cross u v ≡ pos 0 → pos 0 <ℤ dot u v → dot u v ≤ℤ squared_length u → dot u v ≤ℤ squared_length v → u ≡ v
 same_vector u v flat way h k = λ i. record { x = equal u.x v.x (zero_of_square (u.x -ℤ v.x) (first_part (square_nonneg (u.y -ℤ v.y)) small)) i; y = equal u.y v.y (zero_of_square (u.y -ℤ v.y) (second_part (square_nonneg (u.x -ℤ v.x)) small)) i }
@@ -120,10 +107,6 @@ pub record Follows (points : List PlanePoint) (a b c : PlanePoint) : Type 0 wher
   pub left : All (λ q. pos 0 ≤ℤ turn a b q) points
   pub next_left : All (λ q. pos 0 ≤ℤ turn b c q) points
   pub turns : pos 0 <ℤ turn a b c
-
--- what is above 0 is not 0
-pub positive-not_zero : {z : ℤ} → pos 0 <ℤ z → z ≡ pos 0 → ⊥
-positive-not_zero h e = omega (arith, ints)
 
 -- an edge before a left turn has a length
 long_edge : (u v : PlanePoint) → pos 0 <ℤ cross u v → pos 0 <ℤ squared_length u

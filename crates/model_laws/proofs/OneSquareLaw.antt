@@ -5,7 +5,8 @@ use Rattle.std.specs.Prelude.{◌⊎◌, All, Any, Contains}
 use Rattle.std.proofs.lemmas.Int.{ints}
 use Rattle.std.proofs.lemmas.List.Elements.{All-contains, All-head}
 use Rattle.integers.proofs.Identities.{den-ring, read, polys, lits}
-use Rattle.integers.proofs.Order.{nonneg_mul, nonneg_add, positive_from_one, le_by, le_of_mul_le, nonneg_difference, combine1}
+use Rattle.integers.proofs.Order.{nonneg_mul, nonneg_add, positive_from_one, le_by, le_of_mul_le, nonneg_difference, combine1, nonneg_from_one}
+use Rattle.integers.proofs.Magnitudes.{le_magnitude, neg_le_magnitude}
 use Rattle.bounds_model.specs.Plane.{PlanePoint, PlaneRatio}
 use Rattle.bounds_model.specs.Fractions.{Fraction, IsAtMost}
 use Rattle.bounds_model.specs.Centres.{Cover, IsNear, FitsCentres}
@@ -15,20 +16,6 @@ use Rattle.bounds_model.specs.Asks.Sets.{plane}
 use Rattle.bounds_model.specs.Answers.Answer.{centres}
 use Rattle.model_laws.specs.Laws.{PassingAnswersAreBest}
 use Rattle.model_laws.proofs.Decisions.{any-nil, any-uncons}
-
--- what is at least 1 is not below 0
-weaken : {a : ℤ} → pos 1 ≤ℤ a → pos 0 ≤ℤ a
-weaken h = omega (arith, ints)
-
--- a number is at most its magnitude
-le_abs : (z : ℤ) → z ≤ℤ pos (nat_abs z)
-le_abs (pos k) = omega (arith, ints)
-le_abs (negsuc k) = omega (arith, ints)
-
--- and so is its negative
-neg_le_abs : (z : ℤ) → neg_ℤ z ≤ℤ pos (nat_abs z)
-neg_le_abs (pos k) = omega (arith, ints)
-neg_le_abs (negsuc k) = omega (arith, ints)
 
 -- two points at most n/d away from c/w are at most twice as far from each other
 close : (w c p q n d a b : ℤ) → pos 1 ≤ℤ w → pos 0 ≤ℤ d → (w *ℤ p -ℤ c) ≤ℤ a → neg_ℤ (w *ℤ q -ℤ c) ≤ℤ b → (a *ℤ d) ≤ℤ (n *ℤ w) → (b *ℤ d) ≤ℤ (n *ℤ w) → (d *ℤ (p -ℤ q)) ≤ℤ (pos 2 *ℤ n)
@@ -71,8 +58,8 @@ from_far N D radius c t p q pD pw pd e np nq far =
     by_way : (p q x : ℤ) → (pos (suc t) ≤ℤ (q -ℤ p)) ⊎ (pos (suc t) ≤ℤ (p -ℤ q)) → (pos (nat_abs (c.w *ℤ p -ℤ x)) *ℤ radius.d) ≤ℤ (radius.n *ℤ c.w) → (pos (nat_abs (c.w *ℤ q -ℤ x)) *ℤ radius.d) ≤ℤ (radius.n *ℤ c.w) → (N *ℤ radius.d) ≤ℤ (radius.n *ℤ D)
     by_way p q x s hp hq =
         elim s [
-          | inl l ↦ not_smaller N D radius.n radius.d (pos (suc t)) (q -ℤ p) pD pd e l (close c.w x q p radius.n radius.d _ _ pw pd (le_abs (c.w *ℤ q -ℤ x)) (neg_le_abs (c.w *ℤ p -ℤ x)) hq hp)
-          | inr l ↦ not_smaller N D radius.n radius.d (pos (suc t)) (p -ℤ q) pD pd e l (close c.w x p q radius.n radius.d _ _ pw pd (le_abs (c.w *ℤ p -ℤ x)) (neg_le_abs (c.w *ℤ q -ℤ x)) hp hq)
+          | inl l ↦ not_smaller N D radius.n radius.d (pos (suc t)) (q -ℤ p) pD pd e l (close c.w x q p radius.n radius.d _ _ pw pd (le_magnitude (c.w *ℤ q -ℤ x)) (neg_le_magnitude (c.w *ℤ p -ℤ x)) hq hp)
+          | inr l ↦ not_smaller N D radius.n radius.d (pos (suc t)) (p -ℤ q) pD pd e l (close c.w x p q radius.n radius.d _ _ pw pd (le_magnitude (c.w *ℤ p -ℤ x)) (neg_le_magnitude (c.w *ℤ q -ℤ x)) hp hq)
         ]
 
 -- where there is one centre, each point is near it
@@ -107,12 +94,12 @@ least points a h other fits = by_centres other.centres fits.as_many fits.denomin
 
     by_side : (c : PlaneRatio) → pos 1 ≤ℤ c.w → All (λ p. Any (IsNear other.radius p) (c ∷ [])) points → (s : ℕ) → pos s *ℤ a.size.d ≡ pos 2 *ℤ a.size.n → AreLeaves s 1 points a.leaves → IsAtMost a.size other.radius
     by_side c pw near zero e l =
-        subst (λ N. (N *ℤ other.radius.d) ≤ℤ (other.radius.n *ℤ a.size.d)) (zero_size a.size.n a.size.d e) (nothing other.radius.n other.radius.d a.size.d (nonneg_mul fits.radius.numerator (weaken h.ranges.size.lowest.not_negative.denominator)))
+        subst (λ N. (N *ℤ other.radius.d) ≤ℤ (other.radius.n *ℤ a.size.d)) (zero_size a.size.n a.size.d e) (nothing other.radius.n other.radius.d a.size.d (nonneg_mul fits.radius.numerator (nonneg_from_one h.ranges.size.lowest.not_negative.denominator)))
     by_side c pw near (suc t) e l =
         let some : 0 < length a.leaves = let n : length a.leaves ≡ 1 = l.0 in omega arith in
         let leaf = l.1 0 no_leaf some in
         let near_at = λ (p : PlanePoint) (m : Contains points p). near_only other.radius p c (All-contains (λ p. Any (IsNear other.radius p) (c ∷ [])) points p near m) in
-        from_far a.size.n a.size.d other.radius c t _ _ (weaken h.ranges.size.lowest.not_negative.denominator) pw (weaken fits.radius.denominator) e (near_at _ leaf.first) (near_at _ leaf.second) leaf.far
+        from_far a.size.n a.size.d other.radius c t _ _ (nonneg_from_one h.ranges.size.lowest.not_negative.denominator) pw (nonneg_from_one fits.radius.denominator) e (near_at _ leaf.first) (near_at _ leaf.second) leaf.far
 
     by_centres : (cs : List PlaneRatio) → length cs ≡ 1 → All (λ c. pos 1 ≤ℤ c.w) cs → All (λ p. Any (IsNear other.radius p) cs) points → IsAtMost a.size other.radius
     by_centres [] n w near = absurd (omega arith)

@@ -4,7 +4,7 @@ use mathlib.Core.Logic.{inl, inr}
 use Rattle.std.specs.Prelude.{◌⊎◌, SomeIndex}
 use Rattle.std.proofs.lemmas.Int.{ints}
 use Rattle.integers.proofs.Identities.{den-ring, read, polys, lits}
-use Rattle.integers.proofs.Order.{positive_mul, positive_add, nonneg_from_positive}
+use Rattle.integers.proofs.Order.{positive_mul, positive_add, le_from_lt}
 use Rattle.bounds_model.specs.Plane.{PlanePoint, origin, point_at, dot, cross}
 use Rattle.bounds_model.specs.Fans.{north}
 use Rattle.bounds_model.specs.PlainFans.{edge, IsNormal, IsNormalOrParallel}
@@ -82,7 +82,7 @@ abbrev IsBetween : PlanePoint → Type 0
 IsBetween d = (pos 0 <ℤ d.x) × (pos 0 <ℤ d.y)
 
 not_across : (u w : PlanePoint) → IsBetween u → IsBetween w → dot u w ≡ pos 0 → ⊥
-not_across u w a b e = zero_above (dot u w) (positive_add (positive_mul a.0 b.0) (nonneg_from_positive (positive_mul a.1 b.1))) e
+not_across u w a b e = zero_above (dot u w) (positive_add (positive_mul a.0 b.0) (le_from_lt (positive_mul a.1 b.1))) e
   where
     zero_above : (z : ℤ) → pos 0 <ℤ z → z ≡ pos 0 → ⊥
     zero_above z h e = omega (arith, ints)

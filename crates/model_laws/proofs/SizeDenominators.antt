@@ -1,7 +1,7 @@
 -- The size of an object that fits has a denominator above 0.
 use Rattle.std.proofs.Common.{◌≡◌, ◌≢◌, ℕ, ℤ, pos, nat_abs, ◌+ℤ◌, ◌*ℤ◌, ◌≤ℤ◌, ◌<ℤ◌, List, arith}
 use Rattle.std.proofs.lemmas.Int.{ints, by_lt_z}
-use Rattle.integers.proofs.Order.{positive_mul, positive_from_one, square_nonneg}
+use Rattle.integers.proofs.Order.{positive_mul, positive_from_one, square_nonneg, zero_of_square}
 use Rattle.bounds_model.specs.Plane.{PlanePoint, origin, squared_length, cross}
 use Rattle.bounds_model.specs.Space.{SpacePoint}
 use Rattle.bounds_model.specs.Ball.{Ball, FitsBall, FitsCircle, ball_size}
@@ -12,7 +12,6 @@ use Rattle.bounds_model.specs.Annulus.{Annulus, FitsAnnulus, annulus_size}
 use Rattle.bounds_model.specs.EmptyRectangle.{Box, EmptyRectangle, FitsEmpty, empty_size}
 use Rattle.bounds_model.specs.Distance.{Weights, FitsDistance, distance_size}
 use Rattle.bounds_model.specs.Centres.{Cover, FitsCentres, centres_size}
-use Rattle.model_laws.proofs.NextCorner.{zero_of_square}
 
 -- a vector that is not 0 has a length
 pub long_vector : (u : PlanePoint) → u ≢ origin → pos 0 <ℤ squared_length u

@@ -4,7 +4,7 @@ use mathlib.Core.Logic.{inl, inr}
 use Rattle.std.specs.Prelude.{◌⊎◌}
 use Rattle.std.proofs.lemmas.Int.{ints}
 use Rattle.integers.proofs.Identities.{den-ring, read, polys, lits}
-use Rattle.integers.proofs.Order.{positive_mul, positive_add, nonneg_from_positive, lt_of_mul_lt, same_of_mul, combine2}
+use Rattle.integers.proofs.Order.{positive_mul, positive_add, le_from_lt, lt_of_mul_lt, same_of_mul, combine2}
 use Rattle.bounds_model.specs.Numbers.{EachBelow}
 use Rattle.bounds_model.specs.Plane.{PlanePoint, point_at, cross}
 use Rattle.bounds_model.specs.PlainFans.{EachInner}
@@ -23,7 +23,7 @@ positive_of_mul k a p h = lt_of_mul_lt k p (subst (λ z. z <ℤ (k *ℤ a)) (tim
 further : (u v w : PlanePoint) → pos 0 <ℤ u.y → pos 0 <ℤ v.y → pos 0 <ℤ w.y → pos 0 <ℤ cross u v → pos 0 <ℤ cross v w → pos 0 <ℤ cross u w
 further u v w pu pv pw a b =
     positive_of_mul v.y (cross u w) pv
-    (subst (λ z. pos 0 <ℤ z) (sym (exchange_y u.x u.y v.x v.y w.x w.y)) (positive_add (positive_mul pu b) (nonneg_from_positive (positive_mul pw a))))
+    (subst (λ z. pos 0 <ℤ z) (sym (exchange_y u.x u.y v.x v.y w.x w.y)) (positive_add (positive_mul pu b) (le_from_lt (positive_mul pw a))))
 
 abbrev pub Turns : List PlanePoint → Type 0
 Turns ds = EachBelow (length ds - 1) (λ i. pos 0 <ℤ cross (point_at ds i) (point_at ds (i + 1)))

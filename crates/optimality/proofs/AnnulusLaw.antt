@@ -2,7 +2,7 @@
 use Rattle.std.proofs.Common.{◌≡◌, ℤ, pos, negsuc, ◌+ℤ◌, ◌-ℤ◌, ◌*ℤ◌, neg_ℤ, ◌≤ℤ◌, List, [], ◌∷◌}
 use Rattle.std.specs.Prelude.{All, slice_index_or}
 use Rattle.integers.proofs.Identities.{den-ring, read, polys, lits, below_lits}
-use Rattle.integers.proofs.Order.{nonneg_mul, nonneg_add, positive_mul, positive_from_one, at_least_one, le_by, le_of_mul_le, same_of_mul, nonneg_difference, combine1, combine2, combine3}
+use Rattle.integers.proofs.Order.{nonneg_mul, nonneg_add, positive_mul, positive_from_one, at_least_one, le_by, le_of_mul_le, same_of_mul, nonneg_difference, combine1, combine2, combine3, nonneg_from_one}
 use Rattle.integers.proofs.Sums.{total_weighted_le, total_positive}
 use Rattle.integers.proofs.Extremes.{below_greatest, above_least}
 use Rattle.integers.specs.Extremes.{greatest, least}
@@ -13,7 +13,6 @@ use Rattle.bounds_model.specs.Annulus.{Annulus, FitsAnnulus, squared_distance, a
 use Rattle.bounds_model.specs.AnnulusAnswer.{WeightedPair, AnnulusAnswer, annulus_of, power, pair_sum, weighted_differences, PassesAnnulus}
 use Rattle.model_laws.proofs.SizeDenominators.{annulus_denominator}
 use Rattle.optimality.specs.Laws.{PassingAnnuliAreBest}
-use Rattle.optimality.proofs.Bounds.{nonneg_from_one}
 use Rattle.optimality.proofs.PrintedSizes.{smallest_by_printed}
 
 -- ---- the annulus of an answer holds the points: |w p - c|² is w times the power of p, and |c|²

@@ -5,14 +5,14 @@ use Rattle.std.proofs.lemmas.Int.{ints, by_lt_z}
 use Rattle.std.proofs.lemmas.List.{get_or_default}
 use Rattle.std.proofs.lemmas.List.Elements.{All-contains}
 use Rattle.integers.proofs.Identities.{den-ring, read, polys, lits}
-use Rattle.integers.proofs.Order.{nonneg_mul, nonneg_add, positive_mul, positive_from_one, le_by, le_of_mul_le, nonneg_difference, positive_difference, combine1}
+use Rattle.integers.proofs.Order.{nonneg_mul, nonneg_add, positive_mul, positive_from_one, le_by, le_of_mul_le, nonneg_difference, positive_difference, combine1, nonneg_from_one}
+use Rattle.integers.proofs.Magnitudes.{le_magnitude, neg_le_magnitude}
 use Rattle.bounds_model.specs.Plane.{PlanePoint}
 use Rattle.bounds_model.specs.Fractions.{Fraction, IsAtMost}
 use Rattle.bounds_model.specs.Centres.{Cover, IsNear, FitsCentres, centres_size}
 use Rattle.bounds_model.specs.CentresAnswer.{Leaf, CentresAnswer, cover_of, side, AreLeaves, PassesCentres}
 use Rattle.model_laws.proofs.SizeDenominators.{centres_denominator}
 use Rattle.optimality.specs.Laws.{PassingCentresAreBest}
-use Rattle.optimality.proofs.Bounds.{nonneg_from_one, le_magnitude, neg_le_magnitude}
 use Rattle.optimality.proofs.PrintedSizes.{printed_as_is, smallest_by_printed}
 use Rattle.optimality.proofs.Colours.{Colouring, IsColoured}
 use Rattle.optimality.proofs.CornerTree.{some_leaf_is_near}

@@ -6,10 +6,9 @@ use Rattle.std.proofs.lemmas.List.Elements.{All-cons, All-nil}
 use Rattle.std.specs.Int.Signed.{≤ℤ_refl}
 use Rattle.std.proofs.Math.IntN.{neg_ℤ-neg_ℤ}
 use Rattle.integers.proofs.Identities.{den-ring, read, polys}
-use Rattle.integers.proofs.Order.{le_by, nonneg_difference, le_trans_ℤ}
+use Rattle.integers.proofs.Order.{le_by, nonneg_difference, le_trans_ℤ, le_from_lt}
 use Rattle.bounds_model.specs.Plane.{PlanePoint}
 use Rattle.model_laws.proofs.Decisions.{Decision, both, any-cons, most_ℤ, false-not_true}
-use Rattle.optimality.proofs.Bounds.{le_from_lt}
 
 -- the value is the start, or that of a point that counts
 abbrev pub IsValue : List PlanePoint → (PlanePoint → Type 0) → (PlanePoint → ℤ) → ℤ → ℤ → Type 0

@@ -4,7 +4,7 @@ use Rattle.std.specs.Prelude.{All, slice_index_or}
 use Rattle.std.proofs.lemmas.Int.{ints}
 use Rattle.std.proofs.lemmas.List.Elements.{All-head, All-tail}
 use Rattle.integers.proofs.Identities.{den-ring, read, polys, lits}
-use Rattle.integers.proofs.Order.{nonneg_mul, nonneg_add, positive_mul, positive_from_one, at_least_one, square_nonneg, le_by, le_of_mul_le, nonneg_difference, combine1, combine2}
+use Rattle.integers.proofs.Order.{nonneg_mul, nonneg_add, positive_mul, positive_from_one, at_least_one, square_nonneg, le_by, le_of_mul_le, nonneg_difference, combine1, combine2, nonneg_from_one}
 use Rattle.integers.proofs.Sums.{total_positive}
 use Rattle.integers.specs.Total.{total}
 use Rattle.bounds_model.specs.Space.{SpacePoint, point_at, times, vector, dot, squared_length, weighted_sum}
@@ -15,7 +15,6 @@ use Rattle.bounds_model.specs.AnnulusAnswer.{WeightedPair, pair_sum}
 use Rattle.bounds_model.specs.DistanceAnswer.{DistanceAnswer, weights_of, difference, pull, first_product, PassesDistance}
 use Rattle.model_laws.proofs.SizeDenominators.{distance_denominator}
 use Rattle.optimality.specs.Laws.{PassingDistancesAreBest}
-use Rattle.optimality.proofs.Bounds.{nonneg_from_one}
 use Rattle.optimality.proofs.PrintedSizes.{smallest_by_printed}
 use Rattle.optimality.proofs.PairWeights.{same_point, weighted_of_pairs, total_of_pairs, length-at_numbers, weights_nonneg}
 

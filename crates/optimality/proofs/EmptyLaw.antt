@@ -4,7 +4,7 @@ use Rattle.std.specs.Prelude.{slice_index_or}
 use Rattle.std.proofs.lemmas.Int.{ints, by_lt_z}
 use Rattle.std.specs.Int.Signed.{≤ℤ_refl, <ℤ-≤ℤ_trans}
 use Rattle.integers.proofs.Identities.{den-ring, read, polys, lits}
-use Rattle.integers.proofs.Order.{nonneg_mul, nonneg_add, square_nonneg, positive_from_one, le_by, lt_of_mul_lt, mul_le_both, nonneg_difference}
+use Rattle.integers.proofs.Order.{nonneg_mul, nonneg_add, square_nonneg, positive_from_one, le_by, lt_of_mul_lt, mul_le_both, nonneg_difference, nonneg_from_one, le_from_lt, le_lt_trans_ℤ}
 use Rattle.bounds_model.specs.Plane.{PlanePoint, times}
 use Rattle.bounds_model.specs.Fractions.{Fraction, IsAtMost}
 use Rattle.bounds_model.specs.EmptyRectangle.{Box, EmptyRectangle, IsStrictlyInside, FitsEmpty, area, empty_size}
@@ -12,7 +12,7 @@ use Rattle.bounds_model.specs.EmptyAnswer.{EmptyAnswer, EachY, EachX, IsEmpty, I
 use Rattle.model_laws.proofs.DecideEmpty.{strictly_inside}
 use Rattle.model_laws.proofs.SizeDenominators.{empty_denominator}
 use Rattle.optimality.specs.Laws.{PassingEmptyRectanglesAreBest}
-use Rattle.optimality.proofs.Bounds.{nonneg_from_one, le_from_lt, le_lt_trans_ℤ, not_above, one-times}
+use Rattle.optimality.proofs.Bounds.{not_above, one-times}
 use Rattle.optimality.proofs.PrintedSizes.{greatest_by_printed}
 use Rattle.optimality.proofs.ClosestValues.{ClosestBelow, ClosestAbove, closest_below, closest_above, value_has}
 

@@ -3,9 +3,10 @@ use Rattle.std.proofs.Common.{◌≡◌, sym, subst, ℕ, zero, suc, ◌+◌, �
 use Rattle.std.proofs.lemmas.Int.{ints, by_lt_z}
 use Rattle.std.proofs.lemmas.List.{length-map, length-append}
 use Rattle.std.proofs.Math.IntN.{neg_ℤ-neg_ℤ}
+use Rattle.integers.proofs.Order.{le_from_lt}
 use Rattle.bounds_model.specs.Plane.{PlanePoint, point_at, cross, quarter_turn}
 use Rattle.bounds_model.specs.Fans.{HalfFan, QuarterFan, half_directions, quarter_directions, TurnLeft, HoldsHalf, HoldsQuarter, east, north, west}
-use Rattle.optimality.proofs.Bounds.{le_from_lt, by_sign}
+use Rattle.optimality.proofs.Bounds.{by_sign}
 
 -- ---- a cone around a direction
 

@@ -6,13 +6,12 @@ use Rattle.std.proofs.lemmas.Int.{ints}
 use Rattle.std.proofs.lemmas.List.{length-map}
 use Rattle.std.proofs.lemmas.List.Elements.{All-head, All-tail}
 use Rattle.integers.proofs.Identities.{den-ring, read, polys}
-use Rattle.integers.proofs.Order.{nonneg_mul, nonneg_add, le_by, nonneg_difference}
+use Rattle.integers.proofs.Order.{nonneg_mul, nonneg_add, le_by, nonneg_difference, nonneg_from_one}
 use Rattle.bounds_model.specs.Plane.{PlanePoint, point_at, turn}
 use Rattle.bounds_model.specs.Kgon.{FitsKgon, triangulated_area, twice_area, kgon_size}
 use Rattle.bounds_model.specs.KgonAnswer.{KgonAnswer, corner_points, potential, PassesKgon}
 use Rattle.model_laws.proofs.CornerLaw.{passing_kgon}
 use Rattle.optimality.specs.Laws.{PassingKgonsAreBest}
-use Rattle.optimality.proofs.Bounds.{nonneg_from_one}
 use Rattle.optimality.proofs.PrintedSizes.{greatest_by_printed}
 
 -- ---- potentials are at most twice the size

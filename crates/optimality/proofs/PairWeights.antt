@@ -5,14 +5,13 @@ use Rattle.std.proofs.lemmas.Int.{ints}
 use Rattle.std.proofs.lemmas.Bool.Decides.{Decides-eqb, nat_tests}
 use Rattle.std.proofs.lemmas.List.Elements.{All-cons, All-nil, All-head, All-tail}
 use Rattle.integers.proofs.Identities.{den-ring, read, polys, lits}
-use Rattle.integers.proofs.Order.{combine1, combine2}
+use Rattle.integers.proofs.Order.{combine1, combine2, nonneg_from_one}
 use Rattle.integers.proofs.Sums.{total_nonneg_all}
 use Rattle.integers.specs.Total.{total}
 use Rattle.bounds_model.specs.Space.{SpacePoint, origin, point_at, plus, times, weighted_sum}
 use Rattle.bounds_model.specs.Distance.{weighted}
 use Rattle.bounds_model.specs.AnnulusAnswer.{WeightedPair, pair_sum}
 use Rattle.bounds_model.specs.DistanceAnswer.{weight_of, at_numbers}
-use Rattle.optimality.proofs.Bounds.{nonneg_from_one}
 
 -- which of its two points a pair names
 abbrev pub Name : Type 0

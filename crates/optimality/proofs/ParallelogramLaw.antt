@@ -5,7 +5,8 @@ use Rattle.std.proofs.lemmas.Int.{by_lt_z}
 use Rattle.std.specs.Int.Signed.{≤ℤ_refl}
 use Rattle.std.proofs.lemmas.Option.{slice_get-get_or}
 use Rattle.integers.proofs.Identities.{den-ring, read, polys}
-use Rattle.integers.proofs.Order.{nonneg_mul, nonneg_add, positive_from_one, le_by, le_of_mul_le, nonneg_difference, combine2}
+use Rattle.integers.proofs.Order.{nonneg_mul, nonneg_add, positive_from_one, le_by, le_of_mul_le, nonneg_difference, combine2, nonneg_from_one, le_from_lt, nonneg_neg}
+use Rattle.integers.proofs.Magnitudes.{by_magnitude}
 use Rattle.bounds_model.specs.Plane.{PlanePoint, origin, point_at, vector, dot, cross}
 use Rattle.bounds_model.specs.Fractions.{IsAtMost}
 use Rattle.bounds_model.specs.Strip.{extent}
@@ -14,7 +15,6 @@ use Rattle.bounds_model.specs.Fans.{HalfCone, half_directions, reach}
 use Rattle.bounds_model.specs.ParallelogramAnswer.{Chord, ParallelogramAnswer, parallelogram_of, PassesParallelogram, IsAcross, IsNotSmaller, IsNotSmallerAt}
 use Rattle.model_laws.proofs.SizeDenominators.{parallelogram_denominator}
 use Rattle.optimality.specs.Laws.{PassingParallelogramsAreBest}
-use Rattle.optimality.proofs.Bounds.{nonneg_from_one, le_from_lt, nonneg_neg, by_magnitude}
 use Rattle.optimality.proofs.PrintedSizes.{smallest_by_printed}
 use Rattle.optimality.proofs.FanCones.{IsBetween, half_cone_around, length-directions, up_to_sign, opposite}
 use Rattle.optimality.proofs.Reaches.{dot_between, reach_nonneg, reach-opposite, reach_in_span, span_in_order, inside_over_one}

@@ -2,12 +2,12 @@
 use Rattle.std.proofs.Common.{◌≡◌, subst, ℕ, ◌<◌, ℤ, pos, ◌+ℤ◌, ◌-ℤ◌, ◌*ℤ◌, neg_ℤ, ◌≤ℤ◌, ◌<ℤ◌, List, [], ◌∷◌, length}
 use Rattle.std.specs.Prelude.{All, slice_index_or}
 use Rattle.integers.proofs.Identities.{den-ring, read, polys, lits}
-use Rattle.integers.proofs.Order.{nonneg_mul, nonneg_add, positive_mul, square_nonneg, le_by, le_of_mul_le, mul_le_both, nonneg_difference, le_trans_ℤ}
+use Rattle.integers.proofs.Order.{nonneg_mul, nonneg_add, positive_mul, square_nonneg, le_by, le_of_mul_le, mul_le_both, nonneg_difference, le_trans_ℤ, nonneg_neg}
 use Rattle.integers.proofs.Cone.{cone}
 use Rattle.bounds_model.specs.Plane.{PlanePoint, origin, point_at, dot, cross, squared_length}
 use Rattle.bounds_model.specs.Strip.{Span, IsInSpan, extent}
 use Rattle.bounds_model.specs.Fans.{AreExtreme, reach}
-use Rattle.optimality.proofs.Bounds.{nonneg_neg, one-times}
+use Rattle.optimality.proofs.Bounds.{one-times}
 use Rattle.optimality.proofs.FanCones.{IsBetween, opposite}
 
 -- ---- between two directions: |d e| u = |u e| d + |d u| e, where |d e| is the cross product

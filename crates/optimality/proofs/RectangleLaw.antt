@@ -3,7 +3,7 @@ use Rattle.std.proofs.Common.{◌≡◌, sym, subst, ℕ, ◌+◌, ◌<◌, ℤ,
 use Rattle.std.specs.Prelude.{slice_index_or}
 use Rattle.std.specs.Int.Signed.{≤ℤ_refl}
 use Rattle.integers.proofs.Identities.{den-ring, read, polys}
-use Rattle.integers.proofs.Order.{le_by, nonneg_difference}
+use Rattle.integers.proofs.Order.{le_by, nonneg_difference, nonneg_from_one}
 use Rattle.bounds_model.specs.Plane.{PlanePoint, origin, point_at, vector, dot, squared_length, quarter_turn}
 use Rattle.bounds_model.specs.Fractions.{Fraction, IsAtMost}
 use Rattle.bounds_model.specs.Strip.{extent}
@@ -12,7 +12,6 @@ use Rattle.bounds_model.specs.Fans.{QuarterCone, quarter_directions, reach}
 use Rattle.bounds_model.specs.RectangleAnswer.{RectangleAnswer, rectangle_of, PassesRectangle}
 use Rattle.model_laws.proofs.SizeDenominators.{rectangle_denominator}
 use Rattle.optimality.specs.Laws.{PassingRectanglesAreBest}
-use Rattle.optimality.proofs.Bounds.{nonneg_from_one}
 use Rattle.optimality.proofs.PrintedSizes.{smallest_by_printed}
 use Rattle.optimality.proofs.FanCones.{quarter_cone_around, up_to_quarter_turns, turned_right}
 use Rattle.optimality.proofs.Reaches.{dot_between, product_between, reach_nonneg, reach-opposite, reach_in_span, span_in_order, inside_over_one, extents_at_least}

@@ -3,7 +3,7 @@ use Rattle.std.proofs.Common.{subst, ℕ, ◌+◌, ◌<◌, ℤ, pos, ◌+ℤ◌
 use Rattle.std.specs.Prelude.{slice_index_or}
 use Rattle.std.specs.Int.Signed.{≤ℤ_refl}
 use Rattle.integers.proofs.Identities.{den-ring, read, polys}
-use Rattle.integers.proofs.Order.{le_by, nonneg_difference}
+use Rattle.integers.proofs.Order.{le_by, nonneg_difference, nonneg_from_one}
 use Rattle.bounds_model.specs.Plane.{PlanePoint, origin, point_at, vector, squared_length}
 use Rattle.bounds_model.specs.Fractions.{Fraction, IsAtMost}
 use Rattle.bounds_model.specs.Strip.{Strip, FitsStrip, strip_size, extent}
@@ -11,7 +11,6 @@ use Rattle.bounds_model.specs.Fans.{HalfCone, half_directions, reach}
 use Rattle.bounds_model.specs.StripAnswer.{StripAnswer, strip_of, PassesStrip}
 use Rattle.model_laws.proofs.SizeDenominators.{strip_denominator}
 use Rattle.optimality.specs.Laws.{PassingStripsAreBest}
-use Rattle.optimality.proofs.Bounds.{nonneg_from_one}
 use Rattle.optimality.proofs.PrintedSizes.{smallest_by_printed}
 use Rattle.optimality.proofs.FanCones.{half_cone_around, up_to_sign, opposite}
 use Rattle.optimality.proofs.Reaches.{dot_between, product_between, reach_nonneg, reach-opposite, reach_in_span, span_in_order, inside_over_one, extents_at_least}

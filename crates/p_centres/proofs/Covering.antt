@@ -177,10 +177,3 @@ nodes_are (suc depth) some = ap (λ d. 1 + 4 * nodes d) one_less
 pub some_nodes : (depth : ℕ) → 1 ≤ nodes depth
 some_nodes zero = omega arith
 some_nodes (suc depth) = omega arith
-
--- what a push added, a pop takes away
-pub popped : {X : Type 0} (old pushed kept now : List X) (x : X) → pushed ≡ old ++ x ∷ [] → kept ≡ pushed → now ≡ take (length kept - 1) kept → now ≡ old
-popped old pushed kept now x is same rest = rest ∙ ap (λ xs. take (length xs - 1) xs) (same ∙ is) ∙ take_at old (x ∷ []) (length (old ++ x ∷ []) - 1) (one_less (length old) (length (old ++ x ∷ [])) (length_push old x))
-  where
-    one_less : (m n : ℕ) → n ≡ m + 1 → m ≡ n - 1
-    one_less m n e = omega (arith, e)

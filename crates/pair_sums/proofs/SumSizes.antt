@@ -3,23 +3,16 @@ use Rattle.std.proofs.Common.{◌≡◌, sym, subst, ◌∙◌, ap, ℕ, ◌+◌
 use Rattle.std.proofs.lemmas.Int.{unsigned_abs-mul}
 use Rattle.std.proofs.Math.Nat.{pos_of_ne-zero}
 use Rattle.integers.specs.Size.{Size}
-use Rattle.integers.proofs.Sizes.{size_add, size_mul, size_unsigned}
+use Rattle.integers.proofs.Sizes.{size_add, size_mul, size_unsigned, size_more_weight}
 use Rattle.bounds_model.specs.Space.{SpacePoint, plus, times}
 use Rattle.kernel_laws.specs.Limits.{IsVectorWithin}
-
-distributes : (t w r : ℕ) → t * r + w * r ≡ (t + w) * r
-distributes t w r = omega arith
-
--- a coordinate of a weighted sum, with one point more
-more_weight : (t w r : ℕ) {a x : ℤ} → Size (t * r) a → Size r x → Size ((t + w) * r) (a +ℤ pos w *ℤ x)
-more_weight t w r {a} {x} h k = subst (λ n. Size n (a +ℤ pos w *ℤ x)) (distributes t w r) (size_add h (size_mul (size_unsigned w (le_refl w)) k))
 
 -- a weighted sum with one point more is within its range
 pub more_within : (t w r : ℕ) (old p new : SpacePoint) → IsVectorWithin (t * r) old → IsVectorWithin r p → new ≡ plus old (times (pos w) p) → IsVectorWithin ((t + w) * r) new
 more_within t w r old p new h k is = record {
-  x = subst (Size ((t + w) * r)) (sym (ap (λ v. v.x) is)) (more_weight t w r h.x k.x);
-  y = subst (Size ((t + w) * r)) (sym (ap (λ v. v.y) is)) (more_weight t w r h.y k.y);
-  z = subst (Size ((t + w) * r)) (sym (ap (λ v. v.z) is)) (more_weight t w r h.z k.z);
+  x = subst (Size ((t + w) * r)) (sym (ap (λ v. v.x) is)) (size_more_weight t w r h.x k.x);
+  y = subst (Size ((t + w) * r)) (sym (ap (λ v. v.y) is)) (size_more_weight t w r h.y k.y);
+  z = subst (Size ((t + w) * r)) (sym (ap (λ v. v.z) is)) (size_more_weight t w r h.z k.z);
 }
 
 -- a sum over weights within their limit

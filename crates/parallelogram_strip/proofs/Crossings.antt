@@ -3,7 +3,7 @@ use Rattle.std.proofs.Common.{◌≡◌, sym, ◌∙◌, ap, subst, ℕ, ◌+◌
 use Rattle.std.proofs.Math.Nat.{eq-or-lt_of_le}
 use Rattle.std.proofs.lemmas.Int.{ints}
 use Rattle.integers.proofs.Identities.{den-ring, read, polys}
-use Rattle.integers.proofs.Order.{nonneg_from_positive, combine2}
+use Rattle.integers.proofs.Order.{le_from_lt, combine2}
 use Rattle.bounds_model.specs.Plane.{PlanePoint, point_at, vector, dot, cross, turn, plus, times, quarter_turn}
 use Rattle.bounds_model.specs.Fans.{HalfCone, reach}
 use Rattle.bounds_model.specs.ParallelogramAnswer.{Chord, IsAcross}
@@ -36,8 +36,8 @@ ahead_at_next {points} {m} {at} h j i l n o ahead =
           dot_between (at j).direction (at i).direction (at (j + 1)).direction (vector (point_at points (at i).low) (point_at points (at i).high))
           (record {
             turns = h.left j i (omega arith) (omega arith) o;
-            left = nonneg_from_positive (h.left j (j + 1) (omega arith) (omega arith) (omega arith));
-            right = nonneg_from_positive (h.left (j + 1) i l p (omega arith));
+            left = le_from_lt (h.left j (j + 1) (omega arith) (omega arith) (omega arith));
+            right = le_from_lt (h.left (j + 1) i l p (omega arith));
           })
           ahead
           (reach_nonneg points (at i).direction (at i).high (at i).low (h.named i (omega arith)).1 (h.begins i (omega arith)))

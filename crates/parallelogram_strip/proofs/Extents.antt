@@ -2,7 +2,8 @@
 use Rattle.std.proofs.Common.{◌≡◌, refl, sym, ◌∙◌, ap, ap₂, ℕ, ◌+◌, ◌*◌, ◌<◌, ◌⊎◌, inl, inr, ℤ, pos, nat_abs, ◌+ℤ◌, ◌-ℤ◌, ◌*ℤ◌, neg_ℤ, ◌≤ℤ◌, ◌<ℤ◌, List, [], ◌∷◌, length, arith}
 use Rattle.std.proofs.lemmas.Int.{ints, unsigned_abs-mul}
 use Rattle.integers.proofs.Identities.{den-ring, read, polys}
-use Rattle.integers.proofs.Order.{nonneg_mul, positive_mul, same_of_mul, combine2, nonneg_from_positive, positive_from_one}
+use Rattle.integers.proofs.Order.{nonneg_mul, positive_mul, same_of_mul, combine2, le_from_lt, positive_from_one}
+use Rattle.integers.proofs.Magnitudes.{magnitude_is}
 use Rattle.bounds_model.specs.Plane.{PlanePoint, point_at, dot, cross}
 use Rattle.bounds_model.specs.Fans.{HalfFan, HalfCone, AreExtreme, reach}
 use Rattle.bounds_model.specs.ParallelogramAnswer as answers
@@ -10,7 +11,6 @@ use Rattle.parallelogram_strip.specs.FullTurn.{cone_at}
 use Rattle.parallelogram_strip.specs.Crossings.{reach_of, weight_of, Joins, IsChord, IsCrossing}
 use Rattle.parallelogram_strip.specs.declared.crossing.Crossing.{Crossing}
 use Rattle.answers.specs.Answers.{chord_of}
-use Rattle.directions.proofs.Signs.{magnitude_is}
 use Rattle.parallelogram_strip.proofs.FullTurn.{IsFullTurn, magnitude_back}
 use Rattle.directions.proofs.Reading.{reach_parts}
 use Rattle.directions.proofs.Reaches.{reach_turned, lowest_same, reach_same}
@@ -59,7 +59,7 @@ crossing_extent points fan c turn h forward =
     let m : c.near + 1 < length fan.cones + length fan.cones = omega (arith, h.near.before, h.listed) in
     let e = (cone_at fan (c.near + 1)).direction in
     magnitudes (weight_of c) (reach_of points e (cone_at fan (c.near + 1))) c.chord.k (cross (cone_at fan c.direction).direction e)
-    (nonneg_from_positive (positive_from_one h.chord.short.some)) forward
+    (le_from_lt (positive_from_one h.chord.short.some)) forward
     (extent_signed points (cone_at fan c.direction).direction e (cone_at fan c.near) (cone_at fan (c.near + 1)) (chord_of c.chord) h.chord h.joins
     (turn.named c.near n).0 (turn.named c.near n).1 (turn.named (c.near + 1) m).0 (turn.named (c.near + 1) m).1 (turn.ends c.near m) (turn.begins (c.near + 1) m))
 

@@ -7,7 +7,7 @@ use Rattle.std.proofs.lemmas.Bool.{cases_lt}
 use Rattle.std.proofs.lemmas.List.{length-map, length-append, get_or-map, get_or_append_left, get_or-append_right}
 use Rattle.std.proofs.lemmas.List.Elements.{All-cons, All-nil}
 use Rattle.integers.proofs.Identities.{den-ring, read, polys, lits}
-use Rattle.integers.proofs.Order.{lt_by, nonneg_from_positive}
+use Rattle.integers.proofs.Order.{lt_by, le_from_lt}
 use Rattle.bounds_model.specs.Numbers.{IsWithin}
 use Rattle.bounds_model.specs.Plane.{PlanePoint, origin, point_at, cross}
 use Rattle.bounds_model.specs.Fractions.{HaveNoCommonFactor}
@@ -135,7 +135,7 @@ upwards points fan h i some l =
 -- and none of them points downwards
 not_downwards : (points : List PlanePoint) (fan : HalfFan) → IsPlainFan points fan → (i : ℕ) → i < length fan.cones → pos 0 ≤ℤ (cone_at fan i).direction.y
 not_downwards points fan h zero l = subst (λ (d : PlanePoint). pos 0 ≤ℤ d.y) (sym (first_is_east points fan h l)) (omega (arith, ints))
-not_downwards points fan h (suc i) l = nonneg_from_positive (upwards points fan h (suc i) (omega arith) l)
+not_downwards points fan h (suc i) l = le_from_lt (upwards points fan h (suc i) (omega arith) l)
 
 -- each direction is to the left of those less than half a turn before it
 left_around : (points : List PlanePoint) (fan : HalfFan) → IsPlainFan points fan → (i k : ℕ) → i < length fan.cones → i < k → k < i + length fan.cones → pos 0 <ℤ cross (cone_at fan i).direction (cone_at fan k).direction

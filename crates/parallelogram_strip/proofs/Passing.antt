@@ -5,7 +5,7 @@ use Rattle.std.proofs.lemmas.Int.{ints}
 use Rattle.std.proofs.lemmas.List.{length-map, get_or-map}
 use Rattle.std.proofs.lemmas.Option.{slice_get-get_or, get_or_from_slice_get}
 use Rattle.integers.proofs.Identities.{den-ring, read, polys}
-use Rattle.integers.proofs.Order.{nonneg_from_positive, positive_from_one}
+use Rattle.integers.proofs.Order.{le_from_lt, positive_from_one}
 use Rattle.integers.proofs.Fractions.{fraction_equal}
 use Rattle.bounds_model.specs.Numbers.{AllNumbered}
 use Rattle.bounds_model.specs.Plane.{PlanePoint, point_at, cross}
@@ -183,7 +183,7 @@ best_passes points fan best chords size s t limited h wide count is_best served 
     let d = (cone_at fan j).direction in
     let e = (cone_at fan n).direction in
     let forward = wide_around points fan wide n next in
-    let extent = crossing_extent points fan best turn is_best (nonneg_from_positive forward) in
+    let extent = crossing_extent points fan best turn is_best (le_from_lt forward) in
     let some = positive_from_one is_best.chord.short.some in
     answer_passes points fan size d e s t (cone_at fan j).high (cone_at fan j).low (cone_at fan n).high (cone_at fan n).low (map chord_of chords)
     limited h fraction (length-map chords chord_of ∙ count)

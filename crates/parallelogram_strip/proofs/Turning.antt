@@ -2,9 +2,8 @@
 use Rattle.std.proofs.Common.{◌≡◌, subst, ℕ, zero, suc, ◌<◌, ◌≤◌, inl, inr, ℤ, pos, ◌+ℤ◌, ◌-ℤ◌, ◌*ℤ◌, ◌≤ℤ◌, ◌<ℤ◌, [], ◌∷◌, arith}
 use Rattle.std.proofs.Math.Nat.{eq-or-lt_of_le}
 use Rattle.integers.proofs.Identities.{den-ring, read, polys, lits}
-use Rattle.integers.proofs.Order.{nonneg_mul, nonneg_add, positive_mul, positive_add, lt_by, le_by, le_of_mul_le, nonneg_from_positive}
+use Rattle.integers.proofs.Order.{nonneg_mul, nonneg_add, positive_mul, positive_add, lt_by, le_by, le_of_mul_le, le_from_lt, positive_of_mul}
 use Rattle.bounds_model.specs.Plane.{PlanePoint, cross, dot}
-use Rattle.directions.proofs.Signs.{positive_of_mul}
 
 -- of three directions, each to the left of the one before, the last is to the left of the first
 pub turn_trans : (a b c : PlanePoint) → pos 0 ≤ℤ a.y → pos 0 <ℤ b.y → pos 0 <ℤ c.y → pos 0 <ℤ cross a b → pos 0 <ℤ cross b c → pos 0 <ℤ cross a c
@@ -12,8 +11,8 @@ turn_trans a b c up_a up_b up_c ab bc = plain a.x a.y b.x b.y c.x c.y up_a up_b 
   where
     plain : (ax ay bx by cx cy : ℤ) → pos 0 ≤ℤ ay → pos 0 <ℤ by → pos 0 <ℤ cy → pos 0 <ℤ (ax *ℤ by -ℤ ay *ℤ bx) → pos 0 <ℤ (bx *ℤ cy -ℤ by *ℤ cx) → pos 0 <ℤ (ax *ℤ cy -ℤ ay *ℤ cx)
     plain ax ay bx by cx cy up_a up_b up_c ab bc =
-        positive_of_mul by (nonneg_from_positive up_b)
-        (lt_by (positive_add (positive_mul up_c ab) (nonneg_mul up_a (nonneg_from_positive bc)))
+        positive_of_mul by (le_from_lt up_b)
+        (lt_by (positive_add (positive_mul up_c ab) (nonneg_mul up_a (le_from_lt bc)))
         (read (ax ∷ ay ∷ bx ∷ by ∷ cx ∷ cy ∷ []) (λ xs a b c d e f. simp (a, b, c, d, e, f, polys, lits xs) (den-ring xs _ _ tt))))
 
 -- directions of which each is to the left of the one before: each is to the left of all before it

@@ -94,7 +94,3 @@ machine_sum h k = with_inputs (given h ∷ given k ∷ []) (λ xs s a b. simp (a
 
 pub machine_sum_of : {u t : ℤ} → Size (2 ^ 43) u → Size (2 ^ 39) t → to_z w64 (of_z w64 (to_z w64 (of_z w64 u) +ℤ to_z w64 (of_z w64 t))) ≡ u +ℤ t
 machine_sum_of h k = with_inputs (given h ∷ given k ∷ []) (λ xs s a b. simp (a, b, codes) (computes xs s _ _ tt tt))
-
--- a number of 64 bits stays the same
-pub kept64 : {z : ℤ} → mag z < 2 ^ 63 → to_z w64 (of_z w64 z) ≡ z
-kept64 {z} h = to_z-of_z {w = w64} {z = z} (record { sfits = h })

@@ -3,8 +3,9 @@ use Rattle.std.proofs.Common.{◌≡◌, sym, subst, ◌∙◌, ◌⊎◌, inl, 
 use Rattle.std.specs.Int.{int_max}
 use Rattle.std.proofs.lemmas.Int.{ints}
 use Rattle.integers.proofs.MaxMin.{left-le-max, right-le-max, pick_max}
+use Rattle.integers.proofs.Lists.{below_or_at}
+use Rattle.integers.proofs.Order.{le_trans_ℤ}
 use Rattle.bounds_model.specs.Numbers.{EachBelow}
-use Rattle.polygon_check.proofs.HullReads.{below_or_at}
 
 -- the greatest of a number and of the first sums
 pub record IsGreatest (sum : ℕ → ℤ) (most : ℤ) (j : ℕ) (greatest : ℤ) : Type 0 where
@@ -12,15 +13,12 @@ pub record IsGreatest (sum : ℕ → ℤ) (most : ℤ) (j : ℕ) (greatest : ℤ
   pub each : EachBelow j (λ k. sum k ≤ℤ greatest)
   pub one : (greatest ≡ most) ⊎ ((k : ℕ) × (k < j) × (greatest ≡ sum k))
 
-trans : {s t r : ℤ} → s ≤ℤ t → t ≤ℤ r → s ≤ℤ r
-trans h k = omega (arith, ints)
-
 -- the greatest of one sum more
 pub greatest-more : (sum : ℕ → ℤ) (most : ℤ) (j : ℕ) (u v r : ℤ) → IsGreatest sum most j u → r ≡ int_max u v → v ≡ sum j → IsGreatest sum most (j + 1) r
 greatest-more sum most j u v r h is here = subst (IsGreatest sum most (j + 1)) (sym is) (record {
-  above = trans h.above (left-le-max u v);
+  above = le_trans_ℤ h.above (left-le-max u v);
   each = λ k low. elim (below_or_at k j low) [
-    | inl less ↦ trans (h.each k less) (left-le-max u v)
+    | inl less ↦ le_trans_ℤ (h.each k less) (left-le-max u v)
     | inr same ↦ subst (λ n. sum n ≤ℤ int_max u v) (sym same) (subst (λ z. z ≤ℤ int_max u v) here (right-le-max u v))
   ];
   one = elim (pick_max u v) [

@@ -5,14 +5,11 @@ use Rattle.std.proofs.Math.Nat.{mod-eq_of_lt}
 use Rattle.std.proofs.lemmas.List.{get_or-map, length-map}
 use Rattle.std.proofs.lemmas.List.Elements.{Contains-get_or}
 use Rattle.integers.proofs.Identities.{den-ring, read, polys}
+use Rattle.integers.proofs.Lists.{below_or_at}
 use Rattle.bounds_model.specs.Plane.{PlanePoint, point_at, origin, vector, cross, turn, IsBefore, IsLeastPoint}
 use Rattle.bounds_model.specs.Hull.{around}
 use Rattle.bounds_model.specs.CornerTest.{CornersPass, FirstIsOnce, SurroundAll}
 use Rattle.polygon_check.specs.HullTests.{IsEdgeAt}
-
--- a number below the next one of i is below i, or i
-pub below_or_at : (k i : ℕ) → k < i + 1 → (k < i) ⊎ (k ≡ i)
-below_or_at k i h = grind arith
 
 -- the corner at a position is the point of the number there
 pub numbered_corner : (points : List PlanePoint) (numbers : List ℕ) (i : ℕ) → i < length numbers → point_at (map (point_at points) numbers) i ≡ point_at points (slice_index_or numbers i 0)

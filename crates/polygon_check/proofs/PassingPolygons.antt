@@ -6,7 +6,7 @@ use Rattle.std.proofs.lemmas.Int.{ints}
 use Rattle.std.proofs.lemmas.List.{length-map}
 use Rattle.std.proofs.lemmas.List.Elements.{All-weaker, All-map}
 use Rattle.integers.proofs.Lists.{All-unmap}
-use Rattle.integers.proofs.Order.{mul_le_left, le_of_mul_le, nonneg_from_positive, positive_from_one}
+use Rattle.integers.proofs.Order.{mul_le_left, le_of_mul_le, le_from_lt, positive_from_one}
 use Rattle.bounds_model.specs.Plane.{PlanePoint, point_at}
 use Rattle.bounds_model.specs.Fractions.{Fraction, SameValue}
 use Rattle.bounds_model.specs.Ranges.{IsFraction, IsNatural, point_limit}
@@ -103,7 +103,7 @@ under_area {area} us size some e all =
 pub under_size : {area : ℤ} (us : List ℕ) (size : Fraction) → pos 1 ≤ℤ size.d → size.n *ℤ pos 2 ≡ area *ℤ size.d → All (λ u. pos u ≤ℤ area) us → All (λ u. (u *ℤ size.d) ≤ℤ (pos 2 *ℤ size.n)) (map pos us)
 under_size {area} us size some e all =
     All-map (λ u. (u *ℤ size.d) ≤ℤ (pos 2 *ℤ size.n)) pos us (All-weaker (λ u. pos u ≤ℤ area) (λ u. (pos u *ℤ size.d) ≤ℤ (pos 2 *ℤ size.n))
-    (λ u h. subst (λ z. (pos u *ℤ size.d) ≤ℤ z) (sym (over_denominator size.n size.d area e)) (subst (λ z. z ≤ℤ (size.d *ℤ area)) (*ℤ_comm size.d (pos u)) (mul_le_left size.d (nonneg_from_positive (positive_from_one some)) h)))
+    (λ u h. subst (λ z. (pos u *ℤ size.d) ≤ℤ z) (sym (over_denominator size.n size.d area e)) (subst (λ z. z ≤ℤ (size.d *ℤ area)) (*ℤ_comm size.d (pos u)) (mul_le_left size.d (le_from_lt (positive_from_one some)) h)))
     us all)
 
 -- numbers that are at most the area are small, and in their ranges

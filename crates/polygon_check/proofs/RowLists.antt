@@ -5,11 +5,11 @@ use Rattle.std.proofs.lemmas.List.{get_or_append_left, get_or_push, length_push}
 use Rattle.std.proofs.lemmas.List.Elements.{All-nil, All-push, All-same}
 use native.Mathlib.Nat.{mul-le-mul_right}
 use Rattle.integers.specs.Size.{Size}
+use Rattle.integers.proofs.Lists.{below_or_at}
 use Rattle.bounds_model.specs.Plane.{PlanePoint, point_at, turn}
 use Rattle.bounds_model.specs.KgonAnswer.{KgonAnswer, potential, pairs_before}
 use Rattle.polygon_check.specs.PolygonLimits.{RaisesTo}
 use Rattle.polygon_check.specs.PotentialRows.{at, Adds, AreRows, AreAreas, AreRaised}
-use Rattle.polygon_check.proofs.HullReads.{below_or_at}
 
 -- one number more
 pub adds-more : (size : ℕ) (value : ℕ → ℤ) (j : ℕ) (old new pushed : List ℤ) (u : ℤ) → Adds size value j old new → pushed ≡ new ++ u ∷ [] → u ≡ value j → Size size u → Adds size value (j + 1) old pushed

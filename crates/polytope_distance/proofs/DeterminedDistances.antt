@@ -5,22 +5,18 @@ use Rattle.std.proofs.lemmas.Int.{ints}
 use Rattle.std.proofs.lemmas.List.Elements.{All-map}
 use Rattle.std.proofs.lemmas.Option.{slice_get-get_or, get_or_from_slice_get}
 use Rattle.integers.proofs.Sums.{total-map}
+use Rattle.integers.proofs.Lists.{All-unmap, any_default}
 use Rattle.bounds_model.specs.Space.{SpacePoint, point_at, vector, plus, times, dot, squared_length, weighted_sum, origin}
 use Rattle.bounds_model.specs.AnnulusAnswer.{WeightedPair, pair_sum}
 use Rattle.bounds_model.specs.DistanceAnswer.{difference, pull, first_product}
 use Rattle.bounds_model.specs.Slacks.{WeightedVector, mass, moment, slack, IsLow}
 use Rattle.corral.specs.declared.support.WeightedItem.{WeightedItem}
 use Rattle.corral.specs.Supports.{AreSupports}
-use Rattle.corral.proofs.Mapped.{all_unmap}
 use Rattle.corral.proofs.Moments.{at_least_common}
 use Rattle.pair_sums.proofs.Products.{dot-comm}
 use Rattle.polytope_distance.specs.Supports.{weighted_pair}
 
 -- ---- lists
-
--- an element that is there is the same with any other in its stead
-any_default : {X : Type 0} (xs : List X) (k : ℕ) (d e : X) → k < length xs → get_or xs k e ≡ get_or xs k d
-any_default xs k d e l = get_or_from_slice_get xs k (get_or xs k d) e (slice_get-get_or xs k d l)
 
 weighted_sum-map : {X Y : Type 0} (weight : Y → ℤ) (at : Y → SpacePoint) (f : X → Y) (xs : List X) → weighted_sum weight at (map f xs) ≡ weighted_sum (λ x. weight (f x)) (λ x. at (f x)) xs
 weighted_sum-map weight at f [] = refl
@@ -73,7 +69,7 @@ same_products_of ps qs (first ∷ rest) h =
     let members = first ∷ rest in
     let pairs = map weighted_pair members in
     let weighted = map (weighted_difference ps qs) members in
-    let equal = all_unmap (λ (a : WeightedVector). All (λ b. slack (pos 0) weighted a.vector ≡ slack (pos 0) weighted b.vector) weighted) (weighted_difference ps qs) members h.equal in
+    let equal = All-unmap (λ (a : WeightedVector). All (λ b. slack (pos 0) weighted a.vector ≡ slack (pos 0) weighted b.vector) weighted) (weighted_difference ps qs) members h.equal in
     All-map (λ (pair : WeightedPair). dot (pull ps qs pairs) (difference ps qs pair) ≡ first_product ps qs pairs) weighted_pair members (λ k d l.
     let s = get_or members k d in
     subst (λ m. dot m (difference ps qs (weighted_pair s)) ≡ dot m (difference ps qs (weighted_pair first))) (moment_is ps qs members)
@@ -101,7 +97,7 @@ pub determined_by_supports : (ps qs : List SpacePoint) (members : List WeightedI
     → ((i j : ℕ) → i < length ps → j < length qs → ¬ IsLow (pos 0) (map (weighted_difference ps qs) members) (vector (point_at qs j) (point_at ps i)))
     → DetermineDistance ps qs (map weighted_pair members)
 determined_by_supports ps qs members h none_low = record {
-  weights = All-map (λ (pair : WeightedPair). pos 1 ≤ℤ pair.weight) weighted_pair members (all_unmap (λ (s : WeightedVector). pos 1 ≤ℤ s.weight) (weighted_difference ps qs) members h.weights);
+  weights = All-map (λ (pair : WeightedPair). pos 1 ≤ℤ pair.weight) weighted_pair members (All-unmap (λ (s : WeightedVector). pos 1 ≤ℤ s.weight) (weighted_difference ps qs) members h.weights);
   same_products = same_products_of ps qs members h;
   no_smaller = no_smaller_of ps qs members h none_low;
 }

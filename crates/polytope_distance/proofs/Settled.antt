@@ -3,6 +3,7 @@ use Rattle.std.proofs.Common.{◌≡◌, subst, ap, ◌<◌, ◌^◌, pos, ◌�
 use Rattle.std.specs.Prelude.{All, slice_get, Some, IsSomeAnd}
 use Rattle.std.proofs.lemmas.List.{length-map, map-id}
 use Rattle.std.proofs.lemmas.List.Elements.{All-map}
+use Rattle.integers.proofs.Lists.{All-unmap}
 use Rattle.bounds_model.specs.Space.{SpacePoint, point_at}
 use Rattle.bounds_model.specs.AnnulusAnswer.{WeightedPair, pair_sum}
 use Rattle.bounds_model.specs.Slacks.{WeightedVector, mass, IsLow}
@@ -15,7 +16,6 @@ use Rattle.corral.specs.declared.support.WeightedItem.{WeightedItem}
 use Rattle.corral.specs.Items.{IsItem, item, first_points, second_points}
 use Rattle.corral.specs.WeightedItems as corral
 use Rattle.corral.specs.WeightedItems.{weighted_item, weighted_items}
-use Rattle.corral.proofs.Mapped.{all_unmap}
 use Rattle.corral.specs.Supports.{AreSupports}
 use Rattle.pair_sums.specs.declared.sums.PairSums.{PairSums}
 use Rattle.pair_sums.specs.Sums.{AreSums}
@@ -39,7 +39,7 @@ limit_by K p q determined h = subst (λ m. m ≤ℤ pos (2 ^ 66)) (mass_is (map 
 
 -- no weight is below 1
 pub weights_by : (K : Type 0) (p q : Cloud SpacePoint) (determined : List WeightedItem) → AreSupports (pos 0) (weighted_items itself (differences K p q) determined) → All (λ pair. pos 1 ≤ℤ pair.weight) (map weighted_pair determined)
-weights_by K p q determined h = All-map (λ (pair : WeightedPair). pos 1 ≤ℤ pair.weight) weighted_pair determined (all_unmap (λ (s : WeightedVector). pos 1 ≤ℤ s.weight) (weighted_item itself (differences K p q)) determined h.weights)
+weights_by K p q determined h = All-map (λ (pair : WeightedPair). pos 1 ≤ℤ pair.weight) weighted_pair determined (All-unmap (λ (s : WeightedVector). pos 1 ≤ℤ s.weight) (weighted_item itself (differences K p q)) determined h.weights)
 
 -- the supports hold the distance
 holds_by : (K : Type 0) (p q : Cloud SpacePoint) (determined : List WeightedItem) → AreSupports (pos 0) (weighted_items itself (differences K p q) determined)

@@ -13,8 +13,8 @@ use Rattle.corner_squares.specs.Trees.{AreLeavesAt}
 use Rattle.corner_squares.proofs.Boxes.{left_over-corner}
 use Rattle.corner_squares.proofs.Trees.{AreBelowFirst}
 use Rattle.centres_check.specs.CentresLimits.{NamesPoints}
-use Rattle.integers.proofs.Lists.{All-unmap}
-use Rattle.centres_check.proofs.Leaves.{leaf_alone, part_is, slice_is, slice_count, slice_names, below_more, below_all, below_one, none_found, popped}
+use Rattle.integers.proofs.Lists.{All-unmap, popped}
+use Rattle.centres_check.proofs.Leaves.{leaf_alone, part_is, slice_is, slice_count, slice_names, below_more, below_all, below_one, none_found}
 use Rattle.centres_check.proofs.centres.+are_leaves_below.Goals as goal
 
 pub is_leaf-requires : goal.is_leaf-requires

@@ -1,9 +1,10 @@
 use Rattle.std.proofs.Common.{sym, ◌∙◌, subst, ◌++◌, arith, rules, length-append}
+use Rattle.integers.proofs.Lists.{popped}
 use Rattle.corral.specs.Parts.{IsPart}
 use Rattle.corral.proofs.Blanks.{blank}
 use Rattle.corral.proofs.MomentSums.{rest}
 use Rattle.corral.proofs.Solutions.{few_candidates}
-use Rattle.corral.proofs.Searching.{popped, part_without, refuted_at_end, refuted_both_ways}
+use Rattle.corral.proofs.Searching.{part_without, refuted_at_end, refuted_both_ways}
 use Rattle.corral.proofs.search.+search.Goals as goal
 
 pub push-requires : goal.push-requires

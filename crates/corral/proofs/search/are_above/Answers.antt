@@ -2,13 +2,13 @@ use Rattle.std.proofs.Common.{◌≡◌, refl, ◌∙◌, subst, ℤ, ◌≤ℤ�
 use Rattle.std.specs.Prelude.{All}
 use Rattle.std.proofs.lemmas.Int.{ints}
 use mir.Syntax.{w128}
+use Rattle.integers.proofs.Order.{is_less, is_not_less}
 use Rattle.kernel_laws.specs.Vectors.{vector_of}
 use Rattle.kernel_laws.specs.Limits.{IsVectorWithin, difference_limit}
 use Rattle.corral.specs.Moments.{slack_at}
 use Rattle.corral.specs.Balances.{vectors}
 use Rattle.corral.proofs.Blanks.{blank}
 use Rattle.corral.proofs.Mapped.{at_map, map_all_more, take_whole}
-use Rattle.corral.proofs.Running.{is_less, is_not_less}
 use Rattle.corral.proofs.search.are_above.Goals as goal
 
 pub slack-requires-clause-vector : goal.slack-requires-clause-vector

@@ -5,9 +5,9 @@ use Rattle.std.proofs.lemmas.List.{get_or_read}
 use Rattle.integers.specs.Size.{Size}
 use Rattle.integers.proofs.Sizes.{wrap_is_in}
 use Rattle.integers.proofs.MachineArithmetic.{given, with_inputs, codes, computes, fits}
+use Rattle.integers.proofs.Lists.{below_or_at}
 use Rattle.bounds_model.specs.Plane.{PlanePoint, origin, point_at, turn}
 use Rattle.extremal_kgon.specs.Tables.{IsTriangleMore}
-use Rattle.extremal_kgon.proofs.Reading.{below_or_at}
 use Rattle.extremal_kgon.proofs.choice.step_back.Goals as goal
 
 pub middles-init : goal.middles-init

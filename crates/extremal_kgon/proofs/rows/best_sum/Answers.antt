@@ -1,8 +1,8 @@
 use Rattle.std.proofs.Common.{◌≡◌, sym, subst, ◌+◌, ◌^◌, [], ◌∷◌, ℤ, pos, ◌+ℤ◌, w64, to_z, of_z, arith}
 use Rattle.integers.specs.Size.{Size}
 use Rattle.integers.proofs.MachineArithmetic.{given, with_inputs, codes, computes}
+use Rattle.integers.proofs.Narrowing.{kept64}
 use Rattle.extremal_kgon.specs.Rows.{at, IsBestSum}
-use Rattle.extremal_kgon.proofs.Reading.{kept64}
 use Rattle.extremal_kgon.proofs.BestSums.{best_sum-none, best_sum-max}
 use Rattle.extremal_kgon.proofs.rows.best_sum.Goals as goal
 

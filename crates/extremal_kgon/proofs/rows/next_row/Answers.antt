@@ -1,8 +1,8 @@
 use Rattle.std.proofs.Common.{refl, sym, subst, ap, ◌∙◌, ◌+◌, ◌≤◌, map, [], ◌∷◌, ◌++◌, length, ◌<◌, arith}
 use Rattle.std.proofs.lemmas.List.{length-map}
+use Rattle.integers.proofs.Narrowing.{kept64}
 use Rattle.extremal_kgon.specs.Ways.{vector_of}
 use Rattle.extremal_kgon.specs.Rows.{at, area_at, pairs_below}
-use Rattle.extremal_kgon.proofs.Reading.{kept64}
 use Rattle.extremal_kgon.proofs.NextRows.{row-none, row-more, whole_row}
 use Rattle.extremal_kgon.proofs.AreaLists.{pairs_next, pairs_within, pairs_limit, best_sum-as}
 use Rattle.extremal_kgon.proofs.rows.next_row.Goals as goal

@@ -1,10 +1,11 @@
 use Rattle.std.proofs.Common.{◌≡◌, sym, subst, ap, ap₂, ◌∙◌, ℕ, ◌<◌, [], ◌∷◌, ◌++◌, List, length, map, pos, arith}
 use Rattle.std.specs.Prelude.{slice_index_or}
+use Rattle.integers.proofs.Narrowing.{kept64}
 use Rattle.bounds_model.specs.Plane.{cross}
 use Rattle.extremal_kgon.specs.declared.ways.Way.{Way}
 use Rattle.extremal_kgon.specs.Ways.{vector_of}
 use Rattle.extremal_kgon.specs.Rows.{area_at, AddsAreas}
-use Rattle.extremal_kgon.proofs.Reading.{read-map, kept64}
+use Rattle.extremal_kgon.proofs.Reading.{read-map}
 use Rattle.extremal_kgon.proofs.AreaLists.{adds-none, adds-more}
 use Rattle.extremal_kgon.proofs.triangles.push_areas.Goals as goal
 

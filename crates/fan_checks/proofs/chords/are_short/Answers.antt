@@ -1,8 +1,8 @@
 use Rattle.std.proofs.Common.{refl, arith}
 use Rattle.bounds_model.specs.ParallelogramAnswer.{IsShortChord}
 use Rattle.answers.specs.Answers.{chord_of}
-use Rattle.integers.proofs.Lists.{clash}
-use Rattle.directions.proofs.FanLists.{first_more, seen_at, all_seen}
+use Rattle.integers.proofs.Lists.{clash, first_more}
+use Rattle.directions.proofs.FanLists.{seen_at, all_seen}
 use Rattle.fan_checks.proofs.chords.are_short.Goals as goal
 
 pub returns-then-not-is_short : goal.returns-then-not-is_short

@@ -2,8 +2,8 @@ use Rattle.std.proofs.Common.{refl, sym, subst, length, arith}
 use Rattle.std.specs.Prelude.{All, map}
 use Rattle.bounded_coords.specs.Clouds.{points_of}
 use Rattle.answers.specs.Answers.{chord_of}
-use Rattle.integers.proofs.Lists.{clash}
-use Rattle.directions.proofs.FanLists.{first_more, seen_at, all_seen}
+use Rattle.integers.proofs.Lists.{clash, first_more}
+use Rattle.directions.proofs.FanLists.{seen_at, all_seen}
 use Rattle.fan_checks.specs.Limits.{AreBelow}
 use Rattle.fan_checks.proofs.chords.name_points.Goals as goal
 

@@ -1,7 +1,7 @@
 use Rattle.std.proofs.Common.{refl}
+use Rattle.integers.proofs.Lists.{clash}
 use Rattle.bounded_coords.specs.Clouds.{points_of}
 use Rattle.fan_test.proofs.Arcs.{edges_enclosing}
-use Rattle.fan_test.proofs.Comparisons.{clash}
 use Rattle.fan_test.proofs.chain.are_within_each.Goals as goal
 
 pub returns-in-None : goal.returns-in-None

@@ -1,7 +1,7 @@
 use Rattle.std.proofs.Common.{refl, arith}
+use Rattle.integers.proofs.Lists.{clash}
 use Rattle.bounded_coords.specs.Clouds.{points_of}
 use Rattle.fan_test.proofs.Arcs.{enclosing_joined, last_part}
-use Rattle.fan_test.proofs.Comparisons.{clash}
 use Rattle.fan_test.proofs.chain.encloses.Goals as goal
 
 pub returns-then-not-are_joined : goal.returns-then-not-are_joined

@@ -1,10 +1,10 @@
 use Rattle.std.proofs.Common.{refl, sym, subst, ◌<◌, ℕ, length, arith}
 use Rattle.std.specs.Prelude.{All, map}
+use Rattle.integers.proofs.Lists.{clash, first_more}
 use Rattle.bounds_model.specs.Fans.{HalfCone}
 use Rattle.bounded_coords.specs.Clouds.{points_of}
 use Rattle.answers.specs.Answers.{half_cone_of}
-use Rattle.directions.proofs.FanLists.{first_more, seen_at, all_seen}
-use Rattle.fan_test.proofs.Comparisons.{clash}
+use Rattle.directions.proofs.FanLists.{seen_at, all_seen}
 use Rattle.fan_test.proofs.limits.names_points.Goals as goal
 
 -- the cone's numbers are below a bound

@@ -1,5 +1,6 @@
 use Rattle.std.proofs.Common.{◌≡◌, sym, length}
 use Rattle.std.proofs.lemmas.List.{length-map}
+use Rattle.integers.proofs.Lists.{clash}
 use Rattle.bounds_model.specs.Plane.{point_at}
 use Rattle.bounds_model.specs.Fans.{quarter_directions}
 use Rattle.bounded_coords.specs.Clouds.{points_of}
@@ -9,7 +10,6 @@ use Rattle.answers.specs.declared.fans.QuarterFan.{QuarterFan}
 use Rattle.fan_test.specs.declared.ends.End.TheVariants.{High, Low}
 use Rattle.fan_test.proofs.Extremes.{opposite_turns, both_ends, high_end, low_end}
 use Rattle.fan_test.proofs.QuarterFans.{quarter_listed, either_turns}
-use Rattle.fan_test.proofs.Comparisons.{clash}
 use Rattle.fan_test.proofs.quarter.are_ends.Goals as goal
 
 -- as many cones in the model

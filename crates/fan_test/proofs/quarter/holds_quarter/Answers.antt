@@ -1,10 +1,10 @@
 use Rattle.std.proofs.Common.{◌≡◌, sym, length}
 use Rattle.std.proofs.lemmas.List.{length-map}
+use Rattle.integers.proofs.Lists.{clash}
 use Rattle.bounded_coords.specs.Clouds.{points_of}
 use Rattle.answers.specs.Answers.{quarter_fan_of, quarter_cone_of}
 use Rattle.answers.specs.declared.fans.QuarterFan.{QuarterFan}
 use Rattle.fan_test.proofs.QuarterFans.{quarter_leads, quarter_ends, ends_along, ends_across}
-use Rattle.fan_test.proofs.Comparisons.{clash}
 use Rattle.fan_test.proofs.quarter.holds_quarter.Goals as goal
 
 -- as many cones in the model

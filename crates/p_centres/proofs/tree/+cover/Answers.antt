@@ -1,5 +1,6 @@
 use Rattle.std.proofs.Common.{rules, arith, refl, subst, sym, ap, ◌∙◌, length, List, [], ◌∷◌, ◌++◌, All, ◌≡◌, ◌≢◌, ◌≤◌, ◌<◌, ◌+◌, ◌-◌, ◌*◌, ◌^◌, ℕ}
 use Rattle.std.proofs.Math.Nat.{mul-le-mul_right}
+use Rattle.integers.proofs.Lists.{popped}
 use Rattle.bounds_model.specs.Plane.{PlanePoint}
 use Rattle.corner_squares.specs.declared.square.Square.{Square}
 use Rattle.corner_squares.specs.declared.bounds.Bounds.{Bounds}
@@ -8,7 +9,7 @@ use Rattle.bounded_coords.specs.Clouds.{counted_points}
 use Rattle.corner_squares.specs.Squares.{left_over}
 use Rattle.corner_squares.specs.Extents.{IsBox}
 use Rattle.corner_squares.specs.Trees.{nodes}
-use Rattle.p_centres.proofs.Covering.{cover_now, cover_by_more, placed_more, no_corner, corner_more, all_corners, room_for_leaves, nodes_are, some_nodes, popped}
+use Rattle.p_centres.proofs.Covering.{cover_now, cover_by_more, placed_more, no_corner, corner_more, all_corners, room_for_leaves, nodes_are, some_nodes}
 use Rattle.p_centres.proofs.tree.+cover.Goals as goal
 
 pub returns-in_default-clause-covered : goal.returns-in_default-clause-covered

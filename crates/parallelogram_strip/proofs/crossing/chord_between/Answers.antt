@@ -2,9 +2,9 @@ use Rattle.std.proofs.Common.{◌≡◌, sym, subst, ℤ, pos, neg_ℤ, ◌≤�
 use lib.Signed.{le_z}
 use Rattle.std.proofs.lemmas.Int.{ints}
 use Rattle.integers.proofs.Sizes.{size_fits_in}
+use Rattle.integers.proofs.Order.{nonneg_neg}
 use Rattle.bounded_coords.specs.Clouds.{points_of}
 use Rattle.answers.specs.Answers.{vector_of}
-use Rattle.directions.proofs.Signs.{nonneg_neg}
 use Rattle.directions.proofs.Reaches.{reach_turned}
 use Rattle.parallelogram_strip.proofs.crossing.chord_between.Goals as goal
 

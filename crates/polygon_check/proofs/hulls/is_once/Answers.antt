@@ -1,8 +1,9 @@
 use Rattle.std.proofs.Common.{rules, ◌≡◌, sym, subst, ◌∙◌, ℕ, ◌<◌, ◌≤◌, inl, inr, map, arith}
 use Rattle.std.proofs.lemmas.List.{length-map}
+use Rattle.integers.proofs.Lists.{below_or_at}
 use Rattle.bounds_model.specs.Plane.{point_at}
 use Rattle.bounded_coords.specs.Clouds.{points_of}
-use Rattle.polygon_check.proofs.HullReads.{below_or_at, once_from, once_at}
+use Rattle.polygon_check.proofs.HullReads.{once_from, once_at}
 use Rattle.polygon_check.proofs.hulls.is_once.Goals as goal
 
 pub loop-i-init : goal.loop-i-init

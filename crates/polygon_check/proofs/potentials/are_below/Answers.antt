@@ -1,6 +1,7 @@
 use Rattle.std.proofs.Common.{sym, subst, ◌+◌, ◌+ℤ◌, pos, to_z, of_z, w64, arith}
+use Rattle.integers.proofs.Narrowing.{kept64}
 use Rattle.polygon_check.specs.PotentialRows.{at}
-use Rattle.polygon_check.proofs.Areas.{machine_sum_of, kept64}
+use Rattle.polygon_check.proofs.Areas.{machine_sum_of}
 use Rattle.polygon_check.proofs.Greatest.{IsGreatest, greatest-more}
 use Rattle.polygon_check.proofs.potentials.are_below.Goals as goal
 

@@ -1,8 +1,9 @@
 use Rattle.std.proofs.Common.{sym, subst, ap, ◌∙◌, ◌+◌, ◌^◌, [], ◌∷◌, ◌++◌, length, map, arith}
+use Rattle.integers.proofs.Narrowing.{kept64}
 use Rattle.bounds_model.specs.Plane.{point_at, turn}
 use Rattle.bounded_coords.specs.Clouds.{points_of}
 use Rattle.polygon_check.specs.PotentialRows.{Adds}
-use Rattle.polygon_check.proofs.Areas.{turn_of, kept64}
+use Rattle.polygon_check.proofs.Areas.{turn_of}
 use Rattle.polygon_check.proofs.RowLists.{adds-more}
 use Rattle.polygon_check.proofs.potentials.areas.Goals as goal
 
