@@ -9,21 +9,18 @@ use Rattle.bounds_model.specs.BallAnswer as model
 use Rattle.bounds_model.specs.BallAnswer.{weight_sum, first_support, pull, IsOnBall, IsNotOutside}
 use Rattle.kernel_laws.specs.Vectors.{sum_of}
 use Rattle.kernel_laws.specs.Signs.{slack_from_origin}
+use Rattle.kernel_laws.proofs.Points.{point_at_place}
 use Rattle.answers.specs.declared.balls.Weighted.{Weighted}
 use Rattle.answers.specs.Answers.{weighted_of}
 use Rattle.integers.proofs.Lists.{All-unmap}
 use Rattle.ball_sums.specs.declared.sums.Sums.{Sums}
 use Rattle.ball_check.specs.DeterminedBalls.{AreSupportSums}
 
--- the place of a numbered point
-pub placed : {P : Type 0} (place : P → SpacePoint) (points : List P) (i : ℕ) (p : P) → slice_get points i ≡ Some p → point_at (map place points) i ≡ place p
-placed place points i p is = get_or-map place points i p origin (slice_get_within points i p is) ∙ ap place (get_or_from_slice_get points i p p is)
-
 -- and that of the first support
 pub first_placed : {P : Type 0} (place : P → SpacePoint) (points : List P) (supports : List Weighted) (none : Weighted) (p : P) → 1 ≤ length supports → slice_get points (get_or supports 0 none).point ≡ Some p
     → first_support (map place points) (map weighted_of supports) ≡ place p
 first_placed place points [] none p some is = absurd (omega arith)
-first_placed place points (s ∷ rest) none p some is = placed place points s.point p is
+first_placed place points (s ∷ rest) none p some is = point_at_place place points s.point p is
 
 -- supports that are there
 pub some_supports : (supports : List Weighted) → 1 ≤ length (map weighted_of supports) → 1 ≤ length supports

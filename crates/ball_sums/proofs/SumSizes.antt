@@ -22,6 +22,9 @@ second_moment_most {dim} {n} (inr e) h = subst (λ d. n * squared_length_limit d
 
 more_second_moment : (t w q m r : ℕ) → m ≤ t * r → q ≤ r → m + w * q ≤ (t + w) * r
 more_second_moment t w q m r h k = let product : w * q ≤ w * r = mul-le-mul (le_refl w) k in omega (arith, distributes t w r)
+  where
+    distributes : (t w r : ℕ) → t * r + w * r ≡ (t + w) * r
+    distributes t w r = omega arith
 
 -- the second_moment with one point more fits
 pub second_moment_fits : {dim : ℕ} (t w q m : ℕ) → (dim ≡ 2) ⊎ (dim ≡ 3) → t + w ≤ ball_limit dim → m ≤ t * squared_length_limit dim → q ≤ squared_length_limit dim → m + w * q ≤ 2 ^ 122

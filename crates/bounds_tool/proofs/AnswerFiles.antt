@@ -7,9 +7,7 @@ use Rattle.bounds_model.specs.AnswerText.Reading.{reading}
 use Rattle.bounds_model.specs.ErrorLines.{answer_file, too_long}
 use Rattle.bnd_io.specs.Files.{Folder, bytes_of}
 use Rattle.bounds_tool.specs.Judging.{◌>>=◌, limit_of, answer_in, read_answer}
-
-short : (n limit : ℕ) → n ≤ limit → nat_le n limit ≡ true
-short n limit h = grind (arith, nat_tests)
+use Rattle.bounds_tool.proofs.PointFiles.{short}
 
 -- a file within its limit reads as its text does
 pub answer_in-text : (bytes : List ℕ) → length bytes ≤ limit_of answer_file → answer_in bytes ≡ read_answer (reading bytes)

@@ -1,5 +1,5 @@
 -- What is opened and read.
-use Rattle.std.proofs.Common.{◌≡◌, inl, inr, refl, sym, subst, ◌∙◌, ℕ, ◌+◌, ◌≤◌, Bool, true, false, cond, List, [], ◌∷◌, Option, Some, None, Result, Ok, Err, IfSome, arith}
+use Rattle.std.proofs.Common.{◌≡◌, inl, inr, refl, sym, subst, ◌∙◌, ℕ, ◌+◌, ◌≤◌, Bool, true, false, cond, List, [], ◌∷◌, Option, Some, None, Result, Ok, Err, IfSome, arith, le_trans}
 use Rattle.std.specs.Prelude.{IsOk}
 use Rattle.bounds_model.specs.ErrorLines.{Cause}
 use Rattle.std.specs.Str.{bytes_eq}
@@ -11,13 +11,10 @@ use Rattle.bounds_tool.specs.Run.{times, ReadsOnly, ReadsOfTask}
 
 -- ---- counts
 
-le_trans : (a b c : ℕ) → a ≤ b → b ≤ c → a ≤ c
-le_trans a b c h k = omega arith
-
 pub continues_on : (a b c : FilesState) → Continues a b → Continues b c → Continues a c
 continues_on a b c h k = record {
-  open_faults = λ name. le_trans (a.open_faults name) (b.open_faults name) (c.open_faults name) (h.open_faults name) (k.open_faults name);
-  read_faults = λ name. le_trans (a.read_faults name) (b.read_faults name) (c.read_faults name) (h.read_faults name) (k.read_faults name);
+  open_faults = λ name. le_trans (h.open_faults name) (k.open_faults name);
+  read_faults = λ name. le_trans (h.read_faults name) (k.read_faults name);
   told = k.told ∙ h.told;
 }
 

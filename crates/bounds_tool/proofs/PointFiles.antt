@@ -18,7 +18,8 @@ use Rattle.bounds_tool.specs.Causes.{without_sets}
 use Rattle.bounds_tool.specs.Judging.{◌>>=◌, limit_of, points_in, read_points}
 use Rattle.bounds_tool.specs.Run.{FileCause, PointsCause}
 
-short : (n limit : ℕ) → n ≤ limit → nat_le n limit ≡ true
+-- a text within its limit
+pub short : (n limit : ℕ) → n ≤ limit → nat_le n limit ≡ true
 short n limit h = grind (arith, nat_tests)
 
 -- a file within its limit reads as its text does

@@ -10,6 +10,7 @@ use Rattle.bounds_model.specs.EmptyRectangle.{Box, IsFrame}
 use Rattle.bounds_model.specs.Numbers.{IsWithin}
 use Rattle.bounds_model.specs.Plane.{plane_limit}
 use Rattle.command_line.specs.Values.{number_within, coordinate, before_comma, after_comma, with_inside, frame_written}
+use Rattle.model_laws.proofs.Decisions.{less_ℤ_law}
 
 -- ---- coordinates
 
@@ -119,9 +120,6 @@ pub parted_at : (text : List ℕ) (r : Option (Bor (List ℕ) × Bor (List ℕ))
 parted_at text None h = drop_all (position_or_len (λ b. b == 44) text + 1) text (omega (arith, h))
 parted_at text (Some p) h = (h.1, h.2)
 
-less_law : (a b : ℤ) → Decides (int_lt a b) (a <ℤ b)
-less_law a b = (λ e. grind (arith, ints), λ h. grind (arith, ints))
-
 -- a frame is a box of coordinates with an inside
 pub frame_made : (l b r t : ℤ) (made : Option Box) → IsWithin plane_limit l → IsWithin plane_limit b → IsWithin plane_limit r → IsWithin plane_limit t
     → (IsSome made ↔ IsFrame (record { left = l; bottom = b; right = r; top = t }))
@@ -136,10 +134,10 @@ frame_made l b r t None in_l in_b in_r in_t some is = go (int_lt l r) (int_lt b 
     go false h we he = refl
     go true false we he = refl
     go true true we he =
-        let bad : false ≡ true = some.1 (record { left = in_l; bottom = in_b; right = in_r; top = in_t; wide = (less_law l r).0 we; high = (less_law b t).0 he }) in
+        let bad : false ≡ true = some.1 (record { left = in_l; bottom = in_b; right = in_r; top = in_t; wide = (less_ℤ_law l r).0 we; high = (less_ℤ_law b t).0 he }) in
         absurd cc
 frame_made l b r t (Some f) in_l in_b in_r in_t some is =
     let frame = some.0 (search rules) in
-    let wide : int_lt l r ≡ true = (less_law l r).1 frame.wide in
-    let high : int_lt b t ≡ true = (less_law b t).1 frame.high in
+    let wide : int_lt l r ≡ true = (less_ℤ_law l r).1 frame.wide in
+    let high : int_lt b t ≡ true = (less_ℤ_law b t).1 frame.high in
     rw (wide, high) (ap Some is)

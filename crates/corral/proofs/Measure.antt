@@ -12,6 +12,7 @@ use Rattle.integers.proofs.Sizes.{size_mul}
 use Rattle.bounds_model.specs.Space.{SpacePoint, squared_length}
 use Rattle.bounds_model.specs.Slacks.{WeightedVector, mass, moment, second_moment, value}
 use Rattle.kernel_laws.specs.Limits.{IsVectorWithin, IsDifference, difference_limit}
+use Rattle.kernel_laws.proofs.Points.{squared_length_nonneg}
 use Rattle.corral.specs.Supports.{IsQuadratic, support_vectors, AreSupports}
 use Rattle.corral.proofs.Moments.{mass_positive}
 use Rattle.corral.proofs.Supports.{all_vectors}
@@ -19,9 +20,6 @@ use Rattle.corral.specs.Rise.{AreBounded}
 use Rattle.corral.specs.Laws.{MeasureFalls}
 
 -- ---- the value is at most the longest squared length
-
-squared_length_nonneg : (v : SpacePoint) → pos 0 ≤ℤ squared_length v
-squared_length_nonneg v = nonneg_add (nonneg_add (square_nonneg v.x) (square_nonneg v.y)) (square_nonneg v.z)
 
 -- by the sum of the weights M, the second moment Q and the squared length W of the moment
 difference_of_ball : (M Q W L : ℤ) → pos 0 ≤ℤ M → pos 0 ≤ℤ W → (pos 1 *ℤ Q) ≤ℤ (M *ℤ L) → pos 0 ≤ℤ (L *ℤ (M *ℤ M) -ℤ (pos 1 *ℤ (M *ℤ Q) -ℤ W))
@@ -47,9 +45,7 @@ difference_nonneg quadratic (inr e) longest limit items h =
     once : {a b : ℤ} → a ≤ℤ b → (pos 1 *ℤ a) ≤ℤ b
     once h = omega (arith, ints)
 
--- ---- a fraction with a small denominator that floor_rises_ℤ
-
--- where the value rises, the measure floor_rises_ℤ
+-- where the value rises, the measure falls
 pub measure_falls : MeasureFalls
 measure_falls quadratic flag longest limit old found bounded_old bounded_found below =
     let v = value quadratic old in

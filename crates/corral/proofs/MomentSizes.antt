@@ -1,6 +1,7 @@
 -- The sizes of what slacks are computed from, as numerals: one set for the plane, one for space.
 use Rattle.std.proofs.Common.{◌≡◌, subst, ℕ, ◌*◌, ◌^◌, ◌≤◌, ◌⊎◌, inl, inr, ℤ, pos, arith, sym, mul-le-mul_right, le_trans}
 use Rattle.integers.specs.Size.{Size}
+use Rattle.integers.proofs.Sizes.{size_of_flag}
 use Rattle.bounds_model.specs.Space.{SpacePoint}
 use Rattle.kernel_laws.specs.Vectors.{sum_of}
 use Rattle.kernel_laws.specs.Limits.{IsVectorWithin, difference_limit}
@@ -25,10 +26,6 @@ space_limit : (quadratic : ℤ) → (quadratic ≡ pos 0) ⊎ (quadratic ≡ pos
 space_limit quadratic (inl e) = subst (λ s. weight_limit s 3 ≤ 2 ^ 92) (sym e) (omega arith)
 space_limit quadratic (inr e) = subst (λ s. weight_limit s 3 ≤ 2 ^ 92) (sym e) (omega arith)
 
-pub small_flag : (quadratic : ℤ) → (quadratic ≡ pos 0) ⊎ (quadratic ≡ pos 1) → Size 1 quadratic
-small_flag quadratic (inl e) = subst (Size 1) (sym e) (record { abs = omega arith })
-small_flag quadratic (inr e) = subst (Size 1) (sym e) (record { abs = omega arith })
-
 -- the sizes in the plane, or those in space
 pub moment_sizes : (quadratic : ℤ) (dim : ℕ) (m : Moments) (v : SpacePoint) → (quadratic ≡ pos 0) ⊎ (quadratic ≡ pos 1) → (dim ≡ 2) ⊎ (dim ≡ 3)
     → AreWithin quadratic dim m → IsVectorWithin (difference_limit dim) v
@@ -40,7 +37,7 @@ moment_sizes quadratic dim m v flag (inl e) h hv =
       vector = subst (λ d. IsVectorWithin (difference_limit d) v) e hv;
       sum = more_within (mul-le-mul_right 400000 most) within.sum;
       mass = record { abs = le_trans within.mass.abs most };
-      flag = small_flag quadratic flag;
+      flag = size_of_flag flag;
     })
 moment_sizes quadratic dim m v flag (inr e) h hv =
     let within : AreWithin quadratic 3 m = subst (λ d. AreWithin quadratic d m) e h in
@@ -49,5 +46,5 @@ moment_sizes quadratic dim m v flag (inr e) h hv =
       vector = subst (λ d. IsVectorWithin (difference_limit d) v) e hv;
       sum = more_within (mul-le-mul_right 16000 most) within.sum;
       mass = record { abs = le_trans within.mass.abs most };
-      flag = small_flag quadratic flag;
+      flag = size_of_flag flag;
     })

@@ -10,14 +10,13 @@ use Rattle.bounded_coords.specs.Clouds.{points_of}
 use Rattle.kernel_laws.specs.Vectors.{vector_of}
 use Rattle.kernel_laws.specs.Limits.{IsVectorWithin, IsDifference, difference_limit}
 use Rattle.kernel_laws.specs.Solutions.{AreItems}
-use Rattle.kernel_laws.proofs.Points.{same_point}
+use Rattle.kernel_laws.proofs.Points.{same_point, point_at_place}
 use Rattle.corral.specs.declared.items.Id.{Id}
 use Rattle.corral.specs.declared.items.Items.{Items}
 use Rattle.corral.specs.declared.items.Items.TheVariants.{Points}
 use Rattle.corral.specs.declared.search.Candidate.{Candidate}
 use Rattle.corral.specs.Items.{item}
 use Rattle.corral.specs.Balances.{vectors, AreCandidates, IsNear}
-use Rattle.corral.proofs.PointNumbers.{point_at_place}
 
 -- a difference does not depend on where vectors begin
 pub vector_between : (o a b : SpacePoint) → vector (vector o a) (vector o b) ≡ vector a b

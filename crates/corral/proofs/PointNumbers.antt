@@ -5,12 +5,7 @@ use Rattle.bounds_model.specs.Space.{SpacePoint, point_at, vector, dot}
 use Rattle.corral.specs.declared.sums.Moments.{Moments}
 use Rattle.corral.specs.Moments.{slack_at}
 use Rattle.corral.specs.LeastSlacks.{along}
-
--- the coordinates of the point of a number
-pub point_at_place : {P : Type 0} (place : P → SpacePoint) (points : List P) (i : ℕ) (p : P) → slice_get points i ≡ Some p → point_at (map place points) i ≡ place p
-point_at_place place [] i p h = cc
-point_at_place place (q ∷ points) zero p h = let e : q ≡ p = cc in ap place e
-point_at_place place (q ∷ points) (suc i) p h = point_at_place place points i p h
+use Rattle.kernel_laws.proofs.Points.{point_at_place}
 
 -- how far along a vector it lies
 pub along_is : {P : Type 0} (place : P → SpacePoint) (origin : P) (points : List P) (sum : SpacePoint) (i : ℕ) (p : P) (v : SpacePoint) (r : ℤ)

@@ -3,6 +3,7 @@ use Rattle.std.proofs.Common.{◌≡◌, refl, sym, ◌∙◌, ap, ap₂, subst,
 use Rattle.std.specs.Prelude.{All}
 use Rattle.std.proofs.lemmas.Int.{ints}
 use Rattle.std.proofs.lemmas.List.Elements.{All-nil, All-cons, All-head, All-tail}
+use Rattle.std.proofs.Math.IntN.{*ℤ-zero}
 use Rattle.integers.proofs.Identities.{den-ring, read, polys, lits}
 use Rattle.integers.proofs.Order.{combine1, mul_le_both}
 use Rattle.integers.proofs.RingLaws.{one-*ℤ}
@@ -23,9 +24,6 @@ use Rattle.corral.proofs.Insertions.IsInserted.{first, later}
 abbrev pub scaled_items : ℤ → List WeightedVector → List WeightedVector
 scaled_items k items = map (λ item. record { weight = k *ℤ item.weight; vector = item.vector }) items
 
-none_scaled : (k : ℤ) → pos 0 ≡ k *ℤ pos 0
-none_scaled k = omega (arith, ints)
-
 add_scaled : (k w t u : ℤ) → t ≡ k *ℤ u → k *ℤ w +ℤ t ≡ k *ℤ (w +ℤ u)
 add_scaled k w t u h = combine1 (pos 1) h (read (k ∷ w ∷ t ∷ u ∷ []) (λ xs a b c d. simp (a, b, c, d, polys, lits xs) (den-ring xs _ _ tt)))
 
@@ -33,15 +31,15 @@ one_scaled : (k w c t u : ℤ) → t ≡ k *ℤ u → k *ℤ w *ℤ c +ℤ t ≡
 one_scaled k w c t u h = combine1 (pos 1) h (read (k ∷ w ∷ c ∷ t ∷ u ∷ []) (λ xs a b c d e. simp (a, b, c, d, e, polys, lits xs) (den-ring xs _ _ tt)))
 
 mass-scaled : (k : ℤ) (items : List WeightedVector) → mass (scaled_items k items) ≡ k *ℤ mass items
-mass-scaled k [] = none_scaled k
+mass-scaled k [] = sym (*ℤ-zero k)
 mass-scaled k (item ∷ items) = add_scaled k item.weight _ (mass items) (mass-scaled k items)
 
 second_moment-scaled : (k : ℤ) (items : List WeightedVector) → second_moment (scaled_items k items) ≡ k *ℤ second_moment items
-second_moment-scaled k [] = none_scaled k
+second_moment-scaled k [] = sym (*ℤ-zero k)
 second_moment-scaled k (item ∷ items) = one_scaled k item.weight (squared_length item.vector) _ (second_moment items) (second_moment-scaled k items)
 
 moment-scaled : (k : ℤ) (items : List WeightedVector) → moment (scaled_items k items) ≡ times k (moment items)
-moment-scaled k [] = same_point (none_scaled k) (none_scaled k) (none_scaled k)
+moment-scaled k [] = same_point (sym (*ℤ-zero k)) (sym (*ℤ-zero k)) (sym (*ℤ-zero k))
 moment-scaled k (item ∷ items) =
     let v = item.vector in
     let s = moment items in

@@ -8,7 +8,7 @@ use Rattle.std.proofs.lemmas.Nat.Gcd.{dvd-zero}
 use Rattle.integers.proofs.Identities.{den-ring, read, polys}
 use Rattle.integers.proofs.Order.{le_by, nonneg_difference, le_antisymm_ℤ, square_positive, square_nonneg, positive_add}
 use Rattle.integers.specs.Size.{Size}
-use Rattle.bounds_model.specs.Plane.{PlanePoint, origin, point_at, dot, squared_length}
+use Rattle.bounds_model.specs.Plane.{PlanePoint, origin, point_at, dot, squared_length, vector}
 use Rattle.bounds_model.specs.Fractions.{HaveNoCommonFactor}
 use Rattle.bounds_model.specs.Fans.{AreExtreme, reach}
 use Rattle.directions.proofs.Reading.{reach_parts, point_is}
@@ -48,10 +48,6 @@ pub reach_within : {w : ℕ} {p q : ℤ} → pos w ≡ q -ℤ p → Size 1600000
 reach_within h sq sp = let lq = sq.abs in let lp = sp.abs in omega (arith, ints)
 
 -- ---- extreme points
-
--- a highest point is not below a lowest one
-pub reach_nonneg : (points : List PlanePoint) (d : PlanePoint) (high low : ℕ) → low < length points → AreExtreme points d high low → pos 0 ≤ℤ reach points d high low
-reach_nonneg points d high low named extreme = subst (λ z. pos 0 ≤ℤ z) (sym (reach_parts points d high low)) (nonneg_difference (extreme.highest low origin named))
 
 -- two pairs that are extreme in a direction: their highest points are equally far out
 pub highest_same : (points : List PlanePoint) (d : PlanePoint) {high low high' low' : ℕ} → high < length points → high' < length points → AreExtreme points d high low → AreExtreme points d high' low' → dot d (point_at points high) ≡ dot d (point_at points high')
@@ -111,3 +107,7 @@ long_some d long e = never (subst (λ x. pos 0 <ℤ squared_length x) e long)
   where
     never : pos 0 <ℤ squared_length origin → ⊥
     never h = absurd h.lt
+
+-- a product with the vector between two points
+pub dot_vector : (d p q : PlanePoint) → dot d (vector p q) ≡ dot d q -ℤ dot d p
+dot_vector d p q = reach_parts (p ∷ q ∷ []) d 1 0

@@ -9,14 +9,7 @@ use Rattle.bounds_model.specs.Ranges.{IsDirection, IsSpan}
 use Rattle.bounds_model.specs.Fans.{AreExtreme, IsShort, reach}
 use Rattle.bounds_model.specs.StripAnswer.{IsShortSpan}
 use Rattle.directions.proofs.Reading.{reach_parts}
-
--- a range holds a smaller one
-pub within_more : {m n : ℕ} {z : ℤ} → IsWithin m z → T (leb m n) → IsWithin n z
-within_more {m} {n} h t = let l = leb→le m n t in record { low = omega (arith, ints, h.low); high = omega (arith, ints, h.high) }
-
--- a short direction
-pub direction_of_short : (d : PlanePoint) → IsShort d → IsDirection d
-direction_of_short d h = record { x = within_more h.x tt; y = within_more h.y tt }
+use Rattle.bounded_coords.proofs.Ranges.{within_more}
 
 -- short bounds
 pub short_span : (span : Span) → IsShortSpan span → IsSpan span

@@ -72,10 +72,3 @@ pub not_below : {z : ℤ} → (z <ℤ pos 0 → ⊥) → pos 0 ≤ℤ z
 not_below {z} h = by_lt_z z (pos 0) (λ below. absurd (h below)) (λ above. above)
 
 -- ---- fractions in machine numbers
-
--- numbers that stand for equal ones are equal
-pub same_number : {m n : ℕ} {a b : ℤ} → pos m ≡ a → pos n ≡ b → a ≡ b → m ≡ n
-same_number {m} {n} {a} {b} h k e = omega (arith, ints)
-
-pub same_fraction : {m n d e : ℕ} (a b : Fraction) → pos m ≡ a.n → pos n ≡ b.n → pos d ≡ a.d → pos e ≡ b.d → m ≡ n → d ≡ e → a ≡ b
-same_fraction a b an bn ad bd h k = ap₂ (λ n d. let f : Fraction = record { n = n; d = d } in f) (sym an ∙ ap pos h ∙ bn) (sym ad ∙ ap pos k ∙ bd)

@@ -11,8 +11,9 @@ use Rattle.bounds_model.specs.EmptyAnswer.Blocker.{side, point}
 use Rattle.bounds_model.specs.Asks.{ask_empty}
 use Rattle.bounds_model.specs.Answers.{Passes, empty}
 use Rattle.bounded_coords.specs.declared.cloud.Cloud.{Cloud}
+use Rattle.bounded_coords.proofs.Ranges.{within_more}
 use Rattle.empty_rectangle.specs.Points.{points_in}
-use Rattle.empty_rectangle.proofs.Passing.{whole_fraction, within_more}
+use Rattle.empty_rectangle.proofs.Passing.{whole_fraction}
 use Rattle.empty_check.specs.RestrictedRectangles.{sets_of, LiesIn, IsRestricted}
 use Rattle.exact_fractions.proofs.UniqueForms.{fraction_unique}
 

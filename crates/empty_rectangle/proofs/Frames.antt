@@ -3,6 +3,7 @@ use Rattle.std.proofs.Common.{◌≡◌, ◌⊎◌, inl, inr, refl, sym, ap, ap�
 use Rattle.std.proofs.lemmas.Int.{ints}
 use Rattle.std.proofs.lemmas.List.Elements.{All-contains}
 use Rattle.std.specs.Int.Signed.{≤ℤ_refl}
+use Rattle.std.proofs.Math.IntN.{+ℤ_idr}
 use Rattle.bounds_model.specs.Plane.{PlanePoint, origin}
 use Rattle.bounds_model.specs.Fractions.{Fraction}
 use Rattle.bounds_model.specs.EmptyRectangle.{Box, IsFrame, IsStrictlyInside, area}
@@ -169,10 +170,6 @@ x_of frame points obstacles low high e resting_side P each (inr r) at_side insid
       below_top = omega (arith, ints, is.at.y, r.before);
     })))
 
--- nothing is added
-plus_none : (z : ℤ) → z ≡ (z +ℤ pos 0)
-plus_none z = omega (arith, ints)
-
 pub restricted_not_larger : (frame : Box) (points : List PlanePoint) (extent : Extent) (obstacles : List Obstacle) (most : ℕ) (h : Rectangle) → IsExtentOf frame extent → AreObstacles frame points points obstacles → IsRestricted obstacles extent h → NoneLarger frame points (record { n = pos most; d = pos 1 }) → h.area ≤ most
 restricted_not_larger frame points extent obstacles most h of are restricted none =
     let small = in_box (omega (arith, ints, restricted.wide)) (empty_from_free frame points extent obstacles h.left.at h.bottom.at h.right.at h.top.at of restricted.in_right restricted.in_top are.every restricted.free) in
@@ -186,7 +183,7 @@ restricted_not_larger frame points extent obstacles most h of are restricted non
     from_bottom : EachY frame points (λ t. (frame.bottom +ℤ pos h.bottom.at) <ℤ t → NoneLargerInBand points size (record frame { bottom = frame.bottom +ℤ pos h.bottom.at; top = t }))
     from_bottom =
         let P = λ (b : ℤ). EachY frame points (λ t. b <ℤ t → NoneLargerInBand points size (record frame { bottom = b; top = t })) in
-        height_of frame points obstacles h.left.at h.right.at 0 h.bottom P are.each restricted.bottom (subst P (plus_none frame.bottom) none.bottom) none.inside
+        height_of frame points obstacles h.left.at h.right.at 0 h.bottom P are.each restricted.bottom (subst P (sym (+ℤ_idr frame.bottom)) none.bottom) none.inside
 
     in_band : NoneLargerInBand points size (record frame { bottom = frame.bottom +ℤ pos h.bottom.at; top = frame.bottom +ℤ pos h.top.at })
     in_band =
@@ -196,7 +193,7 @@ restricted_not_larger frame points extent obstacles most h of are restricted non
     from_left : EachX (record frame { bottom = frame.bottom +ℤ pos h.bottom.at; top = frame.bottom +ℤ pos h.top.at }) points (λ right. IsNotLarger points size (record (box_of frame h) { right = right }))
     from_left =
         let P = λ (left : ℤ). EachX (record frame { bottom = frame.bottom +ℤ pos h.bottom.at; top = frame.bottom +ℤ pos h.top.at }) points (λ right. IsNotLarger points size (record (box_of frame h) { left = left; right = right })) in
-        x_of frame points obstacles h.bottom.at h.top.at 0 h.left P are.each restricted.left (subst P (plus_none frame.left) in_band.left) in_band.inside
+        x_of frame points obstacles h.bottom.at h.top.at 0 h.left P are.each restricted.left (subst P (sym (+ℤ_idr frame.left)) in_band.left) in_band.inside
 
     in_box : IsNotLarger points size (box_of frame h)
     in_box =

@@ -4,6 +4,7 @@ use Rattle.std.proofs.lemmas.Int.{ints}
 use Rattle.std.proofs.lemmas.Nat.{mul-le}
 use Rattle.std.proofs.lemmas.List.Elements.{All-contains}
 use Rattle.std.proofs.Math.Nat.{eq-one_of_dvd-one}
+use Rattle.std.proofs.Math.IntN.{+ℤ_idr}
 use Rattle.bounds_model.specs.Numbers.{IsWithin}
 use Rattle.bounds_model.specs.Plane.{PlanePoint}
 use Rattle.bounds_model.specs.Fractions.{Fraction}
@@ -11,6 +12,7 @@ use Rattle.bounds_model.specs.Ranges.{IsFraction}
 use Rattle.bounds_model.specs.EmptyRectangle.{Box, IsFrame}
 use Rattle.bounds_model.specs.EmptyAnswer as model
 use Rattle.bounded_coords.specs.declared.cloud.Cloud.{Cloud}
+use Rattle.bounded_coords.proofs.Ranges.{within_more}
 use Rattle.bounds_model.specs.EmptyAnswer.{EmptyRanges, IsBlockerBelow, NamesBlockers, BlocksVertical, BlocksLevel, AreBlocked, NoneLarger, PassesEmpty}
 use Rattle.empty_rectangle.specs.declared.obstacles.Obstacle.{Obstacle}
 use Rattle.empty_rectangle.specs.declared.obstacles.Extent.{Extent}
@@ -24,12 +26,6 @@ use Rattle.empty_rectangle.specs.Answers.{answer_of}
 use Rattle.empty_rectangle.proofs.Frames.{empty_from_free, area_at, NoneLarger-gaps, restricted_not_larger}
 
 -- ---- ranges
-
--- a number within a bound is within a greater one
-pub within_more : {z : ℤ} {m n : ℕ} → IsWithin m z → T (leb m n) → IsWithin n z
-within_more {z} {m} {n} h t =
-    let more : m ≤ n = leb→le m n t in
-    record { low = omega (arith, ints, h.low, more); high = omega (arith, ints, h.high, more) }
 
 -- the area of a rectangle in the frame is not great
 area_below : (obstacles : List Obstacle) (extent : Extent) (h : Rectangle) → IsExtent extent → IsRestricted obstacles extent h → h.area ≤ 160000000000
@@ -77,10 +73,6 @@ level_blocked frame points obstacles low high e frame_y resting_side each at_sid
     let at = (All-contains (IsObstacleOf frame points) obstacles r.obstacle each r.listed).at in
     subst (λ (w : RestingSide). BlocksLevel points frame_y (frame.bottom +ℤ pos w.at) (frame.left +ℤ pos low) (frame.left +ℤ pos high) (blocker_of w.by)) (sym r.is) (at.y, omega (arith, ints, at.x, r.after), omega (arith, ints, at.x, r.before))
 
--- nothing is added
-plus_none : (z : ℤ) → z ≡ (z +ℤ pos 0)
-plus_none z = omega (arith, ints)
-
 -- ---- the answer
 
 -- a cloud has few points, and where there is none, there are none
@@ -122,8 +114,8 @@ restricted_passes frame points extent obstacles h is_frame is of few are restric
   empty = empty_from_free frame points extent obstacles h.left.at h.bottom.at h.right.at h.top.at of restricted.in_right restricted.in_top are.every restricted.free;
   size = ap (λ z. z *ℤ pos 1) (ap pos restricted.area ∙ sym (area_at frame h.left.at h.bottom.at h.right.at h.top.at (omega (arith, restricted.wide)) (omega (arith, restricted.high))));
   blocked = record {
-    left = vertical_blocked frame points obstacles h.bottom.at h.top.at 0 frame.left h.left are.each (plus_none frame.left) restricted.left;
-    bottom = level_blocked frame points obstacles h.left.at h.right.at 0 frame.bottom h.bottom are.each (plus_none frame.bottom) restricted.bottom;
+    left = vertical_blocked frame points obstacles h.bottom.at h.top.at 0 frame.left h.left are.each (sym (+ℤ_idr frame.left)) restricted.left;
+    bottom = level_blocked frame points obstacles h.left.at h.right.at 0 frame.bottom h.bottom are.each (sym (+ℤ_idr frame.bottom)) restricted.bottom;
     right = vertical_blocked frame points obstacles h.bottom.at h.top.at extent.width frame.right h.right are.each of.width restricted.right;
     top = level_blocked frame points obstacles h.left.at h.right.at extent.height frame.top h.top are.each of.height restricted.top;
   };

@@ -8,13 +8,7 @@ use Rattle.integers.proofs.Identities.{den-ring, read, polys}
 use Rattle.bounds_model.specs.Plane.{PlanePoint, vector, cross, turn, IsBefore}
 use Rattle.bounds_model.specs.Hull.{around, AreCorners}
 use Rattle.bounds_model.specs.CornerTest.{CornersPass, FirstIsOnce}
-
--- a left turn, from the corner or from the edge before it
-turn_along : (a b c : PlanePoint) → turn a b c ≡ cross (vector a b) (vector b c)
-turn_along a b c = identity a.x a.y b.x b.y c.x c.y
-  where
-    identity : (p q r s t u : ℤ) → (r -ℤ p) *ℤ (u -ℤ q) -ℤ (s -ℤ q) *ℤ (t -ℤ p) ≡ (r -ℤ p) *ℤ (u -ℤ s) -ℤ (s -ℤ q) *ℤ (t -ℤ r)
-    identity p q r s t u = read (p ∷ q ∷ r ∷ s ∷ t ∷ u ∷ []) (λ xs a b c d e f. simp (a, b, c, d, e, f, polys) (den-ring xs _ _ tt))
+use Rattle.kernel_laws.proofs.PlaneTurns.{turn_along}
 
 -- the first of different corners stands once
 first_once : (a : PlanePoint) (rest : List PlanePoint) → AllPairs (λ p q. p ≢ q) (a ∷ rest) → FirstIsOnce (a ∷ rest)

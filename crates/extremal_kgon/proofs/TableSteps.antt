@@ -18,8 +18,9 @@ use Rattle.extremal_kgon.specs.declared.table.Best.{Best}
 use Rattle.extremal_kgon.specs.Ways.{vector_of, AreWays}
 use Rattle.extremal_kgon.specs.Rows.{at, area_at, IsBestSum, IsNextRow}
 use Rattle.extremal_kgon.specs.Tables.{index, ending, potential_or_zero, IsPotential, StandsAt, IsBestOf, IsFoundAt, IsTable, TakesBest}
-use Rattle.extremal_kgon.proofs.PotentialIndices.{pairs-next, layer-next, layers-below, potential_or_zero-next, potential_or_zero-more, potential_or_zero-row}
+use Rattle.extremal_kgon.proofs.PotentialIndices.{layer-next, layers-below, potential_or_zero-next, potential_or_zero-more, potential_or_zero-row}
 use Rattle.extremal_kgon.proofs.WayAreas.{area-turn, area-limit}
+use Rattle.model_laws.proofs.PairCounts.{pairs-next}
 
 -- the potentials up to a layer of a first corner, the last row of which is also apart
 pub record IsPartTable (corners : List PlanePoint) (layers first layer : ℕ) (us row : List ℤ) (best : Best) : Type 0 where

@@ -5,8 +5,8 @@ use Rattle.std.specs.Prelude.{List}
 use Rattle.bounds_model.specs.Plane.{PlanePoint}
 use Rattle.bounds_model.specs.Ranges.{IsDirection, point_limit}
 use Rattle.bounds_model.specs.Fans.{HalfFan, QuarterFan, HalfRanges, QuarterRanges, IsShort, half_directions, quarter_directions}
-use Rattle.directions.proofs.SpanBounds.{direction_of_short}
 use Rattle.fan_checks.specs.Limits.{HasHalfLimits, HasQuarterLimits}
+use Rattle.bounded_coords.proofs.Ranges.{direction_of_short}
 
 -- a fan over half a turn
 pub half_ranges : (points : List PlanePoint) (fan : HalfFan) → length points ≤ 10000 → HasHalfLimits points fan → HalfRanges fan

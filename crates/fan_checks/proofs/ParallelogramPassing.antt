@@ -12,9 +12,10 @@ use Rattle.bounds_model.specs.Parallelogram.{parallelogram_size}
 use Rattle.bounds_model.specs.Fans.{HalfFan, HoldsHalf, half_directions, IsShort}
 use Rattle.bounds_model.specs.StripAnswer.{IsShortSpan}
 use Rattle.bounds_model.specs.ParallelogramAnswer.{Chord, ParallelogramAnswer, parallelogram_of, ChordRanges, NamesEnds, IsShortChord, IsAcross, IsNotSmallerAt, PassesParallelogram}
-use Rattle.directions.proofs.SpanBounds.{within_more, direction_of_short, short_span}
+use Rattle.directions.proofs.SpanBounds.{short_span}
 use Rattle.fan_checks.specs.Limits.{HasHalfLimits, HasChordLimits}
 use Rattle.fan_checks.proofs.FanRanges.{half_ranges}
+use Rattle.bounded_coords.proofs.Ranges.{within_more, direction_of_short}
 
 -- the weights of a chord are not below 0
 pub record HasNaturalWeights (chord : Chord) : Type 0 where

@@ -10,8 +10,9 @@ use Rattle.bounds_model.specs.Fans.{HoldsQuarter, quarter_directions, AtBothEnds
 use Rattle.bounds_model.specs.StripAnswer.{IsShortSpan}
 use Rattle.bounds_model.specs.RectangleAnswer.{RectangleAnswer, rectangle_of, IsNotSmaller, PassesRectangle}
 use Rattle.fan_checks.specs.Limits.{HasQuarterLimits, HasNormalLimits}
-use Rattle.directions.proofs.SpanBounds.{direction_of_short, short_span}
+use Rattle.directions.proofs.SpanBounds.{short_span}
 use Rattle.fan_checks.proofs.FanRanges.{quarter_ranges}
+use Rattle.bounded_coords.proofs.Ranges.{direction_of_short}
 
 pub rectangle_passes : (points : List PlanePoint) (a : RectangleAnswer) → length points ≤ 10000 → IsFraction a.size → HasQuarterLimits points a.fan → HasNormalLimits a.direction a.along → IsShortSpan a.across
     → SameValue a.size (rectangle_size (rectangle_of a)) → HoldsQuarter points a.fan → AtBothEnds (quarter_directions a.fan) (IsNotSmaller points a.size) a.fan.cones

@@ -8,8 +8,9 @@ use Rattle.bounds_model.specs.Strip.{IsInSpan, strip_size}
 use Rattle.bounds_model.specs.Fans.{HoldsHalf, half_directions, AtBothEnds}
 use Rattle.bounds_model.specs.StripAnswer.{StripAnswer, strip_of, IsNotThinner, PassesStrip}
 use Rattle.fan_checks.specs.Limits.{HasHalfLimits, HasNormalLimits}
-use Rattle.directions.proofs.SpanBounds.{direction_of_short, short_span}
+use Rattle.directions.proofs.SpanBounds.{short_span}
 use Rattle.fan_checks.proofs.FanRanges.{half_ranges}
+use Rattle.bounded_coords.proofs.Ranges.{direction_of_short}
 
 pub strip_passes : (points : List PlanePoint) (a : StripAnswer) → length points ≤ 10000 → IsFraction a.size → HasHalfLimits points a.fan → HasNormalLimits a.direction a.bounds
     → SameValue a.size (strip_size (strip_of a)) → HoldsHalf points a.fan → AtBothEnds (half_directions a.fan) (IsNotThinner points a.size) a.fan.cones

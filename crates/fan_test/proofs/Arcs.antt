@@ -7,6 +7,7 @@ use Rattle.std.specs.Prelude.{List, All}
 use Rattle.std.proofs.lemmas.List.Elements.{All-contains}
 use Rattle.bounds_model.specs.Plane.{PlanePoint, dot, cross, vector}
 use Rattle.fan_test.specs.Chains.{Turns, IsBelowAll, AreJoined, IsWithinEach, IsWithin, IsArc, AreEdges, IsEdgeFor, AreListed, Encloses}
+use Rattle.directions.proofs.Reaches.{dot_vector}
 
 -- ---- three directions
 
@@ -19,13 +20,6 @@ between_is ux uy dx dy ex ey wx wy = read (ux ∷ uy ∷ dx ∷ dy ∷ ex ∷ ey
 beyond_is : (ux uy dx dy ex ey wx wy : ℤ)
     → (ux *ℤ dy -ℤ uy *ℤ dx) *ℤ (ex *ℤ wx +ℤ ey *ℤ wy) ≡ (ux *ℤ ey -ℤ uy *ℤ ex) *ℤ (dx *ℤ wx +ℤ dy *ℤ wy) +ℤ (dx *ℤ ey -ℤ dy *ℤ ex) *ℤ neg_ℤ (ux *ℤ wx +ℤ uy *ℤ wy)
 beyond_is ux uy dx dy ex ey wx wy = read (ux ∷ uy ∷ dx ∷ dy ∷ ex ∷ ey ∷ wx ∷ wy ∷ []) (λ xs a b c d e f g h. simp (a, b, c, d, e, f, g, h, polys) (den-ring xs _ _ tt))
-
--- the product with a difference
-dot_vector : (d p q : PlanePoint) → dot d (vector p q) ≡ dot d q -ℤ dot d p
-dot_vector d p q = parts d.x d.y p.x p.y q.x q.y
-  where
-    parts : (dx dy px py qx qy : ℤ) → dx *ℤ (qx -ℤ px) +ℤ dy *ℤ (qy -ℤ py) ≡ (dx *ℤ qx +ℤ dy *ℤ qy) -ℤ (dx *ℤ px +ℤ dy *ℤ py)
-    parts dx dy px py qx qy = read (dx ∷ dy ∷ px ∷ py ∷ qx ∷ qy ∷ []) (λ xs a b c d e f. simp (a, b, c, d, e, f, polys) (den-ring xs _ _ tt))
 
 -- q is at least as far along d as p
 further : (d p q : PlanePoint) → dot d p ≤ℤ dot d q → pos 0 ≤ℤ dot d (vector p q)

@@ -5,18 +5,12 @@ use Rattle.integers.proofs.Order.{le_from_lt, le_of_same}
 use Rattle.integers.proofs.Lists.{below_or_at}
 use Rattle.bounds_model.specs.Plane.{PlanePoint, cross, dot}
 use Rattle.fan_test.specs.Chains.{Turns, AreJoined, IsLevel, IsArc, AreEdges}
-
--- no vector is to the left of itself
-aside : (u : PlanePoint) → cross u u ≡ pos 0
-aside u = none u.x u.y
-  where
-    none : (x y : ℤ) → x *ℤ y -ℤ y *ℤ x ≡ pos 0
-    none x y = read (x ∷ y ∷ []) (λ xs a b. simp (a, b, polys, lits xs) (den-ring xs _ _ tt))
+use Rattle.model_laws.proofs.CornerLaw.{cross_self}
 
 -- the direction before the end of an arc is not to the right of the first
 pub beside : (D H : ℕ → PlanePoint) (from to k : ℕ) → to ≡ k + 1 → from < to → IsArc D H from to → pos 0 ≤ℤ cross (D from) (D k)
 beside D H from to k is some arc = elim (first_or_later k is) [
-  | inl same ↦ subst (λ j. pos 0 ≤ℤ cross (D from) (D j)) same (le_of_same (sym (aside (D from))))
+  | inl same ↦ subst (λ j. pos 0 ≤ℤ cross (D from) (D j)) same (le_of_same (sym (cross_self (D from))))
   | inr later ↦ subst (λ j. pos 0 ≤ℤ cross (D from) (D j)) later.1.1 (le_from_lt (arc.left later.0 later.1.0 (omega (arith, later.1.1))))
 ]
   where

@@ -9,7 +9,8 @@ use Rattle.std.proofs.lemmas.List.Elements.{All-contains}
 use Rattle.integers.proofs.Identities.{den-ring, read, polys}
 use Rattle.bounds_model.specs.Plane.{PlanePoint, point_at, origin, dot, turn}
 use Rattle.bounds_model.specs.Hull.{around}
-use Rattle.hull_calipers.proofs.Turns.{joint, apart, turn-around}
+use Rattle.hull_calipers.proofs.Turns.{joint, apart, turn-around, farther_moved, left_moved, turns_moved}
+use Rattle.model_laws.proofs.CornerLaw.{around-below}
 
 -- the corners l of a chain along d, and u of the chain back, both with all points to the left of their edges
 pub record TwoMonotoneChains (points : List PlanePoint) (d : PlanePoint) (l u : ℕ → PlanePoint) (m k : ℕ) : Type 0 where
@@ -40,9 +41,6 @@ below_length n i h = ap (λ v. v % n) (let e : i ≡ 0 * n + i = omega arith in 
 once_around : (n i : ℕ) → i < n → (n + i) % n ≡ i
 once_around n i h = ap (λ v. v % n) (let e : n + i ≡ 1 * n + i = omega arith in e) ∙ mod-mul-add 1 n i h
 
-pub around_at : (corners : List PlanePoint) (i : ℕ) → i < length corners → around corners i ≡ point_at corners i
-around_at corners i h = ap (point_at corners) (below_length (length corners) i h)
-
 pub around_again : (corners : List PlanePoint) (i : ℕ) → i < length corners → around corners (length corners + i) ≡ point_at corners i
 around_again corners i h = ap (point_at corners) (once_around (length corners) i h)
 
@@ -52,9 +50,9 @@ at_low points corners d l u m k two cycle j i e h = elim (cases_order i m) [
   | inl last ↦
       let some : 1 ≤ k = two.up_some in
       let count : length corners ≡ m + k = cycle.count in
-      ap (around corners) (e ∙ last ∙ omega arith) ∙ around_at corners (m + 0) (omega arith) ∙ cycle.up 0 (omega arith) ∙ sym two.meets ∙ ap l (sym last)
+      ap (around corners) (e ∙ last ∙ omega arith) ∙ around-below corners (m + 0) (omega arith) ∙ cycle.up 0 (omega arith) ∙ sym two.meets ∙ ap l (sym last)
   | inr rest ↦ elim rest [
-    | inl less ↦ let count : length corners ≡ m + k = cycle.count in ap (around corners) e ∙ around_at corners i (omega arith) ∙ cycle.low i less
+    | inl less ↦ let count : length corners ≡ m + k = cycle.count in ap (around corners) e ∙ around-below corners i (omega arith) ∙ cycle.low i less
     | inr more ↦ absurd (omega arith)
   ]
 ]
@@ -67,7 +65,7 @@ at_up points corners d l u m k two cycle j i e h = elim (cases_order i k) [
       let count : length corners ≡ m + k = cycle.count in
       ap (around corners) (let e' : j ≡ length corners + 0 = omega arith in e') ∙ around_again corners 0 (omega arith) ∙ cycle.low 0 (omega arith) ∙ sym two.closes ∙ ap u (sym last)
   | inr rest ↦ elim rest [
-    | inl less ↦ let count : length corners ≡ m + k = cycle.count in ap (around corners) e ∙ around_at corners (m + i) (omega arith) ∙ cycle.up i less
+    | inl less ↦ let count : length corners ≡ m + k = cycle.count in ap (around corners) e ∙ around-below corners (m + i) (omega arith) ∙ cycle.up i less
     | inr more ↦ absurd (omega arith)
   ]
 ]
@@ -78,18 +76,9 @@ at_second points corners d l u m k two cycle j e =
     let low : 1 ≤ m = two.low_some in
     let up : 1 ≤ k = two.up_some in
     let count : length corners ≡ m + k = cycle.count in
-    ap (around corners) (let e' : j ≡ length corners + 1 = omega arith in e') ∙ around_again corners 1 (omega arith) ∙ sym (around_at corners 1 (omega arith)) ∙ at_low points corners d l u m k two cycle 1 1 refl (omega arith)
+    ap (around corners) (let e' : j ≡ length corners + 1 = omega arith in e') ∙ around_again corners 1 (omega arith) ∙ sym (around-below corners 1 (omega arith)) ∙ at_low points corners d l u m k two cycle 1 1 refl (omega arith)
 
 -- ---- turns
-
-left_moved : (a a' b b' c : PlanePoint) → a ≡ a' → b ≡ b' → pos 0 ≤ℤ turn a' b' c → pos 0 ≤ℤ turn a b c
-left_moved a a' b b' c p q h = subst (λ v. pos 0 ≤ℤ turn v b c) (sym p) (subst (λ v. pos 0 ≤ℤ turn a' v c) (sym q) h)
-
-turns_moved : (a a' b b' c c' : PlanePoint) → a ≡ a' → b ≡ b' → c ≡ c' → pos 0 <ℤ turn a' b' c' → pos 0 <ℤ turn a b c
-turns_moved a a' b b' c c' p q r h = subst (λ v. pos 0 <ℤ turn v b c) (sym p) (subst (λ v. pos 0 <ℤ turn a' v c) (sym q) (subst (λ v. pos 0 <ℤ turn a' b' v) (sym r) h))
-
-farther_moved : (d a a' b b' : PlanePoint) → a ≡ a' → b ≡ b' → dot d a' <ℤ dot d b' → dot d a <ℤ dot d b
-farther_moved d a a' b b' p q h = subst (λ v. dot d v <ℤ dot d b) (sym p) (subst (λ v. dot d a' <ℤ dot d v) (sym q) h)
 
 -- at the farthest corner, where the chain up to b meets the chain from it
 turns_at_last : (points : List PlanePoint) (d : PlanePoint) (l u : ℕ → PlanePoint) (m k n : ℕ) → TwoMonotoneChains points d l u m k → n + 1 ≡ m → 3 ≤ m + k → pos 0 <ℤ turn (l n) (u 0) (u 1)

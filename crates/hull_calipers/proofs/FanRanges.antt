@@ -8,12 +8,7 @@ use Rattle.bounds_model.specs.Ranges.{IsDirection, number_limit}
 use Rattle.bounds_model.specs.Fans.{HalfFan, HalfRanges, QuarterFan, QuarterRanges, half_directions, quarter_directions, IsShort, direction_limit, east, west, north}
 use Rattle.hull_calipers.specs.Fans.{IsPath, IsHalfPath, IsExtremeHalfCone, IsHalfDirection, IsQuarterPath, IsExtremeQuarterCone, IsQuarterDirection}
 use Rattle.hull_calipers.proofs.Paths.{length_path, path_last}
-
-wide : (z : ℤ) → IsWithin direction_limit z → IsWithin number_limit z
-wide z h = let l = h.low in let k = h.high in record { low = omega (arith, ints, l); high = omega (arith, ints, k) }
-
-direction_of_short : (d : PlanePoint) → IsShort d → IsDirection d
-direction_of_short d h = record { x = wide d.x h.x; y = wide d.y h.y }
+use Rattle.bounded_coords.proofs.Ranges.{direction_of_short}
 
 -- a path that ends elsewhere than to the right has a cone
 some_cone : {C : Type 0} (f : C → PlanePoint) (E : PlanePoint → C → Type 0) (D : PlanePoint → Type 0) (cones : List C) (d : PlanePoint) → IsPath f E D cones d → (east ≡ d → ⊥) → 1 ≤ length cones

@@ -8,11 +8,10 @@ use Rattle.std.proofs.lemmas.List.Elements.{All-from_get_or}
 use Rattle.std.proofs.lemmas.Map.Keys.{IsDistinct-from_apart}
 use Rattle.std.proofs.lemmas.Map.Steps.{length-le_from_distinct_below}
 use Rattle.integers.proofs.Identities.{den-ring, read, polys}
-use Rattle.integers.proofs.Order.{positive_mul, positive_add, le_from_lt, same_of_mul}
+use Rattle.integers.proofs.Order.{positive_mul, positive_add, le_from_lt, same_of_mul, positive_of_mul}
 use Rattle.bounds_model.specs.Plane.{PlanePoint, point_at, origin, dot, cross}
 use Rattle.bounds_model.specs.Fans.{TurnLeft, east, west, north}
 use Rattle.bounds_model.specs.PlainFans.{edge, IsNormal, IsNormalOrParallel, IsPlainHalf, IsPlainQuarter}
-use Rattle.hull_calipers.proofs.Turns.{positive_of_mul}
 use Rattle.hull_calipers.proofs.Counts.{not_equal, listed_below}
 
 -- ---- the pigeonhole principle
@@ -54,7 +53,7 @@ trans_identity : (a b c : PlanePoint) → b.y *ℤ cross a c ≡ a.y *ℤ cross 
 trans_identity a b c = read (a.x ∷ a.y ∷ b.x ∷ b.y ∷ c.x ∷ c.y ∷ []) (λ xs d e f g h i. simp (d, e, f, g, h, i, polys) (den-ring xs _ _ tt))
 
 left_trans : (a b c : PlanePoint) → pos 0 <ℤ a.y → pos 0 <ℤ b.y → pos 0 <ℤ c.y → pos 0 <ℤ cross a b → pos 0 <ℤ cross b c → pos 0 <ℤ cross a c
-left_trans a b c ha hb hc ab bc = positive_of_mul b.y hb (subst (λ v. pos 0 <ℤ v) (sym (trans_identity a b c)) (positive_add (positive_mul ha bc) (le_from_lt (positive_mul hc ab))))
+left_trans a b c ha hb hc ab bc = positive_of_mul b.y (le_from_lt hb) (subst (λ v. pos 0 <ℤ v) (sym (trans_identity a b c)) (positive_add (positive_mul ha bc) (le_from_lt (positive_mul hc ab))))
 
 -- above a line, each direction is to the left of all before it
 left_of_all : (ds : List PlanePoint) (n : ℕ) → ((i : ℕ) → i < n → pos 0 <ℤ (point_at ds (i + 1)).y) → ((i : ℕ) → i + 1 < n → pos 0 <ℤ cross (point_at ds (i + 1)) (point_at ds (i + 2))) → (i k : ℕ) → i < k → k < n → pos 0 <ℤ cross (point_at ds (i + 1)) (point_at ds (k + 1))

@@ -15,7 +15,8 @@ use Rattle.hull_calipers.specs.Hulls.{IsFirst, IsLast, IsHull}
 use Rattle.hull_calipers.proofs.Turns.{turn-itself}
 use Rattle.hull_calipers.proofs.Orders.{before_from_along}
 use Rattle.hull_calipers.proofs.Retreats.{numbered_at}
-use Rattle.hull_calipers.proofs.Cycles.{TwoMonotoneChains, IsCycle, opposite, opposite-dot, cycle_turns, cycle_left, cycle_distinct, around_at, climb}
+use Rattle.hull_calipers.proofs.Cycles.{TwoMonotoneChains, IsCycle, opposite, opposite-dot, cycle_turns, cycle_left, cycle_distinct, climb}
+use Rattle.model_laws.proofs.CornerLaw.{around-below}
 
 -- ---- the first and the last point
 
@@ -89,7 +90,7 @@ hull_of_one points keys numbers order listed chain one = record {
     count = length-map numbers (point_at points) ∙ one
 
     at_first : around (numbered points numbers) 0 ≡ point_at (numbered points numbers) 0
-    at_first = around_at (numbered points numbers) 0 (omega arith)
+    at_first = around-below (numbered points numbers) 0 (omega arith)
 
     same_corner : (i : ℕ) → i ≡ 0 → around (numbered points numbers) i ≡ around (numbered points numbers) (i + 1)
     same_corner i none = ap (point_at (numbered points numbers)) (ap (λ n. i % n) count ∙ (let e : i % 1 ≡ (i + 1) % 1 = omega arith in e) ∙ ap (λ n. (i + 1) % n) (sym count))
@@ -240,12 +241,12 @@ hull_of_halves points keys lower upper h = record {
     cycle = is_cycle points lower upper (length lower - 1) (length upper - 1) (omega arith) (omega arith)
 
     at_first : around (numbered points (take (length lower - 1) lower ++ take (length upper - 1) upper)) 0 ≡ point_at (numbered points lower) 0
-    at_first = around_at (numbered points (take (length lower - 1) lower ++ take (length upper - 1) upper)) 0 (omega (arith, cycle.count, two.low_some)) ∙ cycle.low 0 (omega (arith, two.low_some))
+    at_first = around-below (numbered points (take (length lower - 1) lower ++ take (length upper - 1) upper)) 0 (omega (arith, cycle.count, two.low_some)) ∙ cycle.low 0 (omega (arith, two.low_some))
 
     at_last : length (numbered points (take (length lower - 1) lower ++ take (length upper - 1) upper)) ≡ 2 → around (numbered points (take (length lower - 1) lower ++ take (length upper - 1) upper)) 1 ≡ point_at (numbered points lower) (length lower - 1)
     at_last e =
         let one : length lower - 1 ≡ 1 = omega (arith, cycle.count, two.low_some, two.up_some, e) in
-        around_at (numbered points (take (length lower - 1) lower ++ take (length upper - 1) upper)) 1 (omega (arith, e)) ∙ ap (point_at (numbered points (take (length lower - 1) lower ++ take (length upper - 1) upper))) (let e' : 1 ≡ length lower - 1 + 0 = omega arith in e')
+        around-below (numbered points (take (length lower - 1) lower ++ take (length upper - 1) upper)) 1 (omega (arith, e)) ∙ ap (point_at (numbered points (take (length lower - 1) lower ++ take (length upper - 1) upper))) (let e' : 1 ≡ length lower - 1 + 0 = omega arith in e')
         ∙ cycle.up 0 (omega (arith, two.up_some)) ∙ sym two.meets
 
     both : (P : ℕ → Type 0) → All P lower → All P upper → All P (take (length lower - 1) lower ++ take (length upper - 1) upper)

@@ -11,6 +11,7 @@ use Rattle.kernel_laws.specs.Limits.{IsVectorWithin, IsDifference}
 use Rattle.kernel_laws.specs.Solutions.{AreItems}
 use Rattle.kernel_laws.specs.Systems.{cross}
 use Rattle.kernel_laws.proofs.Shown.{of_plane_of_four}
+use Rattle.kernel_laws.proofs.Three.{flat_difference}
 
 -- the sizes of four items
 pub record FourItems (dim : ℕ) (a b c d : SpacePoint) : Type 0 where
@@ -37,10 +38,6 @@ pub record SpaceItems (a b c d : SpacePoint) : Type 0 where
 pub space_items : (a b c d : SpacePoint) → FourItems 3 a b c d → SpaceItems a b c d
 space_items a b c d h = record { first = h.first.within; second = h.second.within; third = h.third.within; fourth = h.fourth.within }
 
--- a difference of vectors of the plane has no height
-pub flat_height : (dim : ℕ) (a x : SpacePoint) → IsDifference dim a → IsDifference dim x → dim ≡ 2 → (vector a x).z ≡ pos 0
-flat_height dim a x ha hx e = let l = ha.flat e in let r = hx.flat e in omega (arith, ints)
-
 -- two vectors of the plane whose cross product is not zero have one with a height
 pub no_height : (u v : SpacePoint) → u.z ≡ pos 0 → v.z ≡ pos 0 → pos 0 <ℤ squared_length (cross u v) → (cross u v).z ≡ pos 0 → ⊥
 no_height u v uz vz apart e =
@@ -54,9 +51,9 @@ no_height u v uz vz apart e =
 pub heights_shown : (quadratic : ℤ) (dim : ℕ) (a b c d : SpacePoint) {p q s : ℤ} → AreItems quadratic dim (a ∷ b ∷ c ∷ d ∷ []) → dim ≡ 2 → p ≡ (cross (vector a d) (vector a c)).z → q ≡ (cross (vector a b) (vector a d)).z → s ≡ (cross (vector a b) (vector a c)).z → pos 0 <ℤ squared_length (cross (vector a b) (vector a c)) → IsDependence (a ∷ b ∷ c ∷ d ∷ []) ((s -ℤ p -ℤ q) ∷ p ∷ q ∷ neg_ℤ s ∷ [])
 heights_shown quadratic dim a b c d {p} {q} {s} h two ep eq es apart =
     let items : FourItems dim a b c d = four_items quadratic dim a b c d h in
-    let uz : (vector a b).z ≡ pos 0 = flat_height dim a b items.first items.second two in
-    let vz : (vector a c).z ≡ pos 0 = flat_height dim a c items.first items.third two in
-    let wz : (vector a d).z ≡ pos 0 = flat_height dim a d items.first items.fourth two in
+    let uz : (vector a b).z ≡ pos 0 = flat_difference dim a b items.first items.second two in
+    let vz : (vector a c).z ≡ pos 0 = flat_difference dim a c items.first items.third two in
+    let wz : (vector a d).z ≡ pos 0 = flat_difference dim a d items.first items.fourth two in
     of_plane_of_four a b c d p q s ep eq es (λ e. no_height (vector a b) (vector a c) uz vz apart (sym es ∙ e)) uz vz wz
 
 -- the bounds of four items of three dimensions

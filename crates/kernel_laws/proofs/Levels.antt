@@ -3,10 +3,12 @@ use Rattle.std.proofs.Common.{◌≡◌, refl, sym, ◌∙◌, ap, ap₂, subst,
 use Rattle.std.specs.Prelude.{All}
 use Rattle.std.proofs.lemmas.Int.{ints, unsigned_abs-mul}
 use Rattle.std.proofs.lemmas.List.Elements.{All-nil, All-cons, All-head, All-tail}
+use Rattle.std.proofs.Math.IntN.{*ℤ-zero}
 use Rattle.integers.specs.Size.{Size}
 use Rattle.integers.specs.Total.{total}
 use Rattle.integers.proofs.Identities.{den-ring, read, polys, lits}
 use Rattle.integers.proofs.Order.{same_of_mul, lt_of_mul_lt}
+use Rattle.integers.proofs.RingLaws.{*ℤ-+ℤ}
 use Rattle.bounds_model.specs.Space.{SpacePoint, plus, times, dot, squared_length}
 use Rattle.bounds_model.specs.Slacks.{mass, moment, slack, AreEqualSlacks}
 use Rattle.kernel_laws.specs.Solutions.{weighted, IsWeighting, Reduces}
@@ -18,28 +20,22 @@ scaled k ws = map (λ e. k *ℤ e) ws
 
 -- ---- k times the weights
 
-add_scaled : (k a b : ℤ) → k *ℤ a +ℤ k *ℤ b ≡ k *ℤ (a +ℤ b)
-add_scaled k a b = read (k ∷ a ∷ b ∷ []) (λ xs p q r. simp (p, q, r, polys) (den-ring xs _ _ tt))
-
-zero_is_scaled : (k : ℤ) → pos 0 ≡ k *ℤ pos 0
-zero_is_scaled k = omega (arith, ints)
-
 -- the sum of the weights is k times as great
 pub total-scaled : (k : ℤ) (ws : List ℤ) → total (λ w. w) (scaled k ws) ≡ k *ℤ total (λ w. w) ws
-total-scaled k [] = zero_is_scaled k
-total-scaled k (w ∷ ws) = ap (λ t. k *ℤ w +ℤ t) (total-scaled k ws) ∙ add_scaled k w (total (λ w. w) ws)
+total-scaled k [] = sym (*ℤ-zero k)
+total-scaled k (w ∷ ws) = ap (λ t. k *ℤ w +ℤ t) (total-scaled k ws) ∙ sym (*ℤ-+ℤ k w (total (λ w. w) ws))
 
 mass-scaled : (k : ℤ) (ws : List ℤ) (vs : List SpacePoint) → mass (weighted (scaled k ws) vs) ≡ k *ℤ mass (weighted ws vs)
-mass-scaled k [] vs = zero_is_scaled k
-mass-scaled k (w ∷ ws) [] = zero_is_scaled k
-mass-scaled k (w ∷ ws) (v ∷ vs) = ap (λ t. k *ℤ w +ℤ t) (mass-scaled k ws vs) ∙ add_scaled k w (mass (weighted ws vs))
+mass-scaled k [] vs = sym (*ℤ-zero k)
+mass-scaled k (w ∷ ws) [] = sym (*ℤ-zero k)
+mass-scaled k (w ∷ ws) (v ∷ vs) = ap (λ t. k *ℤ w +ℤ t) (mass-scaled k ws vs) ∙ sym (*ℤ-+ℤ k w (mass (weighted ws vs)))
 
 one_more : (k w c s : ℤ) → k *ℤ w *ℤ c +ℤ k *ℤ s ≡ k *ℤ (w *ℤ c +ℤ s)
 one_more k w c s = read (k ∷ w ∷ c ∷ s ∷ []) (λ xs p q r t. simp (p, q, r, t, polys) (den-ring xs _ _ tt))
 
 moment-scaled : (k : ℤ) (ws : List ℤ) (vs : List SpacePoint) → moment (weighted (scaled k ws) vs) ≡ times k (moment (weighted ws vs))
-moment-scaled k [] vs = same_point (zero_is_scaled k) (zero_is_scaled k) (zero_is_scaled k)
-moment-scaled k (w ∷ ws) [] = same_point (zero_is_scaled k) (zero_is_scaled k) (zero_is_scaled k)
+moment-scaled k [] vs = same_point (sym (*ℤ-zero k)) (sym (*ℤ-zero k)) (sym (*ℤ-zero k))
+moment-scaled k (w ∷ ws) [] = same_point (sym (*ℤ-zero k)) (sym (*ℤ-zero k)) (sym (*ℤ-zero k))
 moment-scaled k (w ∷ ws) (v ∷ vs) =
     let m = moment (weighted ws vs) in
     ap (λ s. plus (times (k *ℤ w) v) s) (moment-scaled k ws vs)

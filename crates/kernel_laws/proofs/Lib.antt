@@ -1,4 +1,6 @@
 pub mod Points
+pub mod PlaneTurns
+pub mod WeightedSums
 pub mod Signed
 pub mod SideLimits
 pub mod Levels

@@ -1,9 +1,10 @@
 -- Points and vectors by their coordinates.
-use Rattle.std.proofs.Common.{◌≡◌, refl, ap, ap₂, ◌∙◌, ℤ, zero, suc, pos, negsuc, ◌*ℤ◌, ◌<ℤ◌, ◌≤ℤ◌, ◌⊎◌, inl, inr, arith}
+use Rattle.std.proofs.Common.{◌≡◌, refl, ap, ap₂, ◌∙◌, ℤ, zero, suc, pos, negsuc, ◌*ℤ◌, ◌<ℤ◌, ◌≤ℤ◌, ◌⊎◌, inl, inr, arith, ℕ, List, [], ◌∷◌, map}
 use Rattle.std.proofs.lemmas.Int.{ints, by_lt_z}
+use Rattle.std.specs.Prelude.{slice_get, Some}
 use Rattle.integers.specs.Size.{Size}
-use Rattle.integers.proofs.Order.{square_nonneg, square_positive, zero_of_square}
-use Rattle.bounds_model.specs.Space.{SpacePoint, origin, squared_length}
+use Rattle.integers.proofs.Order.{square_nonneg, square_positive, zero_of_square, nonneg_add}
+use Rattle.bounds_model.specs.Space.{SpacePoint, origin, squared_length, point_at}
 use Rattle.kernel_laws.specs.Signs.{determinant}
 
 -- points with equal coordinates are equal
@@ -26,3 +27,13 @@ squared_length_positive v h =
     let yy = square_nonneg v.y in
     let zz = square_nonneg v.z in
     absurd (h (same_point (zero_of_square v.x (omega (arith, ints))) (zero_of_square v.y (omega (arith, ints))) (zero_of_square v.z (omega (arith, ints))))))
+
+-- a squared length is not below 0
+pub squared_length_nonneg : (v : SpacePoint) → pos 0 ≤ℤ squared_length v
+squared_length_nonneg v = nonneg_add (nonneg_add (square_nonneg v.x) (square_nonneg v.y)) (square_nonneg v.z)
+
+-- the coordinates of the point of a number
+pub point_at_place : {P : Type 0} (place : P → SpacePoint) (points : List P) (i : ℕ) (p : P) → slice_get points i ≡ Some p → point_at (map place points) i ≡ place p
+point_at_place place [] i p h = cc
+point_at_place place (q ∷ points) zero p h = let e : q ≡ p = cc in ap place e
+point_at_place place (q ∷ points) (suc i) p h = point_at_place place points i p h

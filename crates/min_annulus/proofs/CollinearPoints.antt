@@ -1,6 +1,7 @@
 -- Points on one line, as seen from the middle between the least and the greatest.
 use Rattle.std.proofs.Common.{◌≡◌, refl, sym, ◌∙◌, ap, ap₂, subst, ℕ, ◌<◌, ◌^◌, ℤ, pos, negsuc, ◌+ℤ◌, ◌-ℤ◌, ◌*ℤ◌, neg_ℤ, ◌≤ℤ◌, ◌<ℤ◌, List, [], ◌∷◌, ◌++◌, length, arith}
 use Rattle.std.proofs.lemmas.Int.{ints, by_lt_z}
+use Rattle.std.proofs.Math.IntN.{zero-*ℤ}
 use Rattle.integers.specs.Size.{Size}
 use Rattle.integers.proofs.Sizes.{below_size, above_size}
 use Rattle.integers.proofs.Identities.{den-ring, read, polys, lits, below_lits}
@@ -62,9 +63,6 @@ right_part h k = omega (arith, ints)
 plain_rest : (ex ey ux uy : ℤ) → ex *ℤ uy -ℤ ey *ℤ ux ≡ pos 0 → ex *ℤ (ey -ℤ uy) -ℤ ey *ℤ (ex -ℤ ux) ≡ pos 0
 plain_rest ex ey ux uy h = combine1 (negsuc 0) h (read (ex ∷ ey ∷ ux ∷ uy ∷ []) (λ xs a b c d. simp (a, b, c, d, polys, lits xs, below_lits xs) (den-ring xs _ _ tt)))
 
-no_inside : (ex ey : ℤ) → pos 0 *ℤ ex +ℤ pos 0 *ℤ ey ≡ pos 0
-no_inside ex ey = omega (arith, ints)
-
 -- a point between the ends sees them in opposite directions
 pub inside_nonneg : (ex ey ux uy : ℤ) → Size 400000 ey → Size 400000 uy → ex *ℤ uy -ℤ ey *ℤ ux ≡ pos 0 → pos 0 ≤ℤ (pos (2 ^ 19) *ℤ ux +ℤ uy) → pos 0 ≤ℤ (pos (2 ^ 19) *ℤ (ex -ℤ ux) +ℤ (ey -ℤ uy))
     → pos 0 ≤ℤ (ux *ℤ (ex -ℤ ux) +ℤ uy *ℤ (ey -ℤ uy))
@@ -80,7 +78,7 @@ inside_nonneg ex ey ux uy hey huy parallel ahead behind =
     at_start : ex ≡ pos 0 → ey ≡ pos 0 → pos 0 ≤ℤ (ux *ℤ (ex -ℤ ux) +ℤ uy *ℤ (ey -ℤ uy))
     at_start x y =
         let zero = nothing ux uy huy (omega (arith, ints)) in
-        subst (λ z. pos 0 ≤ℤ z) (sym (ap₂ (λ a b. a *ℤ (ex -ℤ a) +ℤ b *ℤ (ey -ℤ b)) zero.0 zero.1 ∙ no_inside (ex -ℤ pos 0) (ey -ℤ pos 0))) (omega (arith, ints))
+        subst (λ z. pos 0 ≤ℤ z) (sym (ap₂ (λ a b. a *ℤ (ex -ℤ a) +ℤ b *ℤ (ey -ℤ b)) zero.0 zero.1 ∙ no_product (ex -ℤ pos 0) (ey -ℤ pos 0))) (omega (arith, ints))
 
 -- ---- the levels around the middle
 
@@ -138,9 +136,6 @@ plain_left : (ax ay bx by qx qy : ℤ) → (bx -ℤ ax) *ℤ (qx -ℤ ax) +ℤ (
 plain_left ax ay bx by qx qy = read (ax ∷ ay ∷ bx ∷ by ∷ qx ∷ qy ∷ []) (λ xs a b c d e f. simp (a, b, c, d, e, f, polys) (den-ring xs _ _ tt))
 
 -- ---- what the pairs show
-
-none : (z : ℤ) → pos 0 *ℤ z ≡ pos 0
-none z = omega (arith, ints)
 
 above : {s l q : ℤ} → s ≡ l +ℤ q → pos 0 <ℤ l → pos 0 ≤ℤ q → pos 0 <ℤ s
 above e h k = omega (arith, ints)
@@ -235,7 +230,7 @@ two_show points first last e whole done left right line extremes hw w1 w2 hd d1 
 
     sum_of : (g : PlanePoint → ℤ) → weighted_differences points g (weighted left u ++ weighted right v) ≡ u *ℤ (g a -ℤ g q) +ℤ v *ℤ (g b -ℤ g q)
     sum_of g =
-        total_two (λ pair. pair.weight *ℤ (g (point_at points pair.first) -ℤ g (point_at points pair.second))) left right u v (le_from_lt some_u) (le_from_lt some_v) (none (g (point_at points left.first) -ℤ g (point_at points left.second))) (none (g (point_at points right.first) -ℤ g (point_at points right.second)))
+        total_two (λ pair. pair.weight *ℤ (g (point_at points pair.first) -ℤ g (point_at points pair.second))) left right u v (le_from_lt some_u) (le_from_lt some_v) (zero-*ℤ (g (point_at points left.first) -ℤ g (point_at points left.second))) (zero-*ℤ (g (point_at points right.first) -ℤ g (point_at points right.second)))
         ∙ ap₂ (λ s t. u *ℤ s +ℤ v *ℤ t) (ap₂ (λ i j. g (point_at points i) -ℤ g (point_at points j)) l1 l2) (ap₂ (λ i j. g (point_at points i) -ℤ g (point_at points j)) r1 r2)
 
     plain_whole : (ax ay bx by qx qy : ℤ) → ((bx -ℤ ax) *ℤ (bx -ℤ qx) +ℤ (by -ℤ ay) *ℤ (by -ℤ qy)) +ℤ ((bx -ℤ ax) *ℤ (qx -ℤ ax) +ℤ (by -ℤ ay) *ℤ (qy -ℤ ay)) ≡ (bx -ℤ ax) *ℤ (bx -ℤ ax) +ℤ (by -ℤ ay) *ℤ (by -ℤ ay)

@@ -12,6 +12,7 @@ use Rattle.integers.proofs.Sums.{total_nonneg_all}
 use Rattle.integers.proofs.Identities.{den-ring, read, polys, lits, below_lits}
 use Rattle.integers.proofs.Order.{nonneg_mul, le_by, le_trans_ℤ, same_of_mul, combine1}
 use Rattle.integers.proofs.Lists.{All-unmap}
+use Rattle.integers.proofs.RingLaws.{*ℤ-+ℤ}
 use Rattle.bounds_model.specs.Plane.{PlanePoint, point_at, squared_length}
 use Rattle.bounds_model.specs.AnnulusAnswer as model
 use Rattle.bounds_model.specs.AnnulusAnswer.{pair_sum, weighted_differences}
@@ -61,13 +62,10 @@ some_factor pairs (suc n) have is = omega arith
 
 -- ---- sums
 
-distribute : (k a b : ℤ) → k *ℤ a +ℤ k *ℤ b ≡ k *ℤ (a +ℤ b)
-distribute k a b = read (k ∷ a ∷ b ∷ []) (λ xs p q r. simp (p, q, r, polys) (den-ring xs _ _ tt))
-
 -- a sum over multiples is a multiple
 total_times : (h : model.WeightedPair → ℤ) (k : ℕ) (s : List WeightedPair) → ((p : WeightedPair) → h (pair_of (times k p)) ≡ pos k *ℤ h (pair_of p)) → total h (map pair_of (map (times k) s)) ≡ pos k *ℤ total h (map pair_of s)
 total_times h k [] e = omega (arith, ints)
-total_times h k (p ∷ s) e = ap₂ (λ a b. a +ℤ b) (e p) (total_times h k s e) ∙ distribute (pos k) (h (pair_of p)) (total h (map pair_of s))
+total_times h k (p ∷ s) e = ap₂ (λ a b. a +ℤ b) (e p) (total_times h k s e) ∙ sym (*ℤ-+ℤ (pos k) (h (pair_of p)) (total h (map pair_of s)))
 
 plain_weight : (k w : ℕ) → pos (k * w) ≡ pos k *ℤ pos w
 plain_weight k w = omega (arith, ints)

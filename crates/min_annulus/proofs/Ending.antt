@@ -1,6 +1,7 @@
 -- Where no pair is above the plane of the three, the origin's weights show that the annulus is best.
 use Rattle.std.proofs.Common.{◌≡◌, refl, sym, ◌∙◌, ap, ap₂, subst, ◌<◌, ◌^◌, ℤ, pos, ◌+ℤ◌, ◌-ℤ◌, ◌*ℤ◌, neg_ℤ, ◌≤ℤ◌, ◌<ℤ◌, List, [], ◌∷◌, ◌++◌, length, arith}
 use Rattle.std.proofs.lemmas.Int.{ints}
+use Rattle.std.proofs.Math.IntN.{zero-*ℤ}
 use Rattle.integers.proofs.Sizes.{size_sub, size_mul, size_more, below_size}
 use Rattle.integers.proofs.Identities.{den-ring, read, polys, lits}
 use Rattle.integers.proofs.Order.{combine2, combine3, le_antisymm_ℤ}
@@ -105,9 +106,6 @@ of_pair : (points : List PlanePoint) (pair : Pair) (w : ℤ) → IsPair points p
     × (w *ℤ (squared_length (point_at points pair.first) -ℤ squared_length (point_at points pair.second)) ≡ w *ℤ pair.difference.lift)
 of_pair points pair w is = (ap (λ d. w *ℤ d.x) (sym is.difference), ap (λ d. w *ℤ d.y) (sym is.difference), ap (λ d. w *ℤ d.lift) (sym is.difference))
 
-none : (z : ℤ) → pos 0 *ℤ z ≡ pos 0
-none z = omega (arith, ints)
-
 sum3 : {a b c d e f : ℤ} → a ≡ d → b ≡ e → c ≡ f → a +ℤ b +ℤ c ≡ d +ℤ e +ℤ f
 sum3 h k l = ap₂ (λ s t. s +ℤ t) (ap₂ (λ s t. s +ℤ t) h k) l
 
@@ -119,7 +117,7 @@ sum_of : (points : List PlanePoint) (f : PlanePoint → ℤ) (a b c : Pair) (u v
     → weighted_differences points f (weighted a u ++ weighted b v ++ weighted c w)
     ≡ u *ℤ (f (point_at points a.first) -ℤ f (point_at points a.second)) +ℤ v *ℤ (f (point_at points b.first) -ℤ f (point_at points b.second)) +ℤ w *ℤ (f (point_at points c.first) -ℤ f (point_at points c.second))
 sum_of points f a b c u v w pu pv pw =
-    total_three (λ pair. pair.weight *ℤ (f (point_at points pair.first) -ℤ f (point_at points pair.second))) a b c u v w pu pv pw (none (f (point_at points a.first) -ℤ f (point_at points a.second))) (none (f (point_at points b.first) -ℤ f (point_at points b.second))) (none (f (point_at points c.first) -ℤ f (point_at points c.second)))
+    total_three (λ pair. pair.weight *ℤ (f (point_at points pair.first) -ℤ f (point_at points pair.second))) a b c u v w pu pv pw (zero-*ℤ (f (point_at points a.first) -ℤ f (point_at points a.second))) (zero-*ℤ (f (point_at points b.first) -ℤ f (point_at points b.second))) (zero-*ℤ (f (point_at points c.first) -ℤ f (point_at points c.second)))
 
 -- at the end of the walk
 pub triangle_shows : (points : List PlanePoint) (t : Triangle) (e : Extremes) → IsTriangle points t → AreExtremes (λ i. level (form_through t.a.difference t.b.difference t.c.difference) (point_at points i)) (length points) e

@@ -1,4 +1,4 @@
--- The target's lift rises at each exchange, and the measure floor_rises_ℤ.
+-- The target's lift rises at each exchange, and the measure falls.
 use Rattle.std.proofs.Common.{◌≡◌, refl, sym, ◌∙◌, subst, ℕ, ◌^◌, ◌*◌, ◌/◌, ◌<◌, ℤ, pos, negsuc, ◌+ℤ◌, ◌-ℤ◌, ◌*ℤ◌, neg_ℤ, ◌≤ℤ◌, ◌<ℤ◌, nat_abs, arith, [], ◌∷◌}
 use Rattle.std.proofs.lemmas.Int.{ints}
 use Rattle.integers.specs.Size.{Size}
@@ -11,8 +11,6 @@ use Rattle.min_annulus.specs.LinearForms.{rise, form_through}
 use Rattle.min_annulus.specs.DifferenceVectors.{IsDifference, IsAround, side, scale, area, lift_over, lift_under, lift_limit}
 use Rattle.min_annulus.specs.Laws.{MeasureFalls}
 use Rattle.min_annulus.proofs.Exchange.{side_turned, sides_balance}
-
--- ---- a fraction with a small denominator that floor_rises_ℤ
 
 -- ---- the weights of the target in a triangle
 
@@ -98,7 +96,7 @@ lift_rises a b c d around above =
     difference : (u v w : ℤ) → ℤ
     difference u v w = (u *ℤ a.lift +ℤ v *ℤ b.lift +ℤ w *ℤ d.lift) *ℤ lift_under a b c -ℤ lift_over a b c *ℤ (u +ℤ v +ℤ w)
 
--- the measure floor_rises_ℤ
+-- the measure falls
 pub measure_falls : MeasureFalls
 measure_falls a b c d ha hb hc hd old new above =
     floor_rises_ℤ (pos lift_limit *ℤ lift_under a b d -ℤ lift_over a b d) (lift_under a b d) (pos lift_limit *ℤ lift_under a b c -ℤ lift_over a b c) (lift_under a b c) (2 ^ 85)

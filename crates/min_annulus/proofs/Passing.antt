@@ -3,6 +3,7 @@ use Rattle.std.proofs.Common.{◌≡◌, refl, sym, ◌∙◌, subst, ℕ, ◌<�
 use Rattle.std.specs.Prelude.{All, Contains}
 use Rattle.std.proofs.lemmas.Int.{ints}
 use Rattle.std.proofs.lemmas.List.{get_or_default}
+use Rattle.std.proofs.lemmas.List.Elements.{Contains-get_or}
 use Rattle.integers.specs.Extremes.{greatest, least}
 use Rattle.integers.proofs.Extremes.{greatest_is, least_is}
 use Rattle.integers.proofs.Identities.{den-ring, read, polys, lits}
@@ -44,10 +45,6 @@ powers_order f c p q same some other h =
 
 -- ---- the extremes
 
--- the point of this number is in the list
-at_number : (points : List PlanePoint) (i : ℕ) → i < length points → Contains points (point_at points i)
-at_number points i below = (i, below, get_or_default points i (point_at points i) origin below)
-
 -- what holds of the points by their numbers holds of all
 all_by_number : (P : PlanePoint → Type 0) (points : List PlanePoint) → ((i : ℕ) → i < length points → P (point_at points i)) → All P points
 all_by_number P points h = λ k d below. subst P (get_or_default points k origin d below) (h k below)
@@ -56,7 +53,7 @@ all_by_number P points h = λ k d below. subst P (get_or_default points k origin
 pub greatest_power : (points : List PlanePoint) (f : LinearForm) (c : PlaneRatio) (e : Extremes) → Same f c → pos 1 ≤ℤ f.w → pos 1 ≤ℤ c.w → AreExtremes (λ i. level f (point_at points i)) (length points) e
     → greatest (power c) points ≡ power c (point_at points e.far)
 greatest_power points f c e same some other extremes =
-    greatest_is (power c) points (point_at points e.far) (at_number points e.far extremes.far)
+    greatest_is (power c) points (point_at points e.far) (Contains-get_or points e.far origin extremes.far)
     (all_by_number (λ p. power c p ≤ℤ power c (point_at points e.far)) points
     (λ i below. powers_order f c (point_at points i) (point_at points e.far) same some other (subst (λ z. level f (point_at points i) ≤ℤ z) extremes.high (extremes.highest i below))))
 
@@ -64,7 +61,7 @@ greatest_power points f c e same some other extremes =
 pub least_power : (points : List PlanePoint) (f : LinearForm) (c : PlaneRatio) (e : Extremes) → Same f c → pos 1 ≤ℤ f.w → pos 1 ≤ℤ c.w → AreExtremes (λ i. level f (point_at points i)) (length points) e
     → least (power c) points ≡ power c (point_at points e.near)
 least_power points f c e same some other extremes =
-    least_is (power c) points (point_at points e.near) (at_number points e.near extremes.near)
+    least_is (power c) points (point_at points e.near) (Contains-get_or points e.near origin extremes.near)
     (all_by_number (λ p. power c (point_at points e.near) ≤ℤ power c p) points
     (λ i below. powers_order f c (point_at points e.near) (point_at points i) same some other (subst (λ z. z ≤ℤ level f (point_at points i)) extremes.low (extremes.lowest i below))))
 
@@ -82,7 +79,7 @@ plain_size : (W w n d hi lo G L : ℤ) → pos 0 <ℤ W → n *ℤ W ≡ (hi -�
 plain_size W w n d hi lo G L p h eg el =
     same_of_mul W p (combine3 w (neg_ℤ d) d h eg el (read (W ∷ w ∷ n ∷ d ∷ hi ∷ lo ∷ G ∷ L ∷ []) (λ xs a b c e f g i j. simp (a, b, c, e, f, g, i, j, polys) (den-ring xs _ _ tt))))
 
--- and the pairs' mean value
+-- and the pairs' mean value; a radius likewise
 plain_mean : (W n d r s v : ℤ) → pos 0 <ℤ W → n *ℤ W ≡ r *ℤ d → s *ℤ r ≡ W *ℤ v → n *ℤ s ≡ v *ℤ d
 plain_mean W n d r s v p h k =
     same_of_mul W p (combine2 s d h k (read (W ∷ n ∷ d ∷ r ∷ s ∷ v ∷ []) (λ xs a b c e f g. simp (a, b, c, e, f, g, polys) (den-ring xs _ _ tt))))
@@ -96,14 +93,10 @@ plain_radius W X Y w x y px py ex ey =
     combine2 (pos 4 *ℤ w *ℤ W *ℤ px -ℤ w *ℤ X -ℤ pos 2 *ℤ W *ℤ x) (pos 4 *ℤ w *ℤ W *ℤ py -ℤ w *ℤ Y -ℤ pos 2 *ℤ W *ℤ y) ex ey
     (read (W ∷ X ∷ Y ∷ w ∷ x ∷ y ∷ px ∷ py ∷ []) (λ xs a b c d e f g h. simp (a, b, c, d, e, f, g, h, polys, lits xs) (den-ring xs _ _ tt)))
 
-plain_same_radius : (k n d R w S : ℤ) → pos 0 <ℤ k → n *ℤ k ≡ R *ℤ d → w *ℤ R ≡ k *ℤ S → n *ℤ w ≡ S *ℤ d
-plain_same_radius k n d R w S p h e =
-    same_of_mul k p (combine2 w d h e (read (k ∷ n ∷ d ∷ R ∷ w ∷ S ∷ []) (λ xs a b c f g i. simp (a, b, c, f, g, i, polys) (den-ring xs _ _ tt))))
-
 -- a radius by the form is the radius at the power
 radius_is : (f : LinearForm) (c : PlaneRatio) (p : PlanePoint) (r : Fraction) → Same f c → pos 1 ≤ℤ f.w → SameValue r (squared_radius_of f p) → SameValue r (squared_radius_at c (power c p))
 radius_is f c p r same some value =
-    plain_same_radius ((pos 2 *ℤ f.w) *ℤ (pos 2 *ℤ f.w)) r.n r.d _ (c.w *ℤ c.w) _ (positive_mul (twice some) (twice some)) value
+    plain_mean ((pos 2 *ℤ f.w) *ℤ (pos 2 *ℤ f.w)) r.n r.d _ (c.w *ℤ c.w) _ (positive_mul (twice some) (twice some)) value
     (plain_radius f.w f.x f.y c.w c.x c.y p.x p.y same.in_x same.in_y)
   where
     twice : {w : ℤ} → pos 1 ≤ℤ w → pos 0 <ℤ (pos 2 *ℤ w)

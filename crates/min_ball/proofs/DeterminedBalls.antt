@@ -15,6 +15,7 @@ use Rattle.bounds_model.specs.Slacks.{WeightedVector, mass, moment, slack, IsLow
 use Rattle.bounded_coords.specs.declared.cloud.Cloud.{Cloud}
 use Rattle.bounded_coords.specs.Clouds.{points_of}
 use Rattle.kernel_laws.specs.Limits.{ball_limit}
+use Rattle.kernel_laws.proofs.WeightedSums.{weighted_sum-map}
 use Rattle.corral.specs.declared.items.Id.{Id}
 use Rattle.corral.specs.declared.items.Items.{Items}
 use Rattle.corral.specs.declared.items.Items.TheVariants.{Points}
@@ -28,10 +29,6 @@ use Rattle.min_ball.specs.Balls.{weighted_point, FewDetermineBall}
 use Rattle.min_ball.proofs.SeenFromFirst.{sum_seen, on_ball_of_same, inside_of_above}
 
 -- ---- lists
-
-weighted_sum-map : {X Y : Type 0} (weight : Y → ℤ) (at : Y → SpacePoint) (f : X → Y) (xs : List X) → weighted_sum weight at (map f xs) ≡ weighted_sum (λ x. weight (f x)) (λ x. at (f x)) xs
-weighted_sum-map weight at f [] = refl
-weighted_sum-map weight at f (x ∷ xs) = ap (plus (times (weight (f x)) (at (f x)))) (weighted_sum-map weight at f xs)
 
 -- ---- supports among the points of a cloud, with their vectors from point 0
 

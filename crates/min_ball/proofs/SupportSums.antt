@@ -7,12 +7,12 @@ use Rattle.integers.proofs.Sums.{total-take_more}
 use Rattle.bounds_model.specs.Space.{SpacePoint, point_at, vector}
 use Rattle.bounds_model.specs.BallAnswer.{Weighted, weight_sum, first_support}
 use Rattle.corral.specs.declared.support.WeightedItem.{WeightedItem}
-use Rattle.corral.proofs.PointNumbers.{point_at_place}
 use Rattle.ball_sums.specs.declared.sums.Sums.{Sums}
 use Rattle.ball_sums.specs.Sums.{Adds, AreSumsFrom}
 use Rattle.ball_sums.proofs.Weights.{weights_of_some}
 use Rattle.ball_sums.proofs.SupportSums.{sums_of_more}
 use Rattle.min_ball.specs.Balls.{weighted_point}
+use Rattle.kernel_laws.proofs.Points.{point_at_place}
 
 -- what is read past the end of a list of supports
 abbrev pub past_the_end : Weighted

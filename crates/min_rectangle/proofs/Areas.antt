@@ -11,11 +11,12 @@ use Rattle.bounds_model.specs.Strip.{Span, extent}
 use Rattle.bounds_model.specs.Fans.{QuarterFan, QuarterCone, quarter_directions}
 use Rattle.bounds_model.specs.RectangleAnswer.{PassesRectangle, IsNotSmaller, reached_area}
 use Rattle.directions.proofs.Reaches.{long_some}
-use Rattle.directions.proofs.SpanBounds.{direction_of_short, short_span, AreBounds, bounds_hold, extent_is}
+use Rattle.directions.proofs.SpanBounds.{short_span, AreBounds, bounds_hold, extent_is}
 use Rattle.min_rectangle.specs.PlainFan.{IsPlainFan, cone_at}
 use Rattle.min_rectangle.specs.Areas.{IsArea, IsNotLarger}
 use Rattle.min_rectangle.specs.declared.smallest.Area.{Area}
 use Rattle.min_rectangle.proofs.Cones.{cone_any, is_cone, HasSame, same_at_start, same_at_end}
+use Rattle.bounded_coords.proofs.Ranges.{direction_of_short}
 
 -- the area in the direction of this number is not below the best
 pub record IsNotLargerAt (points : List PlanePoint) (fan : QuarterFan) (best : Area) (i : ℕ) : Type 0 where

@@ -8,8 +8,7 @@ use Rattle.integers.proofs.Order.{nonneg_mul, nonneg_add, positive_mul, positive
 use Rattle.integers.proofs.Sums.{total_weighted_le}
 use Rattle.integers.specs.Total.{total}
 use Rattle.bounds_model.specs.Space.{SpacePoint, point_at, origin, vector, times, squared_length, entries, flat}
-use Rattle.bounds_model.specs.Fractions.{Fraction, IsNotNegative, IsAtMost, IsLowest}
-use Rattle.bounds_model.specs.Best.{IsPrintedSize}
+use Rattle.bounds_model.specs.Fractions.{IsNotNegative, IsAtMost}
 use Rattle.bounds_model.specs.Ball.{Ball, FitsBall, FitsCircle}
 use Rattle.bounds_model.specs.BallAnswer.{Weighted, circle_of, sphere_of, weight_sum, first_support, seen_support, pull, IsBallWitness}
 use Rattle.bounds_model.specs.Asks.Ask.{ask_circle, ask_sphere}
@@ -18,6 +17,7 @@ use Rattle.bounds_model.specs.Answers.Answer.{circle, sphere}
 use Rattle.model_laws.specs.Laws.{PassingAnswersAreBest}
 use Rattle.model_laws.proofs.Decisions.{all-uncons}
 use Rattle.model_laws.proofs.WeightedVectors.{distances_sum, balance}
+use Rattle.model_laws.proofs.BestSizes.{printed_as_is}
 
 -- ---- the numbers of a ball that passes: q is the first support, C the weighted sum as seen from it, W the sum of the weights, S the second moment
 
@@ -176,14 +176,10 @@ witness_best limit points ball supports some pd numbers h other fits =
     let bound = total_weighted_le (λ (s : Weighted). s.weight) (λ s. Far k y (seen_support points supports s)) other.squared_radius.d (other.squared_radius.n *ℤ (k *ℤ k)) supports (λ i d l. nonneg_from_one (h.weights i d l)) (support_in points other supports numbers fits) in
     best_law ball.squared_radius.n ball.squared_radius.d (weight_sum supports) (total (λ s. s.weight *ℤ squared_length (seen_support points supports s)) supports) (total (λ s. s.weight *ℤ Far k y (seen_support points supports s)) supports) c.x c.y c.z y.x y.y y.z k other.squared_radius.n other.squared_radius.d b.weight pd fits.denominator fits.radius.denominator sums b.moments b.size bound
 
--- a size in lowest terms prints as itself
-itself : (size : Fraction) → IsLowest size → IsPrintedSize size size
-itself size h = record { lowest = h; same = refl }
-
 -- a sphere that passes is best
 pub sphere_is_best : PassingAnswersAreBest ask_sphere
 sphere_is_best (space points) (sphere a) h = record {
-  fits = (fits, itself a.size h.ranges.size.lowest);
+  fits = (fits, printed_as_is a.size h.ranges.size.lowest);
   best = record { fits = fits; smallest = witness_best (2 ^ 92) points (sphere_of a) a.supports h.ranges.count.at_least h.ranges.size.lowest.not_negative.denominator h.numbers h.witness };
 }
   where
@@ -194,7 +190,7 @@ sphere_is_best sets answer h = absurd h
 -- a circle that passes is best
 pub circle_is_best : PassingAnswersAreBest ask_circle
 circle_is_best (plane points) (circle a) h = record {
-  fits = (fits, itself a.size h.ranges.size.lowest);
+  fits = (fits, printed_as_is a.size h.ranges.size.lowest);
   best = record { fits = fits; smallest = λ other f. witness_best (2 ^ 80) (map flat points) (circle_of a) a.supports h.ranges.count.at_least h.ranges.size.lowest.not_negative.denominator numbers h.witness other f.ball };
 }
   where

@@ -14,6 +14,8 @@ pub mod DecideAnswers
 pub mod DecidePlain
 pub mod Literals
 pub mod Pigeonhole
+pub mod PairCounts
+pub mod Reaches
 pub mod TurningUp
 pub mod PlainFanLaw
 pub mod LowestDirections

@@ -5,22 +5,9 @@ use Rattle.std.specs.Prelude.{List, All, Contains}
 use Rattle.std.proofs.lemmas.Int.{ints, by_lt_z}
 use Rattle.std.proofs.lemmas.List.Elements.{All-contains}
 use Rattle.integers.proofs.Identities.{den-ring, read, polys, lits, below_lits}
-use Rattle.integers.proofs.Order.{nonneg_mul, nonneg_add, positive_mul, positive_add, square_nonneg, nonneg_of_mul, le_from_lt, le_by, le_of_mul_le, le_of_square_le, le_antisymm_ℤ, nonneg_difference, combine1, combine2, zero_of_square, positive-not_zero}
+use Rattle.integers.proofs.Order.{nonneg_mul, nonneg_add, positive_mul, positive_add, square_nonneg, nonneg_of_mul, le_from_lt, le_by, le_of_mul_le, nonneg_difference, combine1, combine2, zero_of_square, positive-not_zero, positive_of_mul}
 use Rattle.bounds_model.specs.Plane.{PlanePoint, vector, dot, squared_length, cross, turn, IsBefore, IsLeastPoint}
 use Rattle.model_laws.proofs.Turning.{IsAhead, ahead_of_before, between_turns, edge_turn}
-
--- a factor of a product above 0 is above 0 where the other is
-positive_of_mul : (k a : ℤ) → pos 0 <ℤ k → pos 0 <ℤ (k *ℤ a) → pos 0 <ℤ a
-positive_of_mul k a h l = by_lt_z (pos 0) a (λ p. p) (λ m. absurd (none (k *ℤ a) l (times_low k a (le_from_lt h) m)))
-  where
-    none : (z : ℤ) → pos 0 <ℤ z → z ≤ℤ pos 0 → ⊥
-    none z h l = omega (arith, ints)
-
-    low : (a : ℤ) → a ≤ℤ pos 0 → pos 0 ≤ℤ (pos 0 -ℤ a)
-    low a m = omega (arith, ints)
-
-    times_low : (k a : ℤ) → pos 0 ≤ℤ k → a ≤ℤ pos 0 → (k *ℤ a) ≤ℤ pos 0
-    times_low k a h m = le_by (nonneg_mul h (low a m)) (read (k ∷ a ∷ []) (λ xs x y. simp (x, y, polys, lits xs) (den-ring xs _ _ tt)))
 
 -- v on the line of u, by its product with u
 along_line : (ux uy vx vy wx wy : ℤ) → ux *ℤ vy -ℤ uy *ℤ vx ≡ pos 0 → (ux *ℤ ux +ℤ uy *ℤ uy) *ℤ (wx *ℤ vy -ℤ wy *ℤ vx) ≡ (wx *ℤ uy -ℤ wy *ℤ ux) *ℤ (ux *ℤ vx +ℤ uy *ℤ vy)
@@ -29,7 +16,7 @@ along_line ux uy vx vy wx wy e =
 
 -- u and v on a line point the same way where a third vector turns left to both
 pub same_way_by_turn : (u v w : PlanePoint) → cross u v ≡ pos 0 → pos 0 <ℤ squared_length u → pos 0 <ℤ cross w u → pos 0 <ℤ cross w v → pos 0 <ℤ dot u v
-same_way_by_turn u v w e long p q = positive_of_mul (cross w u) (dot u v) p (subst (λ z. pos 0 <ℤ z) (along_line u.x u.y v.x v.y w.x w.y e) (positive_mul long q))
+same_way_by_turn u v w e long p q = positive_of_mul (cross w u) (le_from_lt p) (subst (λ z. pos 0 <ℤ z) (along_line u.x u.y v.x v.y w.x w.y e) (positive_mul long q))
 
 -- or where both point ahead
 pub same_way_ahead : (u v : PlanePoint) → cross u v ≡ pos 0 → IsAhead u → IsAhead v → pos 0 <ℤ dot u v
@@ -44,7 +31,7 @@ same_way_ahead u v e hu hv =
 
     both_right : (ux uy vx vy : ℤ) → ux *ℤ vy -ℤ uy *ℤ vx ≡ pos 0 → pos 0 <ℤ ux → pos 0 <ℤ vx → pos 0 <ℤ (ux *ℤ vx +ℤ uy *ℤ vy)
     both_right ux uy vx vy e p q =
-        positive_of_mul (ux *ℤ vx) (ux *ℤ vx +ℤ uy *ℤ vy) (positive_mul p q)
+        positive_of_mul (ux *ℤ vx) (le_from_lt (positive_mul p q))
         (subst (λ z. pos 0 <ℤ z) (sym squares) (positive_add (positive_mul (positive_mul p q) (positive_mul p q)) (square_nonneg (ux *ℤ vy))))
       where
         squares : ux *ℤ vx *ℤ (ux *ℤ vx +ℤ uy *ℤ vy) ≡ ux *ℤ vx *ℤ (ux *ℤ vx) +ℤ ux *ℤ vy *ℤ (ux *ℤ vy)

@@ -79,7 +79,7 @@ side_is N D h s = elim s [ inl e ↦ subst (λ v. pos (2 * nat_abs N / nat_abs v
     by_two (negsuc k) h = absurd (omega (arith, ints))
 
 -- any leaf, for reading past the end of a list
-no_leaf : Leaf
+pub no_leaf : Leaf
 no_leaf = record { first = 0; second = 0 }
 
 -- no square around all points is smaller than one that passes

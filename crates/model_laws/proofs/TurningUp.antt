@@ -2,9 +2,8 @@
 use Rattle.std.proofs.Common.{◌≡◌, sym, subst, ℕ, zero, suc, ◌+◌, ◌-◌, ◌<◌, ℤ, pos, ◌+ℤ◌, ◌-ℤ◌, ◌*ℤ◌, ◌<ℤ◌, List, [], ◌∷◌, length, arith}
 use mathlib.Core.Logic.{inl, inr}
 use Rattle.std.specs.Prelude.{◌⊎◌}
-use Rattle.std.proofs.lemmas.Int.{ints}
 use Rattle.integers.proofs.Identities.{den-ring, read, polys, lits}
-use Rattle.integers.proofs.Order.{positive_mul, positive_add, le_from_lt, lt_of_mul_lt, same_of_mul, combine2}
+use Rattle.integers.proofs.Order.{positive_mul, positive_add, le_from_lt, same_of_mul, combine2, positive_of_mul}
 use Rattle.bounds_model.specs.Numbers.{EachBelow}
 use Rattle.bounds_model.specs.Plane.{PlanePoint, point_at, cross}
 use Rattle.bounds_model.specs.PlainFans.{EachInner}
@@ -14,15 +13,9 @@ use Rattle.bounds_model.specs.PlainFans.{EachInner}
 exchange_y : (ux uy vx vy wx wy : ℤ) → vy *ℤ (ux *ℤ wy -ℤ uy *ℤ wx) ≡ uy *ℤ (vx *ℤ wy -ℤ vy *ℤ wx) +ℤ wy *ℤ (ux *ℤ vy -ℤ uy *ℤ vx)
 exchange_y ux uy vx vy wx wy = read (ux ∷ uy ∷ vx ∷ vy ∷ wx ∷ wy ∷ []) (λ xs a b c d e f. simp (a, b, c, d, e, f, polys) (den-ring xs _ _ tt))
 
-positive_of_mul : (k a : ℤ) → pos 0 <ℤ k → pos 0 <ℤ (k *ℤ a) → pos 0 <ℤ a
-positive_of_mul k a p h = lt_of_mul_lt k p (subst (λ z. z <ℤ (k *ℤ a)) (times_zero k) h)
-  where
-    times_zero : (k : ℤ) → pos 0 ≡ k *ℤ pos 0
-    times_zero k = omega (arith, ints)
-
 further : (u v w : PlanePoint) → pos 0 <ℤ u.y → pos 0 <ℤ v.y → pos 0 <ℤ w.y → pos 0 <ℤ cross u v → pos 0 <ℤ cross v w → pos 0 <ℤ cross u w
 further u v w pu pv pw a b =
-    positive_of_mul v.y (cross u w) pv
+    positive_of_mul v.y (le_from_lt pv)
     (subst (λ z. pos 0 <ℤ z) (sym (exchange_y u.x u.y v.x v.y w.x w.y)) (positive_add (positive_mul pu b) (le_from_lt (positive_mul pw a))))
 
 abbrev pub Turns : List PlanePoint → Type 0

@@ -1,11 +1,13 @@
 -- Sums over weighted vectors of space.
-use Rattle.std.proofs.Common.{◌≡◌, ℤ, pos, ◌+ℤ◌, ◌-ℤ◌, ◌*ℤ◌, List, [], ◌∷◌}
+use Rattle.std.proofs.Common.{◌≡◌, ℤ, pos, ◌+ℤ◌, ◌-ℤ◌, ◌*ℤ◌, List, [], ◌∷◌, refl, ap}
 use Rattle.std.specs.Prelude.{All}
 use Rattle.std.proofs.lemmas.List.Elements.{All-head, All-tail}
 use Rattle.integers.specs.Total.{total}
 use Rattle.integers.proofs.Identities.{den-ring, read, polys, lits}
 use Rattle.integers.proofs.Order.{combine1, combine2}
-use Rattle.bounds_model.specs.Space.{SpacePoint, vector, times, dot, squared_length, weighted_sum}
+use Rattle.bounds_model.specs.Space.{SpacePoint, vector, times, dot, squared_length, weighted_sum, point_at}
+use Rattle.bounds_model.specs.AnnulusAnswer.{WeightedPair}
+use Rattle.bounds_model.specs.DistanceAnswer.{pull}
 
 -- one more vector
 sum_step : (k w ax ay az yx yy yz T S Cx Cy Cz W : ℤ)
@@ -49,3 +51,40 @@ balance weight at m v [] h = nothing m v.x v.y v.z
 balance {X} weight at m v (x ∷ xs) h =
     let Balances : X → Type 0 = λ s. pos 2 *ℤ dot (at s) v ≡ m *ℤ squared_length (at s) in
     balance_step m (weight x) (at x).x (at x).y (at x).z v.x v.y v.z _ (weighted_sum weight at xs).x (weighted_sum weight at xs).y (weighted_sum weight at xs).z (All-head Balances x xs h) (balance weight at m v xs (All-tail Balances x xs h))
+
+-- points with the same coordinates are the same
+pub same_point : (a b : SpacePoint) → a.x ≡ b.x → a.y ≡ b.y → a.z ≡ b.z → a ≡ b
+same_point a b ex ey ez = λ i. record { x = ex i; y = ey i; z = ez i }
+
+-- the weighted sum of differences is the difference of the weighted sums
+pub pull_is_difference : (ps qs : List SpacePoint) (pairs : List WeightedPair)
+    → pull ps qs pairs ≡ vector (weighted_sum (λ pair. pair.weight) (λ pair. point_at qs pair.second) pairs) (weighted_sum (λ pair. pair.weight) (λ pair. point_at ps pair.first) pairs)
+pull_is_difference ps qs [] = refl
+pull_is_difference ps qs (pair ∷ rest) =
+    let ih = pull_is_difference ps qs rest in
+    let p = point_at ps pair.first in
+    let q = point_at qs pair.second in
+    let s = weighted_sum (λ (pair : WeightedPair). pair.weight) (λ pair. point_at ps pair.first) rest in
+    let t = weighted_sum (λ (pair : WeightedPair). pair.weight) (λ pair. point_at qs pair.second) rest in
+    let r = pull ps qs rest in
+    same_point _ _ (plain pair.weight p.x q.x r.x s.x t.x (ap (λ v. v.x) ih)) (plain pair.weight p.y q.y r.y s.y t.y (ap (λ v. v.y) ih)) (plain pair.weight p.z q.z r.z s.z t.z (ap (λ v. v.z) ih))
+  where
+    plain : (w p q r s t : ℤ) → r ≡ s -ℤ t → w *ℤ (p -ℤ q) +ℤ r ≡ (w *ℤ p +ℤ s) -ℤ (w *ℤ q +ℤ t)
+    plain w p q r s t h = combine1 (pos 1) h (read (w ∷ p ∷ q ∷ r ∷ s ∷ t ∷ []) (λ xs a b c d e f. simp (a, b, c, d, e, f, polys, lits xs) (den-ring xs _ _ tt)))
+
+-- where all products with v are e, the product with the weighted sum is the sum of the weights times e
+pub product_of_sum : {X : Type 0} (weight : X → ℤ) (at : X → SpacePoint) (v : SpacePoint) (e : ℤ) (xs : List X) → All (λ x. dot v (at x) ≡ e) xs → dot v (weighted_sum weight at xs) ≡ total weight xs *ℤ e
+product_of_sum weight at v e [] h = nothing v.x v.y v.z e
+  where
+    nothing : (a b c e : ℤ) → a *ℤ pos 0 +ℤ b *ℤ pos 0 +ℤ c *ℤ pos 0 ≡ pos 0 *ℤ e
+    nothing a b c e = read (a ∷ b ∷ c ∷ e ∷ []) (λ xs p q r s. simp (p, q, r, s, polys, lits xs) (den-ring xs _ _ tt))
+product_of_sum {X} weight at v e (x ∷ xs) h =
+    let Is_e = λ (x : X). dot v (at x) ≡ e in
+    let r = weighted_sum weight at xs in
+    plain v.x v.y v.z (weight x) (at x).x (at x).y (at x).z r.x r.y r.z (total weight xs) e (All-head Is_e x xs h) (product_of_sum weight at v e xs (All-tail Is_e x xs h))
+  where
+    plain : (vx vy vz w ax ay az rx ry rz W e : ℤ) → vx *ℤ ax +ℤ vy *ℤ ay +ℤ vz *ℤ az ≡ e → vx *ℤ rx +ℤ vy *ℤ ry +ℤ vz *ℤ rz ≡ W *ℤ e
+        → vx *ℤ (w *ℤ ax +ℤ rx) +ℤ vy *ℤ (w *ℤ ay +ℤ ry) +ℤ vz *ℤ (w *ℤ az +ℤ rz) ≡ (w +ℤ W) *ℤ e
+    plain vx vy vz w ax ay az rx ry rz W e h k =
+        combine2 w (pos 1) h k
+        (read (vx ∷ vy ∷ vz ∷ w ∷ ax ∷ ay ∷ az ∷ rx ∷ ry ∷ rz ∷ W ∷ e ∷ []) (λ xs a b c d e f g h i j k l. simp (a, b, c, d, e, f, g, h, i, j, k, l, polys, lits xs) (den-ring xs _ _ tt)))

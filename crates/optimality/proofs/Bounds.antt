@@ -1,5 +1,5 @@
 -- Small facts on whole numbers and their order, which the laws of several kinds use.
-use Rattle.std.proofs.Common.{◌≡◌, ℤ, pos, negsuc, nat_abs, ◌*ℤ◌, neg_ℤ, ◌≤ℤ◌, ◌<ℤ◌, arith}
+use Rattle.std.proofs.Common.{◌≡◌, ℤ, pos, ◌*ℤ◌, neg_ℤ, ◌≤ℤ◌, ◌<ℤ◌, arith}
 use Rattle.std.proofs.lemmas.Int.{ints, by_lt_z}
 use Rattle.integers.proofs.Order.{le_from_lt, nonneg_neg}
 

@@ -1,5 +1,5 @@
 -- A distance that passes is the least between weighted means of the two sets.
-use Rattle.std.proofs.Common.{◌≡◌, refl, sym, ◌∙◌, ap, subst, ◌<◌, ℤ, pos, ◌+ℤ◌, ◌-ℤ◌, ◌*ℤ◌, neg_ℤ, ◌≤ℤ◌, List, [], ◌∷◌, length, arith}
+use Rattle.std.proofs.Common.{◌≡◌, sym, ◌∙◌, subst, ◌<◌, ℤ, pos, ◌+ℤ◌, ◌-ℤ◌, ◌*ℤ◌, neg_ℤ, ◌≤ℤ◌, List, [], ◌∷◌, length, arith}
 use Rattle.std.specs.Prelude.{All, slice_index_or}
 use Rattle.std.proofs.lemmas.Int.{ints}
 use Rattle.std.proofs.lemmas.List.Elements.{All-head, All-tail}
@@ -7,51 +7,19 @@ use Rattle.integers.proofs.Identities.{den-ring, read, polys, lits}
 use Rattle.integers.proofs.Order.{nonneg_mul, nonneg_add, positive_mul, positive_from_one, at_least_one, square_nonneg, le_by, le_of_mul_le, nonneg_difference, combine1, combine2, nonneg_from_one}
 use Rattle.integers.proofs.Sums.{total_positive}
 use Rattle.integers.specs.Total.{total}
-use Rattle.bounds_model.specs.Space.{SpacePoint, point_at, times, vector, dot, squared_length, weighted_sum}
+use Rattle.bounds_model.specs.Space.{SpacePoint, times, vector, dot, squared_length}
 use Rattle.bounds_model.specs.Fractions.{IsAtMost}
 use Rattle.bounds_model.specs.Best.{IsPrintedSize}
 use Rattle.bounds_model.specs.Distance.{Weights, weighted, FitsDistance, distance_size}
 use Rattle.bounds_model.specs.AnnulusAnswer.{WeightedPair, pair_sum}
 use Rattle.bounds_model.specs.DistanceAnswer.{DistanceAnswer, weights_of, difference, pull, first_product, PassesDistance}
 use Rattle.model_laws.proofs.SizeDenominators.{distance_denominator}
+use Rattle.model_laws.proofs.WeightedVectors.{pull_is_difference, product_of_sum}
 use Rattle.optimality.specs.Laws.{PassingDistancesAreBest}
 use Rattle.optimality.proofs.PrintedSizes.{smallest_by_printed}
-use Rattle.optimality.proofs.PairWeights.{same_point, weighted_of_pairs, total_of_pairs, length-at_numbers, weights_nonneg}
+use Rattle.optimality.proofs.PairWeights.{weighted_of_pairs, total_of_pairs, length-at_numbers, weights_nonneg}
 
 -- ---- the sum vector V of an answer: it leads from one weighted sum to the other, and its squared length is W e
-
--- the weighted sum of differences is the difference of the weighted sums
-pull_is_difference : (ps qs : List SpacePoint) (pairs : List WeightedPair)
-    → pull ps qs pairs ≡ vector (weighted_sum (λ pair. pair.weight) (λ pair. point_at qs pair.second) pairs) (weighted_sum (λ pair. pair.weight) (λ pair. point_at ps pair.first) pairs)
-pull_is_difference ps qs [] = refl
-pull_is_difference ps qs (pair ∷ rest) =
-    let ih = pull_is_difference ps qs rest in
-    let p = point_at ps pair.first in
-    let q = point_at qs pair.second in
-    let s = weighted_sum (λ (pair : WeightedPair). pair.weight) (λ pair. point_at ps pair.first) rest in
-    let t = weighted_sum (λ (pair : WeightedPair). pair.weight) (λ pair. point_at qs pair.second) rest in
-    let r = pull ps qs rest in
-    same_point _ _ (plain pair.weight p.x q.x r.x s.x t.x (ap (λ v. v.x) ih)) (plain pair.weight p.y q.y r.y s.y t.y (ap (λ v. v.y) ih)) (plain pair.weight p.z q.z r.z s.z t.z (ap (λ v. v.z) ih))
-  where
-    plain : (w p q r s t : ℤ) → r ≡ s -ℤ t → w *ℤ (p -ℤ q) +ℤ r ≡ (w *ℤ p +ℤ s) -ℤ (w *ℤ q +ℤ t)
-    plain w p q r s t h = combine1 (pos 1) h (read (w ∷ p ∷ q ∷ r ∷ s ∷ t ∷ []) (λ xs a b c d e f. simp (a, b, c, d, e, f, polys, lits xs) (den-ring xs _ _ tt)))
-
--- where all products with v are e, the product with the weighted sum is the sum of the weights times e
-product_of_sum : {X : Type 0} (weight : X → ℤ) (at : X → SpacePoint) (v : SpacePoint) (e : ℤ) (xs : List X) → All (λ x. dot v (at x) ≡ e) xs → dot v (weighted_sum weight at xs) ≡ total weight xs *ℤ e
-product_of_sum weight at v e [] h = nothing v.x v.y v.z e
-  where
-    nothing : (a b c e : ℤ) → a *ℤ pos 0 +ℤ b *ℤ pos 0 +ℤ c *ℤ pos 0 ≡ pos 0 *ℤ e
-    nothing a b c e = read (a ∷ b ∷ c ∷ e ∷ []) (λ xs p q r s. simp (p, q, r, s, polys, lits xs) (den-ring xs _ _ tt))
-product_of_sum {X} weight at v e (x ∷ xs) h =
-    let Is_e = λ (x : X). dot v (at x) ≡ e in
-    let r = weighted_sum weight at xs in
-    plain v.x v.y v.z (weight x) (at x).x (at x).y (at x).z r.x r.y r.z (total weight xs) e (All-head Is_e x xs h) (product_of_sum weight at v e xs (All-tail Is_e x xs h))
-  where
-    plain : (vx vy vz w ax ay az rx ry rz W e : ℤ) → vx *ℤ ax +ℤ vy *ℤ ay +ℤ vz *ℤ az ≡ e → vx *ℤ rx +ℤ vy *ℤ ry +ℤ vz *ℤ rz ≡ W *ℤ e
-        → vx *ℤ (w *ℤ ax +ℤ rx) +ℤ vy *ℤ (w *ℤ ay +ℤ ry) +ℤ vz *ℤ (w *ℤ az +ℤ rz) ≡ (w +ℤ W) *ℤ e
-    plain vx vy vz w ax ay az rx ry rz W e h k =
-        combine2 w (pos 1) h k
-        (read (vx ∷ vy ∷ vz ∷ w ∷ ax ∷ ay ∷ az ∷ rx ∷ ry ∷ rz ∷ W ∷ e ∷ []) (λ xs a b c d e f g h i j k l. simp (a, b, c, d, e, f, g, h, i, j, k, l, polys, lits xs) (den-ring xs _ _ tt)))
 
 -- what the conditions on an answer come to
 record IsPulled (ps qs : List SpacePoint) (a : DistanceAnswer) : Type 0 where

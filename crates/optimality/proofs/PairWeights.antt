@@ -12,6 +12,7 @@ use Rattle.bounds_model.specs.Space.{SpacePoint, origin, point_at, plus, times, 
 use Rattle.bounds_model.specs.Distance.{weighted}
 use Rattle.bounds_model.specs.AnnulusAnswer.{WeightedPair, pair_sum}
 use Rattle.bounds_model.specs.DistanceAnswer.{weight_of, at_numbers}
+use Rattle.model_laws.proofs.WeightedVectors.{same_point}
 
 -- which of its two points a pair names
 abbrev pub Name : Type 0
@@ -91,10 +92,6 @@ of_weighted g h f n (p ∷ rest) = h.of_sum (times (f n) p) (weighted (at_number
 of_weighted_sum : (g : SpacePoint → ℤ) → IsLinear g → (at : WeightedPair → SpacePoint) (pairs : List WeightedPair) → g (weighted_sum (λ pair. pair.weight) at pairs) ≡ total (λ pair. pair.weight *ℤ g (at pair)) pairs
 of_weighted_sum g h at [] = h.at_origin
 of_weighted_sum g h at (pair ∷ rest) = h.of_sum (times pair.weight (at pair)) (weighted_sum (λ (pair : WeightedPair). pair.weight) at rest) ∙ ap₂ (λ v w. v +ℤ w) (h.of_multiple pair.weight (at pair)) (of_weighted_sum g h at rest)
-
--- points with the same coordinates are the same
-pub same_point : (a b : SpacePoint) → a.x ≡ b.x → a.y ≡ b.y → a.z ≡ b.z → a ≡ b
-same_point a b ex ey ez = λ i. record { x = ex i; y = ey i; z = ez i }
 
 -- the weights of the points give the weighted sum of the pairs
 pub weighted_of_pairs : (name : Name) (ps : List SpacePoint) (pairs : List WeightedPair) → All (λ pair. name pair < length ps) pairs

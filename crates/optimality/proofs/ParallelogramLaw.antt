@@ -14,11 +14,11 @@ use Rattle.bounds_model.specs.Parallelogram.{Parallelogram, FitsParallelogram, p
 use Rattle.bounds_model.specs.Fans.{HalfCone, half_directions, reach}
 use Rattle.bounds_model.specs.ParallelogramAnswer.{Chord, ParallelogramAnswer, parallelogram_of, PassesParallelogram, IsAcross, IsNotSmaller, IsNotSmallerAt}
 use Rattle.model_laws.proofs.SizeDenominators.{parallelogram_denominator}
+use Rattle.model_laws.proofs.Reaches.{reach_nonneg, no_cone}
 use Rattle.optimality.specs.Laws.{PassingParallelogramsAreBest}
 use Rattle.optimality.proofs.PrintedSizes.{smallest_by_printed}
 use Rattle.optimality.proofs.FanCones.{IsBetween, half_cone_around, length-directions, up_to_sign, opposite}
-use Rattle.optimality.proofs.Reaches.{dot_between, reach_nonneg, reach-opposite, reach_in_span, span_in_order, inside_over_one}
-use Rattle.optimality.proofs.StripLaw.{no_cone}
+use Rattle.optimality.proofs.Reaches.{dot_between, reach-opposite, reach_in_span, span_in_order, inside_over_one}
 
 -- ---- a strip that holds a chord
 

@@ -6,7 +6,7 @@ use Rattle.integers.proofs.Order.{nonneg_mul, nonneg_add, positive_mul, square_n
 use Rattle.integers.proofs.Cone.{cone}
 use Rattle.bounds_model.specs.Plane.{PlanePoint, origin, point_at, dot, cross, squared_length}
 use Rattle.bounds_model.specs.Strip.{Span, IsInSpan, extent}
-use Rattle.bounds_model.specs.Fans.{AreExtreme, reach}
+use Rattle.bounds_model.specs.Fans.{reach}
 use Rattle.optimality.proofs.Bounds.{one-times}
 use Rattle.optimality.proofs.FanCones.{IsBetween, opposite}
 
@@ -46,14 +46,6 @@ product_between N D d e u h k pN pD b dh dk eh ek at_d at_e =
         read (N ∷ D ∷ dx ∷ dy ∷ ex ∷ ey ∷ ux ∷ uy ∷ hx ∷ hy ∷ kx ∷ ky ∷ []) (λ xs a b c d e f g h i j k l. simp (a, b, c, d, e, f, g, h, i, j, k, l, polys) (den-ring xs _ _ tt))
 
 -- ---- highest and lowest points
-
--- a highest point is not below another
-pub reach_nonneg : (points : List PlanePoint) (d : PlanePoint) (high low : ℕ) → low < length points → AreExtreme points d high low → pos 0 ≤ℤ reach points d high low
-reach_nonneg points d high low named extreme =
-    plain d.x d.y (point_at points low).x (point_at points low).y (point_at points high).x (point_at points high).y (extreme.highest low origin named)
-  where
-    plain : (dx dy px py qx qy : ℤ) → (dx *ℤ px +ℤ dy *ℤ py) ≤ℤ (dx *ℤ qx +ℤ dy *ℤ qy) → pos 0 ≤ℤ (dx *ℤ (qx -ℤ px) +ℤ dy *ℤ (qy -ℤ py))
-    plain dx dy px py qx qy h = le_by (nonneg_difference h) (read (dx ∷ dy ∷ px ∷ py ∷ qx ∷ qy ∷ []) (λ xs a b c d e f. simp (a, b, c, d, e, f, polys, lits xs) (den-ring xs _ _ tt)))
 
 -- the other way the two points change their parts
 pub reach-opposite : (points : List PlanePoint) (d : PlanePoint) (high low : ℕ) → reach points (opposite d) high low ≡ reach points d low high

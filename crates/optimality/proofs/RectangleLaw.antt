@@ -11,10 +11,11 @@ use Rattle.bounds_model.specs.Rectangle.{Rectangle, FitsRectangle, rectangle_siz
 use Rattle.bounds_model.specs.Fans.{QuarterCone, quarter_directions, reach}
 use Rattle.bounds_model.specs.RectangleAnswer.{RectangleAnswer, rectangle_of, PassesRectangle}
 use Rattle.model_laws.proofs.SizeDenominators.{rectangle_denominator}
+use Rattle.model_laws.proofs.Reaches.{reach_nonneg}
 use Rattle.optimality.specs.Laws.{PassingRectanglesAreBest}
 use Rattle.optimality.proofs.PrintedSizes.{smallest_by_printed}
 use Rattle.optimality.proofs.FanCones.{quarter_cone_around, up_to_quarter_turns, turned_right}
-use Rattle.optimality.proofs.Reaches.{dot_between, product_between, reach_nonneg, reach-opposite, reach_in_span, span_in_order, inside_over_one, extents_at_least}
+use Rattle.optimality.proofs.Reaches.{dot_between, product_between, reach-opposite, reach_in_span, span_in_order, inside_over_one, extents_at_least}
 
 -- four points reach as far along u and across it as the size asks of a rectangle in this direction
 record IsLarge (points : List PlanePoint) (size : Fraction) (u : PlanePoint) : Type 0 where

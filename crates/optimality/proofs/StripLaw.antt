@@ -7,13 +7,14 @@ use Rattle.integers.proofs.Order.{le_by, nonneg_difference, nonneg_from_one}
 use Rattle.bounds_model.specs.Plane.{PlanePoint, origin, point_at, vector, squared_length}
 use Rattle.bounds_model.specs.Fractions.{Fraction, IsAtMost}
 use Rattle.bounds_model.specs.Strip.{Strip, FitsStrip, strip_size, extent}
-use Rattle.bounds_model.specs.Fans.{HalfCone, half_directions, reach}
+use Rattle.bounds_model.specs.Fans.{half_directions, reach}
 use Rattle.bounds_model.specs.StripAnswer.{StripAnswer, strip_of, PassesStrip}
 use Rattle.model_laws.proofs.SizeDenominators.{strip_denominator}
+use Rattle.model_laws.proofs.Reaches.{reach_nonneg, no_cone}
 use Rattle.optimality.specs.Laws.{PassingStripsAreBest}
 use Rattle.optimality.proofs.PrintedSizes.{smallest_by_printed}
 use Rattle.optimality.proofs.FanCones.{half_cone_around, up_to_sign, opposite}
-use Rattle.optimality.proofs.Reaches.{dot_between, product_between, reach_nonneg, reach-opposite, reach_in_span, span_in_order, inside_over_one, extents_at_least}
+use Rattle.optimality.proofs.Reaches.{dot_between, product_between, reach-opposite, reach_in_span, span_in_order, inside_over_one, extents_at_least}
 
 -- two points reach as far along u as the size asks of a strip with this normal
 record IsWide (points : List PlanePoint) (size : Fraction) (u : PlanePoint) : Type 0 where
@@ -23,10 +24,6 @@ record IsWide (points : List PlanePoint) (size : Fraction) (u : PlanePoint) : Ty
   in_low : low < length points
   forward : pos 0 ≤ℤ reach points u high low
   wide : (size.n *ℤ squared_length u) ≤ℤ (reach points u high low *ℤ reach points u high low *ℤ size.d)
-
--- any cone, for reading past the end of a list
-pub no_cone : HalfCone
-no_cone = record { direction = origin; high = 0; low = 0 }
 
 -- so it is along a direction that does not point down, by the cone that it lies in
 upper_is_wide : (points : List PlanePoint) (a : StripAnswer) → PassesStrip points a → (u : PlanePoint) → pos 0 ≤ℤ u.y → IsWide points a.size u

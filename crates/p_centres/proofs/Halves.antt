@@ -13,6 +13,7 @@ use Rattle.bounds_model.specs.Numbers.{IsWithin}
 use Rattle.bounds_model.specs.Ranges.{IsFraction}
 use Rattle.bounds_model.specs.CentresAnswer as model
 use Rattle.p_centres.specs.Squares.{half_of}
+use Rattle.bounded_coords.proofs.Ranges.{within_more}
 
 divides_one : (k : ℕ) (n : ℤ) → All (λ e. k ∣ nat_abs e) (n ∷ pos 1 ∷ []) → k ≡ 1
 divides_one k n h = eq-one_of_dvd-one (h 1 (pos 1) (omega arith))
@@ -58,12 +59,6 @@ side-half side = by_parity (side % 2 == 0) refl
         let even : side % 2 ≡ 0 = grind (arith, nat_tests, e) in
         omega arith
     by_parity false e = omega arith
-
--- a number within a bound is within a greater one
-pub within_more : {z : ℤ} {m n : ℕ} → IsWithin m z → T (leb m n) → IsWithin n z
-within_more {z} {m} {n} h t =
-    let more : m ≤ n = leb→le m n t in
-    record { low = omega (arith, ints, h.low, more); high = omega (arith, ints, h.high, more) }
 
 -- half a side of at most 400000 has numbers of at most 400000 and 2
 pub half-numbers : (side : ℕ) → side ≤ 400000 → IsWithin 400000 (half_of side).n × IsWithin 2 (half_of side).d

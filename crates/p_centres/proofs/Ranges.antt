@@ -12,7 +12,8 @@ use Rattle.bounds_model.specs.CentresAnswer.{IsCentreWithinLimits}
 use Rattle.corner_squares.specs.declared.square.Square.{Square}
 use Rattle.p_centres.specs.Covers.{IsPlaced}
 use Rattle.p_centres.specs.Squares.{half_of, centre_of}
-use Rattle.p_centres.proofs.Halves.{divides_two, within_more, fraction_in_range}
+use Rattle.p_centres.proofs.Halves.{divides_two, fraction_in_range}
+use Rattle.bounded_coords.proofs.Ranges.{within_more}
 
 -- ---- the centre
 

@@ -9,58 +9,22 @@ use Rattle.bounds_model.specs.Space.{SpacePoint, point_at, vector, dot, squared_
 use Rattle.bounds_model.specs.AnnulusAnswer.{WeightedPair, pair_sum}
 use Rattle.bounds_model.specs.DistanceAnswer.{difference, pull, first_product}
 use Rattle.kernel_laws.specs.Vectors.{sum_of}
-use Rattle.kernel_laws.proofs.Points.{same_point}
+use Rattle.kernel_laws.proofs.Points.{same_point, squared_length_nonneg}
 use Rattle.pair_sums.specs.declared.sums.PairSums.{PairSums}
 use Rattle.pair_sums.specs.Sums.{AreSums, pull_of}
 use Rattle.pair_sums.specs.Means.{product_ratio}
-
--- the weighted sum of differences is the difference of the weighted sums
-pull_is_difference : (ps qs : List SpacePoint) (pairs : List WeightedPair)
-    → pull ps qs pairs ≡ vector (weighted_sum (λ pair. pair.weight) (λ pair. point_at qs pair.second) pairs) (weighted_sum (λ pair. pair.weight) (λ pair. point_at ps pair.first) pairs)
-pull_is_difference ps qs [] = refl
-pull_is_difference ps qs (pair ∷ rest) =
-    let ih = pull_is_difference ps qs rest in
-    let p = point_at ps pair.first in
-    let q = point_at qs pair.second in
-    let s = weighted_sum (λ (pair : WeightedPair). pair.weight) (λ pair. point_at ps pair.first) rest in
-    let t = weighted_sum (λ (pair : WeightedPair). pair.weight) (λ pair. point_at qs pair.second) rest in
-    let r = pull ps qs rest in
-    same_point (plain pair.weight p.x q.x r.x s.x t.x (ap (λ v. v.x) ih)) (plain pair.weight p.y q.y r.y s.y t.y (ap (λ v. v.y) ih)) (plain pair.weight p.z q.z r.z s.z t.z (ap (λ v. v.z) ih))
-  where
-    plain : (w p q r s t : ℤ) → r ≡ s -ℤ t → w *ℤ (p -ℤ q) +ℤ r ≡ (w *ℤ p +ℤ s) -ℤ (w *ℤ q +ℤ t)
-    plain w p q r s t h = combine1 (pos 1) h (read (w ∷ p ∷ q ∷ r ∷ s ∷ t ∷ []) (λ xs a b c d e f. simp (a, b, c, d, e, f, polys, lits xs) (den-ring xs _ _ tt)))
+use Rattle.model_laws.proofs.WeightedVectors.{pull_is_difference, product_of_sum}
 
 -- so the sums give the pull
 pub pull_is : {ps qs : List SpacePoint} {pairs : List WeightedPair} {s : PairSums} → AreSums ps qs pairs s → pull_of s ≡ pull ps qs pairs
 pull_is {ps} {qs} {pairs} {s} h =
     ap (λ v. vector v (sum_of s.first)) h.second ∙ ap (λ v. vector (weighted_sum (λ (pair : WeightedPair). pair.weight) (λ pair. point_at qs pair.second) pairs) v) h.first ∙ sym (pull_is_difference ps qs pairs)
 
--- where all products with v are e, the product with the weighted sum is the sum of the weights times e
-product_of_sum : {X : Type 0} (weight : X → ℤ) (at : X → SpacePoint) (v : SpacePoint) (e : ℤ) (xs : List X) → All (λ x. dot v (at x) ≡ e) xs → dot v (weighted_sum weight at xs) ≡ total weight xs *ℤ e
-product_of_sum weight at v e [] h = nothing v.x v.y v.z e
-  where
-    nothing : (a b c e : ℤ) → a *ℤ pos 0 +ℤ b *ℤ pos 0 +ℤ c *ℤ pos 0 ≡ pos 0 *ℤ e
-    nothing a b c e = read (a ∷ b ∷ c ∷ e ∷ []) (λ xs p q r s. simp (p, q, r, s, polys, lits xs) (den-ring xs _ _ tt))
-product_of_sum {X} weight at v e (x ∷ xs) h =
-    let Is_e = λ (x : X). dot v (at x) ≡ e in
-    let r = weighted_sum weight at xs in
-    plain v.x v.y v.z (weight x) (at x).x (at x).y (at x).z r.x r.y r.z (total weight xs) e (All-head Is_e x xs h) (product_of_sum weight at v e xs (All-tail Is_e x xs h))
-  where
-    plain : (vx vy vz w ax ay az rx ry rz W e : ℤ) → vx *ℤ ax +ℤ vy *ℤ ay +ℤ vz *ℤ az ≡ e → vx *ℤ rx +ℤ vy *ℤ ry +ℤ vz *ℤ rz ≡ W *ℤ e
-        → vx *ℤ (w *ℤ ax +ℤ rx) +ℤ vy *ℤ (w *ℤ ay +ℤ ry) +ℤ vz *ℤ (w *ℤ az +ℤ rz) ≡ (w +ℤ W) *ℤ e
-    plain vx vy vz w ax ay az rx ry rz W e h k =
-        combine2 w (pos 1) h k
-        (read (vx ∷ vy ∷ vz ∷ w ∷ ax ∷ ay ∷ az ∷ rx ∷ ry ∷ rz ∷ W ∷ e ∷ []) (λ xs a b c d e f g h i j k l. simp (a, b, c, d, e, f, g, h, i, j, k, l, polys, lits xs) (den-ring xs _ _ tt)))
-
--- a length times itself is not below 0
-squared_nonneg : (v : SpacePoint) → pos 0 ≤ℤ squared_length v
-squared_nonneg v = nonneg_add (nonneg_add (square_nonneg v.x) (square_nonneg v.y)) (square_nonneg v.z)
-
 -- so a product that all differences have with the pull is not below 0
 pub product_nonneg : (ps qs : List SpacePoint) (pairs : List WeightedPair) (e : ℤ) → pos 1 ≤ℤ pair_sum pairs → All (λ pair. dot (pull ps qs pairs) (difference ps qs pair) ≡ e) pairs → pos 0 ≤ℤ e
 product_nonneg ps qs pairs e some same =
     nonneg_of_mul (pair_sum pairs) (positive_from_one some)
-    (subst (λ z. pos 0 ≤ℤ z) (product_of_sum (λ (pair : WeightedPair). pair.weight) (difference ps qs) (pull ps qs pairs) e pairs same) (squared_nonneg (pull ps qs pairs)))
+    (subst (λ z. pos 0 ≤ℤ z) (product_of_sum (λ (pair : WeightedPair). pair.weight) (difference ps qs) (pull ps qs pairs) e pairs same) (squared_length_nonneg (pull ps qs pairs)))
 
 -- the factors of a product may be exchanged
 pub dot-comm : (a b : SpacePoint) → dot a b ≡ dot b a

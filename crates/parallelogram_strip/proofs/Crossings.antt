@@ -7,10 +7,11 @@ use Rattle.integers.proofs.Order.{le_from_lt, combine2}
 use Rattle.bounds_model.specs.Plane.{PlanePoint, point_at, vector, dot, cross, turn, plus, times, quarter_turn}
 use Rattle.bounds_model.specs.Fans.{HalfCone, reach}
 use Rattle.bounds_model.specs.ParallelogramAnswer.{Chord, IsAcross}
-use Rattle.directions.proofs.Reaches.{reach_turned, reach_nonneg}
+use Rattle.directions.proofs.Reaches.{reach_turned}
 use Rattle.parallelogram_strip.specs.Crossings.{reach_of}
 use Rattle.parallelogram_strip.proofs.Turning.{dot_between}
 use Rattle.parallelogram_strip.proofs.FullTurn.{IsFullTurn}
+use Rattle.model_laws.proofs.Reaches.{reach_nonneg}
 
 -- ---- ahead and behind, as the direction turns
 

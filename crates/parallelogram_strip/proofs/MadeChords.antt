@@ -10,10 +10,7 @@ use Rattle.parallelogram_strip.specs.Crossings.{IsChord}
 use Rattle.directions.proofs.Reading.{reach_parts}
 use Rattle.parallelogram_strip.proofs.Crossings.{chord_across}
 use Rattle.directions.proofs.Reading.{point_is}
-
--- a product with a vector is a difference of products
-dot_vector : (d p q : PlanePoint) → dot d (vector p q) ≡ dot d q -ℤ dot d p
-dot_vector d p q = reach_parts (p ∷ q ∷ []) d 1 0
+use Rattle.directions.proofs.Reaches.{dot_vector}
 
 -- the chord with these weights and this factor
 pub made_chord : (points : List PlanePoint) (d : PlanePoint) (a b c beta gamma : ℕ) (k : ℤ) (p q r : PlanePoint)

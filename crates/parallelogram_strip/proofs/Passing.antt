@@ -24,8 +24,9 @@ use Rattle.parallelogram_strip.specs.declared.crossing.Crossing.{Crossing}
 use Rattle.parallelogram_strip.specs.Flat.{AreWide, IsFlatAt, point_chord}
 use Rattle.parallelogram_strip.proofs.FullTurn.{full_turn_of, first_half, each_around, length-directions, direction_at, two_cones}
 use Rattle.directions.proofs.Reaches.{reach_opposite}
-use Rattle.directions.proofs.SpanBounds.{within_more, direction_of_short, short_span, AreBounds, bounds_hold, extent_is}
+use Rattle.directions.proofs.SpanBounds.{short_span, AreBounds, bounds_hold, extent_is}
 use Rattle.parallelogram_strip.proofs.Extents.{reach_mixed, crossing_extent, not_along, area_same}
+use Rattle.bounded_coords.proofs.Ranges.{within_more, direction_of_short}
 
 -- ---- the chords
 

@@ -19,9 +19,10 @@ use Rattle.parallelogram_strip.specs.Widths.{IsWidth, IsNotWider}
 use Rattle.parallelogram_strip.specs.declared.thinnest.Width.{Width}
 use Rattle.parallelogram_strip.proofs.FullTurn.{IsFullTurn, full_turn_of, direction_at, two_cones}
 use Rattle.directions.proofs.Reaches.{reach_opposite, lowest_long, long_some}
-use Rattle.directions.proofs.SpanBounds.{direction_of_short, short_span, AreBounds, bounds_hold, extent_is}
+use Rattle.directions.proofs.SpanBounds.{short_span, AreBounds, bounds_hold, extent_is}
 use Rattle.parallelogram_strip.proofs.Extents.{reach_mixed}
 use Rattle.parallelogram_strip.proofs.Passing.{cone_any}
+use Rattle.bounded_coords.proofs.Ranges.{direction_of_short}
 
 -- the square of the reach times the best's length is at least that of the best's reach times the length, along the direction of this number
 pub record IsNotThinnerAt (points : List PlanePoint) (fan : HalfFan) (best : Width) (i : ℕ) : Type 0 where

@@ -10,6 +10,7 @@ use Rattle.bounds_model.specs.Plane.{PlanePoint, point_at, origin, vector, cross
 use Rattle.bounds_model.specs.Hull.{around}
 use Rattle.bounds_model.specs.CornerTest.{CornersPass, FirstIsOnce, SurroundAll}
 use Rattle.polygon_check.specs.HullTests.{IsEdgeAt}
+use Rattle.kernel_laws.proofs.PlaneTurns.{turn_along}
 
 -- the corner at a position is the point of the number there
 pub numbered_corner : (points : List PlanePoint) (numbers : List ℕ) (i : ℕ) → i < length numbers → point_at (map (point_at points) numbers) i ≡ point_at points (slice_index_or numbers i 0)
@@ -50,13 +51,6 @@ edge_if {yes} points corners i a b c e f g turns left =
 
 pub edge_turns : (points corners : List PlanePoint) (i : ℕ) (a b c : PlanePoint) → a ≡ around corners i → b ≡ around corners (i + 1) → c ≡ around corners (i + 2) → IsEdgeAt points corners i → pos 0 <ℤ turn a b c
 edge_turns points corners i a b c e f g h = subst (λ q. pos 0 <ℤ turn q b c) (sym e) (subst (λ q. pos 0 <ℤ turn (around corners i) q c) (sym f) (subst (λ q. pos 0 <ℤ turn (around corners i) (around corners (i + 1)) q) (sym g) h.turns))
-
--- a left turn, from the corner or from the edge before it
-turn_along : (a b c : PlanePoint) → turn a b c ≡ cross (vector a b) (vector b c)
-turn_along a b c = identity a.x a.y b.x b.y c.x c.y
-  where
-    identity : (p q r s t u : ℤ) → (r -ℤ p) *ℤ (u -ℤ q) -ℤ (s -ℤ q) *ℤ (t -ℤ p) ≡ (r -ℤ p) *ℤ (u -ℤ s) -ℤ (s -ℤ q) *ℤ (t -ℤ r)
-    identity p q r s t u = read (p ∷ q ∷ r ∷ s ∷ t ∷ u ∷ []) (λ xs a b c d e f. simp (a, b, c, d, e, f, polys) (den-ring xs _ _ tt))
 
 -- what one corner, two and more hold
 pub surround_one : (points corners : List PlanePoint) (a : PlanePoint) → length corners ≡ 1 → a ≡ point_at corners 0 → All (λ p. p ≡ a) points ↔ SurroundAll points corners

@@ -15,12 +15,9 @@ use Rattle.corral.specs.Supports.{AreSupports}
 use Rattle.corral.proofs.Moments.{at_least_common}
 use Rattle.pair_sums.proofs.Products.{dot-comm}
 use Rattle.polytope_distance.specs.Supports.{weighted_pair}
+use Rattle.kernel_laws.proofs.WeightedSums.{weighted_sum-map}
 
 -- ---- lists
-
-weighted_sum-map : {X Y : Type 0} (weight : Y → ℤ) (at : Y → SpacePoint) (f : X → Y) (xs : List X) → weighted_sum weight at (map f xs) ≡ weighted_sum (λ x. weight (f x)) (λ x. at (f x)) xs
-weighted_sum-map weight at f [] = refl
-weighted_sum-map weight at f (x ∷ xs) = ap (plus (times (weight (f x)) (at (f x)))) (weighted_sum-map weight at f xs)
 
 -- ---- supports as weighted differences, and as pairs
 

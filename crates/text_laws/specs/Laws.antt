@@ -1,7 +1,7 @@
 -- The laws of the answer text, as statements.
 use Rattle.std.specs.Prelude.{◌≡◌, ℕ, ◌^◌, ◌<◌, List, [], ◌++◌, length, Ok}
 use Rattle.bounds_model.specs.Answers.{Answer}
-use Rattle.bounds_model.specs.AnswerText.Spelling.{spelling, Spells}
+use Rattle.bounds_model.specs.AnswerText.Spelling.{Spells}
 use Rattle.bounds_model.specs.AnswerText.Reading.{reading}
 
 -- a text reads as an answer exactly where it spells it

@@ -4,6 +4,7 @@ use Rattle.std.specs.Prelude.{nat_le}
 use Rattle.std.proofs.lemmas.Bool.{le-leb}
 use Rattle.std.specs.Int.{w128}
 use Rattle.std.proofs.lemmas.Int.{to_z-of_z, ints}
+use Rattle.integers.proofs.Magnitudes.{magnitude_is}
 use Rattle.bounds_model.specs.Fractions.{Fraction}
 use Rattle.bounds_model.specs.Plane.{PlaneRatio}
 use Rattle.bounds_model.specs.Space.{SpaceRatio}
@@ -41,11 +42,6 @@ same_number a b p q e = sym (to_z-of_z w128 a p) ∙ (ap (to_z w128) e ∙ to_z-
 
 -- ---- fractions
 
--- a number that is not below 0 is its magnitude
-pub pos_abs : (z : ℤ) → pos 0 ≤ℤ z → pos (nat_abs z) ≡ z
-pos_abs (pos n) low = refl
-pos_abs (negsuc n) low = absurd (omega (arith, ints))
-
 -- the number is within the limit
 small_number : (z : ℤ) → nat_abs z ≤ 2 ^ 126 → nat_le (nat_abs z) number_limit ≡ true
 small_number z small = le-leb (nat_abs z) number_limit small
@@ -54,8 +50,8 @@ small_number z small = le-leb (nat_abs z) number_limit small
 pub fraction-kept : (v : Fraction) (n d : ℤ) (a b : ℕ) → IsFraction v → pos a ≡ v.n → pos b ≡ v.d → a ≡ nat_abs n → b ≡ nat_abs d → pos 0 ≤ℤ n → pos 1 ≤ℤ d
     → ◌≡◌ {A = Judged Fraction} (Ok v) (judged_field fraction (record { n = n; d = d }))
 fraction-kept v n d a b lowest p q e f n-low d-low =
-    let n-is : v.n ≡ n = sym p ∙ (ap pos e ∙ pos_abs n n-low) in
-    let d-is : v.d ≡ d = sym q ∙ (ap pos f ∙ pos_abs d (omega (arith, ints))) in
+    let n-is : v.n ≡ n = sym p ∙ (ap pos e ∙ magnitude_is n-low) in
+    let d-is : v.d ≡ d = sym q ∙ (ap pos f ∙ magnitude_is {z = d} (omega (arith, ints))) in
     let same : v ≡ record { n = n; d = d } = λ i. record { n = n-is i; d = d-is i } in
     sym (judged-kept fraction v refl lowest) ∙ ap (judged_field fraction) same
 

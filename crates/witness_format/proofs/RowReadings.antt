@@ -17,6 +17,7 @@ use Rattle.bounds_model.specs.AnswerText.Written.{row_format}
 use Rattle.text_laws.proofs.AnswerTexts.FormLaws.{read_is}
 use Rattle.text_laws.proofs.AnswerTexts.NumberLaws.{some_is, bind_some}
 use Rattle.text_laws.proofs.AnswerTexts.RangeLaws.{two_true}
+use Rattle.text_laws.proofs.AnswerTexts.KgonKind.{sum_replicate}
 use Rattle.witness_format.specs.declared.fault.ReadFault.{ReadFault}
 use Rattle.witness_format.specs.declared.fault.ReadFault.TheVariants.{BadAnswer, BigNumber, OutOfMemory}
 use Rattle.witness_format.specs.declared.judging.Flaw.{Flaw}
@@ -58,11 +59,6 @@ row_last (suc width) left layers some last =
 abbrev pub width_sum : List ℕ → ℕ
 width_sum [] = 0
 width_sum (width ∷ widths) = width + width_sum widths
-
--- in rows of one width, and in those behind them
-sum_replicate : (layers width : ℕ) (more : List ℕ) → width_sum (replicate layers width ++ more) ≡ layers * width + width_sum more
-sum_replicate zero width more = omega arith
-sum_replicate (suc layers) width more = omega (arith, sum_replicate layers width more)
 
 -- in all layers
 sum_most : (longest layers : ℕ) → width_sum (triangle longest layers) ≤ layers * longest * longest

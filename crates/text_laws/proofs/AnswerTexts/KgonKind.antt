@@ -94,7 +94,7 @@ rows_fit (width ∷ widths) zs amount all =
     (line_fits (naturals width ∷ []) (take width zs, tt) refl ((omega (arith, length-take width zs), All-take IsNatural width zs all), tt), rows_fit widths (drop width zs) (omega (arith, length-drop width zs)) (All-drop IsNatural width zs all))
 
 -- the sum of equal widths
-sum_replicate : (layers width : ℕ) (more : List ℕ) → width_sum (replicate layers width ++ more) ≡ layers * width + width_sum more
+pub sum_replicate : (layers width : ℕ) (more : List ℕ) → width_sum (replicate layers width ++ more) ≡ layers * width + width_sum more
 sum_replicate zero width more = omega arith
 sum_replicate (suc layers) width more = omega (arith, sum_replicate layers width more)
 

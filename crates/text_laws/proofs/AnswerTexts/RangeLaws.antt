@@ -1,5 +1,5 @@
 -- The tests of fields say that the fields keep the ranges of their ranges.
-use Rattle.std.proofs.Common.{◌≡◌, ℕ, ◌≤◌, ℤ, pos, negsuc, nat_abs, Bool, true, false, ◌&&◌, List, [], ◌∷◌, length, refl, arith, ◌≤ℤ◌}
+use Rattle.std.proofs.Common.{◌≡◌, ℕ, ◌≤◌, ℤ, pos, negsuc, nat_abs, Bool, true, false, ◌&&◌, List, [], ◌∷◌, length, refl, arith, ◌≤ℤ◌, le_trans}
 use Rattle.std.specs.Prelude.{int_le, nat_le, ◌==◌, All}
 use Rattle.std.specs.List.{list_all}
 use Rattle.std.proofs.lemmas.Bool.{eqb-true, leb-true, le-leb, eq-eqb}
@@ -33,10 +33,6 @@ within_from_abs limit (negsuc n) h = record { low = grind (arith, ints); high = 
 abs_from_within : (limit : ℕ) (z : ℤ) → IsWithin limit z → nat_abs z ≤ limit
 abs_from_within limit (pos n) h = let high = h.high in grind (arith, ints)
 abs_from_within limit (negsuc n) h = let low = h.low in grind (arith, ints)
-
--- an order of three numbers
-up_to : (a b c : ℕ) → a ≤ b → b ≤ c → a ≤ c
-up_to a b c p q = omega arith
 
 -- a number within the limit
 number_range : (z : ℤ) → within z ≡ true → IsNumber z
@@ -177,7 +173,7 @@ field_passes (naturals amount) zs limited range =
     (w.0, two_true (length zs == amount) (list_all (λ z. int_le (pos 0) z) zs) (eq-eqb (length zs) amount range.0) w.1)
 field_passes (bounded low high) n limited range =
     let most : high ≤ number_limit = leb-true high number_limit limited in
-    let within-n : n ≤ number_limit = up_to n high number_limit range.1 most in
+    let within-n : n ≤ number_limit = le_trans range.1 most in
     (two_true (within (pos n)) true (le-leb n number_limit within-n) refl, two_true (nat_le low n) (nat_le n high) (le-leb low n range.0) (le-leb n high range.1))
 field_passes fraction a limited range = (
   two_true (within a.n) (within a.d && true) (number_within a.n range.numerator) (two_true (within a.d) true (number_within a.d range.denominator) refl),

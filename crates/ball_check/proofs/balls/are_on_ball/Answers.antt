@@ -7,8 +7,9 @@ use Rattle.bounded_coords.specs.Clouds.{points_of}
 use Rattle.answers.specs.Answers.{weighted_of}
 use Rattle.answers.specs.declared.balls.Weighted.{Weighted}
 use Rattle.integers.proofs.Lists.{All-unmap, clash}
-use Rattle.ball_check.proofs.Supports.{some_supports, names_point, placed, first_placed, on_ball_by}
+use Rattle.ball_check.proofs.Supports.{some_supports, names_point, first_placed, on_ball_by}
 use Rattle.ball_check.proofs.balls.are_on_ball.Goals as goal
+use Rattle.kernel_laws.proofs.Points.{point_at_place}
 
 pub at-first-requires : goal.at-first-requires
 at-first-requires g c = names_point c.args.supports.now 0 (record { point = 0; weight = 0 }) c.requires.limits.numbers (some_supports c.args.supports.now c.requires.limits.some)
@@ -23,7 +24,7 @@ returns-then-not-is_on g c =
     let supports = c.args.supports.now in
     let s : Weighted = get_or supports c.loop-s.s-index (record { point = 0; weight = 0 }) in
     let first = first_placed place points supports (record { point = 0; weight = 0 }) c.at-first.result.now (some_supports supports c.requires.limits.some) c.at-first.ensures in
-    let on = on_ball_by (map place points) (map weighted_of supports) c.args.totals.now (place c.at-first.result.now) (place c.at.result.now) (weighted_of s) c.requires.totals first (placed place points s.point c.at.result.now c.at.ensures) c.is_on.ensures in (
+    let on = on_ball_by (map place points) (map weighted_of supports) c.args.totals.now (place c.at-first.result.now) (place c.at.result.now) (weighted_of s) c.requires.totals first (point_at_place place points s.point c.at.result.now c.at.ensures) c.is_on.ensures in (
       λ no. absurd (cc no),
       λ all. absurd (clash (on.1 (All-unmap (IsOnBall (map place points) (map weighted_of supports)) weighted_of supports all c.loop-s.s-index (record { point = 0; weight = 0 }) c.loop-s-test.true)) c.if-not-is_on.true),
     )
@@ -35,7 +36,7 @@ loop-s-preserved g c =
     let supports = c.args.supports.now in
     let s : Weighted = get_or supports c.loop-s.s-index (record { point = 0; weight = 0 }) in
     let first = first_placed place points supports (record { point = 0; weight = 0 }) c.at-first.result.now (some_supports supports c.requires.limits.some) c.at-first.ensures in
-    let on = on_ball_by (map place points) (map weighted_of supports) c.args.totals.now (place c.at-first.result.now) (place c.at.result.now) (weighted_of s) c.requires.totals first (placed place points s.point c.at.result.now c.at.ensures) c.is_on.ensures in
+    let on = on_ball_by (map place points) (map weighted_of supports) c.args.totals.now (place c.at-first.result.now) (place c.at.result.now) (weighted_of s) c.requires.totals first (point_at_place place points s.point c.at.result.now c.at.ensures) c.is_on.ensures in
     All-more (λ s. IsOnBall (map place points) (map weighted_of supports) (weighted_of s)) supports c.loop-s.s-index (record { point = 0; weight = 0 }) c.loop-s-test.true c.loop-s.invariant (on.0 c.if-not-is_on.false)
 
 pub returns : goal.returns

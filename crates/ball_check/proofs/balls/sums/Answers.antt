@@ -12,9 +12,10 @@ use Rattle.ball_sums.specs.Sums.{AreSumsFrom}
 use Rattle.ball_sums.proofs.Weights.{some_weight}
 use Rattle.ball_sums.proofs.SupportSums.{sums_of_more}
 use Rattle.integers.proofs.Lists.{All-unmap, clash}
-use Rattle.ball_check.proofs.Supports.{placed, first_placed}
+use Rattle.ball_check.proofs.Supports.{first_placed}
 use Rattle.ball_check.proofs.SupportWeights.{too_heavy}
 use Rattle.ball_check.proofs.balls.sums.Goals as goal
+use Rattle.kernel_laws.proofs.Points.{point_at_place}
 
 not_empty : {yes : Bool} (supports : List Weighted) → yes ≡ eqb (length supports) 0 → yes ≡ false → 1 ≤ length supports
 not_empty [] is other = absurd (clash is other)
@@ -39,7 +40,7 @@ loop-s-preserved g c =
     let some : 1 ≤ length supports = omega (arith, c.loop-s-test.true) in
     let more = map_more weighted_of supports c.loop-s.s-index none c.loop-s-test.true in
     let first = first_placed place points supports none c.at-first.result.now some c.at-first.ensures in
-    let to = ap₂ vector first (placed place points s.point c.at.result.now c.at.ensures) ∙ sym c.diff-to.ensures.value in
+    let to = ap₂ vector first (point_at_place place points s.point c.at.result.now c.at.ensures) ∙ sym c.diff-to.ensures.value in
     record {
       weights = subst (All (λ s. pos 1 ≤ℤ s.weight)) (sym more) (All-push (λ s. pos 1 ≤ℤ s.weight) (map weighted_of (take c.loop-s.s-index supports)) (weighted_of s) c.loop-s.invariant.weights (omega (arith, ints, added.0)));
       range = added.1;

@@ -2,8 +2,7 @@ use Rattle.std.proofs.Common.{ap}
 use Rattle.std.proofs.lemmas.Bool.{eqb-true, eq-eqb}
 use Rattle.pair_sums.specs.Means.{product_ratio}
 use Rattle.ball_sums.proofs.MachineMeans.{denominator_positive}
-use Rattle.exact_fractions.proofs.UniqueForms.{has_value}
-use Rattle.distance_check.proofs.PairLimits.{same_number, same_fraction}
+use Rattle.exact_fractions.proofs.UniqueForms.{has_value, same_number, same_fraction}
 use Rattle.distance_check.proofs.distances.is_size.Goals as goal
 
 pub returns-then-num : goal.returns-then-num

@@ -11,9 +11,10 @@ use Rattle.answers.specs.declared.parallelograms.Chord.{Chord}
 use Rattle.answers.specs.Answers.{vector_of, chord_of}
 use Rattle.directions.proofs.Bounds.{size_in, magnitude_read}
 use Rattle.directions.proofs.Reading.{reach_is}
-use Rattle.directions.proofs.Reaches.{not_behind, reach_nonneg, reach_within}
+use Rattle.directions.proofs.Reaches.{not_behind, reach_within}
 use Rattle.fan_checks.proofs.Widths.{stands_within, ordered}
 use Rattle.fan_checks.proofs.parallelograms.is_not_smaller.Goals as goal
+use Rattle.model_laws.proofs.Reaches.{reach_nonneg}
 
 pub beyond-width-requires-clause-order : goal.beyond-width-requires-clause-order
 beyond-width-requires-clause-order c =

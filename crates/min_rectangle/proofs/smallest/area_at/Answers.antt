@@ -8,9 +8,10 @@ use Rattle.bounds_model.specs.RectangleAnswer.{reached_area}
 use Rattle.bounded_coords.specs.Clouds.{points_of}
 use Rattle.answers.specs.Answers.{vector_of}
 use Rattle.directions.proofs.Reading.{reach_is}
-use Rattle.directions.proofs.Reaches.{not_behind, reach_nonneg, reach_within}
+use Rattle.directions.proofs.Reaches.{not_behind, reach_within}
 use Rattle.min_rectangle.proofs.Cones.{cone_read, listed_read, is_cone_read}
 use Rattle.min_rectangle.proofs.smallest.area_at.Goals as goal
+use Rattle.model_laws.proofs.Reaches.{reach_nonneg}
 
 pub at-requires : goal.at-requires
 at-requires c = (is_cone_read (points_of c.args.cloud) c.args.fan.now c.args.j c.at-cone.result c.requires.fan c.at-cone.ensures).named.low

@@ -1,8 +1,9 @@
 use Rattle.std.proofs.Common.{subst, FitsSigned, rules, to_z-of_z}
 use mir.Syntax.{w128}
 use Rattle.bounds_model.specs.Space.{SamePlace}
-use Rattle.pair_sums.proofs.Ratios.{denominator, space_ratio_by}
+use Rattle.pair_sums.proofs.Ratios.{denominator}
 use Rattle.pair_sums.proofs.means.mean.Goals as goal
+use Rattle.exact_fractions.proofs.UniqueForms.{space_ratio_by}
 
 pub returns-clause-place : goal.returns-clause-place
 returns-clause-place c =
