@@ -82,10 +82,6 @@ passing_determined points a h s sums powers p = record {
   outer = (p.ranges.outer, subst (λ z. SameValue a.outer (squared_radius_at a.centre z)) (sym powers.greatest) p.outer);
 }
 
--- a passing answer's centre is within the limits
-pub small_centre : (points : List PlanePoint) (a : AnnulusAnswer) → PassesAnnulus points a → IsSmallCentre a.centre
-small_centre points a p = record { range = p.ranges.centre; limits = record { w = p.w_limit; x = p.x_limit; y = p.y_limit } }
-
 -- ---- what decides
 
 -- the test of what is left decides, with the answer's pairs as a slice and its centre in 64 bits

@@ -36,14 +36,3 @@ RefusedOf-second a b xs ys h = (h.0, h.1, λ k d lt. cut_second xs ys _ (h.2 k d
 pub RefusedOf-trans : (a b c : SinkState) (bytes : List ℕ) → RefusedOf a b bytes → RefusedOf b c bytes → RefusedOf a c bytes
 RefusedOf-trans a b c bytes h k =
     (h.0 ++ k.0, k.1 ∙ ap (λ pieces. pieces ++ k.0) h.1 ∙ append_assoc a.refused h.0 k.0, All-append (IsCutFrom bytes) h.0 k.0 h.2 k.2)
-
--- a sink in memory keeps this piece, or what it kept before
-pub Refused-kept : (kept piece : List ℕ)
-    → (kept_pieces (kept_refused kept piece) ≡ kept_pieces kept) ⊎ (kept_pieces (kept_refused kept piece) ≡ kept_pieces kept ++ piece ∷ [])
-Refused-kept [] [] = inl refl
-Refused-kept [] (byte ∷ bytes) = by_length (nat_lt 64 (length (byte ∷ bytes)))
-  where
-    by_length : (long : Bool) → (kept_pieces (if long then [] else byte ∷ bytes) ≡ []) ⊎ (kept_pieces (if long then [] else byte ∷ bytes) ≡ (byte ∷ bytes) ∷ [])
-    by_length true = inl refl
-    by_length false = inr refl
-Refused-kept (byte ∷ bytes) piece = inl refl

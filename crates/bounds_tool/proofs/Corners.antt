@@ -37,11 +37,6 @@ unsolved_file last ask form brief file old new sets (TooManyCorners count) point
     inr (inl (many (asked ask) sets count h, where_read old.told form (asked ask) file sets (λ sets. HasTooManyCorners (asked ask) sets count) h points))
 unsolved_file last ask form brief file old new sets OutOfMemory points h = inr (inr (refl, accepted old.told (λ folder. points_in form (asked ask) (bytes_of folder file)) sets points))
 
--- why points that were made were not
-pub unsolved_demo : (ask : Ask) (sets : Sets) (fault : KgonFault) → IsUnsolved ask sets fault → (meant (unsolved fault) ≡ out_of_memory) ⊎ CornersCause (asked ask) sets (meant (unsolved fault))
-unsolved_demo ask sets (TooManyCorners count) h = inr h
-unsolved_demo ask sets OutOfMemory h = inl cc
-
 -- what holds of the cause that a fault becomes
 pub if_unsolved : {X : Type 0} (P : code.Cause → Type 0) (result : Result X code.Cause) (fault : KgonFault) → IsErrAnd result (λ cause. cause ≡ unsolved fault) → P (unsolved fault) → IfErr result P
 if_unsolved P (Ok x) fault h p = tt

@@ -118,10 +118,6 @@ ending last (check_task ask form points answer) old new cause (inr h) = in_answe
 ending last (demo_task ask seed count) old new cause (inl h) = by_memory (ap cause_status h)
 ending last (demo_task ask seed count) old new cause (inr h) = in_demo last ask seed count old new cause h
 
--- the cause of a task is one of the words that call for it
-pub TaskCause-task : (last : Option ℕ) (words : List (List ℕ)) (task : Task) (old new : FilesState) (cause : Cause) → task_of words ≡ Ok task → ComesOf last task old new cause → TaskCause last words old new cause
-TaskCause-task last words task old new cause is h = inr (inr (task, is, h))
-
 -- the words are no task, or memory is wanting for them, or the task ends so
 pub data RunEnding (last : Option ℕ) (words : List (List ℕ)) (old new : FilesState) (cause : Cause) : Type 0 where
   by_words : task_of words ≡ Err cause → cause_status cause ≡ Usage → RunEnding last words old new cause

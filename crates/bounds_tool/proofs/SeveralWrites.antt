@@ -10,12 +10,6 @@ use Rattle.bnd_io.specs.Sinks.{SinkState, SinkContinues, Appended, AppendedPrefi
 use Rattle.bounds_tool.specs.Telling.{Told}
 use Rattle.bnd_io.proofs.Writes.{Appended-append}
 
--- a count that rose later rose
-pub Rose-earlier : (last : Option ℕ) (first before now : ℕ) → first ≤ before → Rose last before now → Rose last first now
-Rose-earlier None first before now h r = omega arith
-Rose-earlier (Some last) first before now h (inl r) = inl (omega arith)
-Rose-earlier (Some last) first before now h (inr e) = inr e
-
 -- a whole piece and then a prefix of the next one are a prefix of both
 pub AppendedPrefix-append : (a b c : SinkState) (xs ys : List ℕ) → Appended a b xs → SinkContinues b c → AppendedPrefix b c ys → AppendedPrefix a c (xs ++ ys)
 AppendedPrefix-append a b c xs ys first on then =

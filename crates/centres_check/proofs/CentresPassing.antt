@@ -43,12 +43,3 @@ pub passes_within_limits : {count : ℕ} (points : List PlanePoint) (a : Centres
     → PassesCentres count points a ↔ CoversTightly count points a
 passes_within_limits {count} points a some few squares leaves limits =
     (λ p. record { near = p.covers.near; leaves = p.leaves }, λ tight. passes count points a some few squares leaves limits tight)
-
--- an answer that passes is within the limits
-pub limits_of_passing : {count : ℕ} (points : List PlanePoint) (a : CentresAnswer) → PassesCentres count points a → IsWithinLimits count points a
-limits_of_passing points a p = record {
-  as_many = p.covers.as_many;
-  radius = record { range = p.ranges.size; halves = p.halves; limit = p.size_limit };
-  centres = λ k d below. record { range = p.ranges.squares k d below; near = p.centres k d below };
-  numbers = p.numbers;
-}

@@ -23,10 +23,6 @@ use Rattle.corner_squares.proofs.LeftOver.{Contains-left_over, All-left_over, le
 one_later : (k i : ℕ) → k < i → k < i + 1
 one_later k i h = omega (arith, h)
 
--- the value is within the ends
-Between : Extent → ℤ → Type 0
-Between e v = (e.low ≤ℤ v) × (v ≤ℤ e.high)
-
 sees_value : (old new : Extent) (value : ℤ) (number : ℕ) → Sees old value number new → (new.low ≤ℤ value) × (value ≤ℤ new.high)
 sees_value old new value number sees = (
   elim sees.low [ inl stays ↦ omega (arith, ints, stays.0, stays.1) | inr takes ↦ omega (arith, ints, takes.1) ],

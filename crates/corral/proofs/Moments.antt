@@ -69,10 +69,6 @@ pub common_slack : (quadratic : ℤ) (items : List WeightedVector) → 1 ≤ len
 common_slack quadratic [] some equal = absurd (omega arith)
 common_slack quadratic (item ∷ items) some equal = (slack quadratic (item ∷ items) item.vector, λ k d l. equal k d l 0 item (omega arith))
 
--- and from one slack they are equal
-pub equal_from_common : (quadratic : ℤ) (items : List WeightedVector) (p : ℤ) → All (λ item. slack quadratic items item.vector ≡ p) items → AreEqualSlacks quadratic items
-equal_from_common quadratic items p level j d l k e m = level j d l ∙ sym (level k e m)
-
 -- a vector that is not low has at least their slack
 pub at_least_common : (quadratic : ℤ) (items : List WeightedVector) (p : ℤ) → All (λ item. slack quadratic items item.vector ≡ p) items → (v : SpacePoint) → ¬ IsLow quadratic items v → p ≤ℤ slack quadratic items v
 at_least_common quadratic items p level v not_low =

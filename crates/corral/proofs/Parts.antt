@@ -10,11 +10,6 @@ pub part_whole : {A : Type 0} (xs : List A) → IsPart xs xs
 part_whole [] = none
 part_whole (x ∷ xs) = keeps (part_whole xs)
 
--- the empty list is a part of each list
-pub part_empty : {A : Type 0} (xs : List A) → IsPart [] xs
-part_empty [] = none
-part_empty (x ∷ xs) = omits (part_empty xs)
-
 -- the empty list has no other part
 pub part_of_empty : {A : Type 0} {part : List A} → IsPart part [] → part ≡ []
 part_of_empty none = refl

@@ -8,13 +8,6 @@ use Rattle.corral.specs.Balances.{vectors, AreRefuted}
 use Rattle.corral.proofs.Parts.{part_whole, part_of_empty, part_cases, part_trans, part_append}
 use Rattle.corral.proofs.MomentSums.{rest, rest-cons}
 
--- a list without the element that was pushed last
-take_pushed : {A : Type 0} (xs : List A) (x : A) (n : ℕ) → n ≡ length xs → take n (xs ++ x ∷ []) ≡ xs
-take_pushed [] x zero e = refl
-take_pushed [] x (suc n) e = absurd (omega arith)
-take_pushed (y ∷ xs) x zero e = absurd (omega arith)
-take_pushed (y ∷ xs) x (suc n) e = ap (λ zs. y ∷ zs) (take_pushed xs x n (omega arith))
-
 -- what is chosen, with the rest but its first
 pub part_without : {A : Type 0} (chosen all others : List A) → 1 ≤ length others → IsPart (chosen ++ others) all → IsPart (chosen ++ rest others) all
 part_without chosen all [] some h = absurd (omega arith)

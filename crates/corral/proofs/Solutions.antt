@@ -64,13 +64,6 @@ within_plane_limit dim flag vs h = All-weaker (IsVectorWithin (difference_limit 
     most dim (inl e) = subst (λ d. difference_limit d ≤ 400000) (sym e) (omega arith)
     most dim (inr e) = subst (λ d. difference_limit d ≤ 400000) (sym e) (omega arith)
 
--- the greatest sum of weights
-pub light_weights : (quadratic : ℤ) (dim : ℕ) → (quadratic ≡ pos 0) ⊎ (quadratic ≡ pos 1) → (dim ≡ 2) ⊎ (dim ≡ 3) → weight_limit quadratic dim ≤ 2 ^ 92
-light_weights quadratic dim (inl e) (inl f) = subst (λ s. weight_limit s dim ≤ 2 ^ 92) (sym e) (omega arith)
-light_weights quadratic dim (inl e) (inr f) = subst (λ s. weight_limit s dim ≤ 2 ^ 92) (sym e) (omega arith)
-light_weights quadratic dim (inr e) (inl f) = subst (λ s. weight_limit s dim ≤ 2 ^ 92) (sym e) (subst (λ d. weight_limit (pos 1) d ≤ 2 ^ 92) (sym f) (omega arith))
-light_weights quadratic dim (inr e) (inr f) = subst (λ s. weight_limit s dim ≤ 2 ^ 92) (sym e) (subst (λ d. weight_limit (pos 1) d ≤ 2 ^ 92) (sym f) (omega arith))
-
 -- ---- weights that the solver gives
 
 -- what holds of the weights of items holds of all weights

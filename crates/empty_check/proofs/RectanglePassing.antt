@@ -98,17 +98,6 @@ restricted_passes frame points a is few r = (
   },
 )
 
--- one that passes is all right for itself
-pub passing_is_restricted : (frame : Box) (points : List PlanePoint) (a : EmptyAnswer) → PassesEmpty frame points a → IsRestricted frame points a
-passing_is_restricted frame points a p = record {
-  size_in_range = p.ranges.size;
-  inside = record { in_left = p.in_left; wide = p.wide; in_right = p.in_right; in_bottom = p.in_bottom; high = p.high; in_top = p.in_top };
-  numbers = p.numbers;
-  size = p.size;
-  empty = p.empty;
-  blocked = p.blocked;
-}
-
 -- ---- clouds
 
 -- what is asked of the points of a cloud, or of none

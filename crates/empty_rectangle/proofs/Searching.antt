@@ -120,18 +120,6 @@ NoneExceeds-seeds obstacles extent area at_corner all_above all_beside left bott
 
 -- ---- the seeds
 
-pub IsSeed-corner : (obstacles : List Obstacle) (extent : Extent) → IsExtent extent → IsSeed obstacles extent 0 corner
-IsSeed-corner obstacles extent is = record {
-  start = omega arith;
-  earlier = AllWithin-none (λ s. s.y ≤ 0) obstacles 0;
-  order = le_refl 0;
-  below_top = is.some_height;
-  after_left = omega arith;
-  before_right = omega (arith, is.some_width);
-  left = inl refl;
-  bottom = inl refl;
-}
-
 pub IsSeed-above : (obstacles : List Obstacle) (extent : Extent) (i : ℕ) (s : Obstacle) → IsNonDecreasingBy (λ q. q.y) obstacles → All (IsInExtent extent) obstacles → i < length obstacles → s ≡ get_or obstacles i s → IsSeed obstacles extent (i + 1) (above s)
 IsSeed-above obstacles extent i s sorted inside below is =
     let in_extent = All-contains (IsInExtent extent) obstacles s inside (i, below, sym is) in

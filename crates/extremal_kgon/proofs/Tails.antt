@@ -110,17 +110,6 @@ tail-ends corners layers us first layer last positions all area is_first t none 
     nothing_more : {u f a : ℤ} → u ≡ pos 0 → u +ℤ f ≡ a → f ≡ a
     nothing_more {u} {f} {a} e h = omega (arith, ints)
 
--- the first corner of all alone
-pub one_alone : (corners : List PlanePoint) (layers : ℕ) (area : ℤ) (all : List ℕ) → 0 < length corners → area ≡ pos 0 → all ≡ 0 ∷ [] → IsChoice corners layers area all
-one_alone corners layers area all some none is = subst (IsChoice corners layers area) (sym is) (record {
-  some = omega arith;
-  few = omega arith;
-  alone = λ zero_layers. refl;
-  rising = rising-one 0;
-  in_range = All-cons (λ i. i < length corners) 0 [] some (All-nil (λ i. i < length corners));
-  has_area = sym none;
-})
-
 -- no potential is below 0
 pub potential_or_zero-low : (count layers : ℕ) (us : List ℕ) (first layer last : ℕ) → pos 0 ≤ℤ potential_or_zero count layers (map pos us) first layer last
 potential_or_zero-low count layers us first zero last = omega (arith, ints)

@@ -8,9 +8,6 @@ use Rattle.extremal_kgon.specs.Ways.{vector_of, AreWays}
 use Rattle.extremal_kgon.specs.Rows.{area_at}
 use Rattle.extremal_kgon.proofs.Reading.{read-map}
 
-abbrev no_way : Way
-no_way = record { x = pos 0; y = pos 0 }
-
 -- the vector at an index leads to the corner that stands as far after the first
 to_corner : (corners : List PlanePoint) (first : ℕ) (ways : List Way) → AreWays corners first ways → (j : ℕ) → j < length ways → point_at (map vector_of ways) j ≡ vector (point_at corners first) (point_at corners (first + 1 + j))
 to_corner corners first ways h j below = read-map vector_of ways j (record { x = pos 0; y = pos 0 }) ∙ h.each j (record { x = pos 0; y = pos 0 }) below

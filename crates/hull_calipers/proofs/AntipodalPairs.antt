@@ -233,7 +233,3 @@ pairs_next points corners side other a b c e d m₁ m₂ m n one two t u right f
         | inr is ↦ inr (met_one m n two (subst (IsFirstOf two.high.next two.low.next) (sym is) second) scaled more)
       ];
     }
-
--- the steps of a pair, by how far its corners have gone on
-pub pair_within : (points corners : List PlanePoint) (side : Side) (high_at low_at : ℕ) (d : Direction) (pair : AntipodalPair) → IsTurningPair points corners side high_at low_at d pair → (pair.high.advance < high_at + length corners) × (pair.low.advance < low_at + length corners)
-pair_within points corners side high_at low_at d pair t = (t.high.walked.below, t.low.walked.below)

@@ -76,18 +76,3 @@ half_more points corners side high_at low_at d n pair new cones cone count s0 s1
           let falls = half_falls points corners side high_at low_at d n pair new right next after goes in
           omega (arith, was, falls, length_push cones cone);
     }
-
--- the direction points up at the end
-pub half_end : (points corners : List PlanePoint) (side : Side) (high_at low_at : ℕ) (d : Direction) (pair : AntipodalPair) (cones : List HalfCone) (count s steps0 : ℕ) → IsHalfTurning points corners side high_at low_at d pair cones count s steps0 → d.x ≡ 0
-    → IsHalfPath points corners cones (turned side north) × Contains (path (λ c. c.direction) cones (turned side north)) (turned side east)
-half_end points corners side high_at low_at d pair cones count s steps0 t none =
-    let is = up_is_north d none (t.is_up none) in
-    (subst (λ v. IsHalfPath points corners cones (turned side v)) is t.fan, subst (λ v. Contains (path (λ c. c.direction) cones (turned side v)) (turned side east)) is t.begun)
-
-pub half_steps : (points corners : List PlanePoint) (side : Side) (high_at low_at : ℕ) (d : Direction) (pair : AntipodalPair) (cones : List HalfCone) (count s steps0 : ℕ) → IsHalfTurning points corners side high_at low_at d pair cones count s steps0
-    → s ≤ steps0 + 4 * length corners + 4
-half_steps points corners side high_at low_at d pair cones count s steps0 t =
-    let counted = t.counted in
-    let a = t.calipers.high.walked.below in
-    let b = t.calipers.low.walked.below in
-    omega (arith, counted, a, b)

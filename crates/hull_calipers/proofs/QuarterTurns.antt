@@ -114,16 +114,3 @@ quarter_more points corners s d n one two one' two' cones cone s0 s1 s2 steps0 h
       | inl one_met ↦ pair_normal_or_parallel points corners Right s.right s.left d n one h.some t.along one_met
       | inr two_met ↦ pair_normal_or_parallel points corners Top s.top s.bottom d n two h.some t.across two_met
     ]
-
--- the direction points up at the end
-pub quarter_end : (points corners : List PlanePoint) (s : Starts) (d : Direction) (one two : AntipodalPair) (cones : List QuarterCone) (steps steps0 : ℕ) → IsQuarterTurning points corners s d one two cones steps steps0 → d.x ≡ 0 → IsQuarterPath points corners cones north
-quarter_end points corners s d one two cones steps steps0 t none = subst (IsQuarterPath points corners cones) (up_is_north d none (t.is_up none)) t.fan
-
-pub quarter_steps : (points corners : List PlanePoint) (s : Starts) (d : Direction) (one two : AntipodalPair) (cones : List QuarterCone) (steps steps0 : ℕ) → IsQuarterTurning points corners s d one two cones steps steps0 → steps ≤ steps0 + 8 * length corners + 8
-quarter_steps points corners s d one two cones steps steps0 t =
-    let counted = t.counted in
-    let a = t.along.high.walked.below in
-    let b = t.along.low.walked.below in
-    let c = t.across.high.walked.below in
-    let d = t.across.low.walked.below in
-    omega (arith, counted, a, b, c, d)

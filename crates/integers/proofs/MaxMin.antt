@@ -19,22 +19,6 @@ min-le-left a b = omega (arith, ints, clamps)
 pub min-le-right : (a b : ℤ) → int_min a b ≤ℤ b
 min-le-right a b = omega (arith, ints, clamps)
 
--- the greater of two is the first where it is at least the second, and else the second
-pub max_keeps : (a b : ℤ) → b ≤ℤ a → int_max a b ≡ a
-max_keeps a b h = omega (arith, ints, clamps)
-
--- the greater of two is the second where it is at least the first
-pub max_takes : (a b : ℤ) → a ≤ℤ b → int_max a b ≡ b
-max_takes a b h = omega (arith, ints, clamps)
-
--- the smaller of two is the first where it is at most the second
-pub min_keeps : (a b : ℤ) → a ≤ℤ b → int_min a b ≡ a
-min_keeps a b h = omega (arith, ints, clamps)
-
--- the smaller of two is the second where it is at most the first
-pub min_takes : (a b : ℤ) → b ≤ℤ a → int_min a b ≡ b
-min_takes a b h = omega (arith, ints, clamps)
-
 -- it is one of the two
 pub pick_max : (a b : ℤ) → (int_max a b ≡ a) ⊎ (int_max a b ≡ b)
 pick_max a b = by_lt_z b a (λ h. inl (omega (arith, ints, clamps))) (λ h. inr (omega (arith, ints, clamps)))

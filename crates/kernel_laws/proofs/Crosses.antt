@@ -32,10 +32,6 @@ small_product m n hm hn = with_inputs (inputs hm hn) (λ xs h a b c d e f. simp 
 pub volume_within : (u v w : SpacePoint) → IsVectorWithin 32000 u → IsVectorWithin 32000 v → IsVectorWithin 32000 w → Size (2 ^ 50) (dot (cross u v) w)
 volume_within u v w hu hv hw = small_product (cross u v) w (cross_within u v hu hv) hw
 
--- the product of two cross products
-pub cross_product_within : (m n : SpacePoint) → IsVectorWithin (2 ^ 31) m → IsVectorWithin (2 ^ 31) n → Size (2 ^ 64) (dot m n)
-cross_product_within m n hm hn = with_inputs (inputs hm hn) (λ xs h a b c d e f. simp (a, b, c, d, e, f, codes) (size_within xs h _ tt))
-
 -- the list of four weights, by equal parts
 pub four_numbers : {t p q s u x y z : ℤ} → t ≡ u → p ≡ x → q ≡ y → s ≡ z → (let ws : List ℤ = (t -ℤ p -ℤ q -ℤ s) ∷ p ∷ q ∷ s ∷ [] in ws) ≡ (u -ℤ x -ℤ y -ℤ z) ∷ x ∷ y ∷ z ∷ []
 four_numbers {t} {p} {q} {s} {u} {x} {y} {z} e f g h =

@@ -15,18 +15,6 @@ plus_says (pos zero) e = absurd (cc)
 plus_says (pos (suc n)) e = omega (arith, ints)
 plus_says (negsuc n) e = absurd (cc)
 
--- one with the sign `Zero` is 0
-pub zero_says : (z : ℤ) → sign_of z ≡ Zero → z ≡ pos 0
-zero_says (pos zero) e = refl
-zero_says (pos (suc n)) e = absurd (cc)
-zero_says (negsuc n) e = absurd (cc)
-
--- and one with the sign `Minus` is below 0
-pub minus_says : (z : ℤ) → sign_of z ≡ Minus → z <ℤ pos 0
-minus_says (pos zero) e = absurd (cc)
-minus_says (pos (suc n)) e = absurd (cc)
-minus_says (negsuc n) e = omega (arith, ints)
-
 -- ---- and back
 
 -- a number above 0 has the sign `Plus`

@@ -76,19 +76,6 @@ fraction_at n d = record { n = pos n; d = pos d }
 abbrev pub ratio_at : ℤ → ℤ → ℤ → PlaneRatio
 ratio_at x y w = record { x = x; y = y; w = w }
 
--- the ends of a square that reaches into the bounds of points
-pub left_within : {side : ℕ} {square : Square} → IsPlaced side square → side ≤ 400000 → IsWithin 1000000 square.left
-left_within placed most = let a = placed.left in let b = placed.right in record { low = omega (arith, ints, b, most); high = omega (arith, ints, a) }
-
-pub bottom_within : {side : ℕ} {square : Square} → IsPlaced side square → side ≤ 400000 → IsWithin 1000000 square.bottom
-bottom_within placed most = let a = placed.bottom in let b = placed.top in record { low = omega (arith, ints, b, most); high = omega (arith, ints, a) }
-
--- half a side is kept as a fraction
-pub size_kept : (side n d m e : ℕ) (size : Fraction) → side ≤ 400000 → fraction_at n d ≡ half_of side → m ≡ n → e ≡ d → (IsFraction (fraction_at m e) → size ≡ fraction_at m e) → size ≡ half_of side
-size_kept side n d m e size most half is_n is_d kept =
-    let is : fraction_at m e ≡ half_of side = ap₂ fraction_at is_n is_d ∙ half in
-    kept (subst IsFraction (sym is) (fraction_in_range side most)) ∙ is
-
 -- the centre over the radius that was halved
 pub centre_given : (side : ℕ) (square : Square) (n d : ℕ) (x y w : ℤ) → fraction_at n d ≡ half_of side → x ≡ ((square.left *ℤ pos d) +ℤ pos n) → y ≡ ((square.bottom *ℤ pos d) +ℤ pos n) → w ≡ pos d
     → ratio_at x y w ≡ centre_of square (half_of side)

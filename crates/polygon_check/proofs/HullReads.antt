@@ -52,12 +52,6 @@ edge_if {yes} points corners i a b c e f g turns left =
 pub edge_turns : (points corners : List PlanePoint) (i : ℕ) (a b c : PlanePoint) → a ≡ around corners i → b ≡ around corners (i + 1) → c ≡ around corners (i + 2) → IsEdgeAt points corners i → pos 0 <ℤ turn a b c
 edge_turns points corners i a b c e f g h = subst (λ q. pos 0 <ℤ turn q b c) (sym e) (subst (λ q. pos 0 <ℤ turn (around corners i) q c) (sym f) (subst (λ q. pos 0 <ℤ turn (around corners i) (around corners (i + 1)) q) (sym g) h.turns))
 
--- what one corner, two and more hold
-pub surround_one : (points corners : List PlanePoint) (a : PlanePoint) → length corners ≡ 1 → a ≡ point_at corners 0 → All (λ p. p ≡ a) points ↔ SurroundAll points corners
-surround_one points [] a one e = absurd (omega (arith, one))
-surround_one points (b ∷ []) a one e = (subst (λ q. All (λ p. p ≡ q) points) e, subst (λ q. All (λ p. p ≡ q) points) (sym e))
-surround_one points (b ∷ c ∷ rest) a one e = absurd (omega (arith, one))
-
 pub surround_two : (points corners : List PlanePoint) (a b : PlanePoint) → length corners ≡ 2 → a ≡ point_at corners 0 → b ≡ point_at corners 1 → Contains points b
     → (All (λ p. IsBefore p b) points × All (λ p. turn a b p ≡ pos 0) points) ↔ SurroundAll points corners
 surround_two points [] a b two e f listed = absurd (omega (arith, two))

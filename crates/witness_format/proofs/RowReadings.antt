@@ -99,22 +99,6 @@ row_read front next width widths text after e = by_row (line_at (row_format widt
         let is : ◌≡◌ {A = List ℤ × Unread} (front ++ row.0.0, row.1) (next, after) = read_is (front ++ row.0.0, row.1) (next, after) f in
         regrouped front row.0.0 (rows_at widths row.1) ∙ (λ i. rows_behind (is i).0 widths (is i).1)
 
--- a row that is refused
-row_refused : (front : List ℤ) (width : ℕ) (widths : List ℕ) (text : Unread) (refusal : Refusal) → row_behind front width text ≡ Err refusal → rows_behind front (width ∷ widths) text ≡ Err refusal
-row_refused front width widths text refusal e = by_row (line_at (row_format width) text) e
-  where
-    by_row : (r : Result (Values (row_format width).fields × Unread) Refusal) → ◌>>=◌ {B = List ℤ × Unread} r (λ row. Ok (front ++ row.0.0, row.1)) ≡ Err refusal
-        → ◌>>=◌ {B = List ℤ × Unread} (◌>>=◌ {B = List ℤ × Unread} r (λ row. rows_at widths row.1 >>= λ others. Ok (row.0.0 ++ others.0, others.1))) (λ rows. Ok (front ++ rows.0, rows.1)) ≡ Err refusal
-    by_row (Err other) f = cc
-    by_row (Ok row) f = absurd cc
-
--- and with it all rows
-pub rows_refused : (fault : ReadFault) (front : List ℤ) (width : ℕ) (widths : List ℕ) (text : Unread) (total : Result (List ℤ × Unread) Refusal) → rows_behind front (width ∷ widths) text ≡ total
-    → RefusesOr (Unit {0}) fault (row_behind front width text) → RefusesOr (Unit {0}) fault total
-rows_refused (BadAnswer line) front width widths text total is refused = sym is ∙ row_refused front width widths text (bad_answer line) refused
-rows_refused (BigNumber line) front width widths text total is refused = sym is ∙ row_refused front width widths text (big_number line) refused
-rows_refused OutOfMemory front width widths text total is refused = tt
-
 -- ---- the numbers of a row
 
 -- the number is within the limit
@@ -219,34 +203,6 @@ number_more front count i words others n total lt first so_far =
     let left : count - i ≡ suc (count - (i + 1)) = omega arith in
     let next : naturals_behind front (suc (count - (i + 1))) words ≡ naturals_behind (put_behind front n) (count - (i + 1)) others = ap (λ (o : Option (Judged ℤ × List (List ℕ))). steps.◌>>=◌ {B = Judged (List ℤ)} o (λ f. naturals_behind (put_behind front f.0) (count - (i + 1)) f.1)) first in
     sym next ∙ ap (λ (k : ℕ). naturals_behind front k words) (sym left) ∙ so_far
-
--- there is no number where one is to be
-pub number_missing : (front : Judged (List ℤ)) (count i : ℕ) (words : List (List ℕ)) (total : Option (Judged (List ℤ))) → i < count → field_at natural words ≡ None → naturals_behind front (count - i) words ≡ total → total ≡ None
-number_missing front count i words total lt none so_far =
-    let left : count - i ≡ suc (count - (i + 1)) = omega arith in
-    let next : naturals_behind front (suc (count - (i + 1))) words ≡ None = ap (λ (o : Option (Judged ℤ × List (List ℕ))). steps.◌>>=◌ {B = Judged (List ℤ)} o (λ f. naturals_behind (put_behind front f.0) (count - (i + 1)) f.1)) none in
-    sym so_far ∙ ap (λ (k : ℕ). naturals_behind front k words) left ∙ next
-
--- all numbers are read, and no word is left
-pub numbers_end : (front : Judged (List ℤ)) (left : ℕ) (words : List (List ℕ)) (total : Option (Judged (List ℤ))) → left ≡ 0 → words ≡ [] → naturals_behind front left words ≡ total → total ≡ Some front
-numbers_end front left words total none end so_far = sym so_far ∙ (λ i. naturals_behind front (none i) (end i))
-
--- a word is left
-pub numbers_more : (front : Judged (List ℤ)) (left : ℕ) (words : List (List ℕ)) (total : Option (Judged (List ℤ))) → left ≡ 0 → (words ≡ [] → ⊥) → naturals_behind front left words ≡ total → total ≡ None
-numbers_more front left [] total none some so_far = absurd (some refl)
-numbers_more front left (word ∷ words) total none some so_far = sym so_far ∙ ap (λ (k : ℕ). naturals_behind front k (word ∷ words)) none
-
--- a number that is added, where all so far are within the limit
-pub number_added : (numbers : List ℕ) (n : ℕ) (so_far : Judged (Unit {0})) → seen (λ u. map pos (numbers ++ n ∷ [])) so_far ≡ put_behind (seen (λ u. map pos numbers) so_far) (seen pos (Ok n))
-number_added numbers n (Ok u) = ap (λ (zs : List ℤ). Ok zs) (map-append pos numbers (n ∷ []))
-number_added numbers n (Err PastLimit) = refl
-number_added numbers n (Err OutOfRange) = refl
-
--- a number that has a flaw
-pub number_flawed : (numbers : List ℤ) (so_far : Judged (Unit {0})) (flaw : Flaw) → Err (worse_of so_far flaw) ≡ put_behind (seen (λ u. numbers) so_far) (Err flaw)
-number_flawed numbers (Ok u) flaw = refl
-number_flawed numbers (Err PastLimit) flaw = refl
-number_flawed numbers (Err OutOfRange) flaw = refl
 
 -- ---- a row
 

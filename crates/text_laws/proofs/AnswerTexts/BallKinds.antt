@@ -79,11 +79,6 @@ circle_written a ranges = record {
   );
 }
 
--- its kind
-pub kind-circle_written : (a : CircleAnswer) (ranges : CircleRanges a) → (circle_written a ranges).kind ≡ circle_kind
-unfolding circle_written
-kind-circle_written a ranges = refl
-
 -- ---- sphere
 
 -- the spelling of a sphere is the text of its format
@@ -131,8 +126,3 @@ sphere_written a ranges = record {
     ),
   );
 }
-
--- its kind
-pub kind-sphere_written : (a : SphereAnswer) (ranges : SphereRanges a) → (sphere_written a ranges).kind ≡ sphere_kind
-unfolding sphere_written
-kind-sphere_written a ranges = refl

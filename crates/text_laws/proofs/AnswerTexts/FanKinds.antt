@@ -215,8 +215,3 @@ strip_written a ranges =
         ),
       );
     }
-
--- its kind
-pub kind-strip_written : (a : StripAnswer) (ranges : StripRanges a) → (strip_written a ranges).kind ≡ strip_kind
-unfolding strip_written
-kind-strip_written a ranges = refl

@@ -163,10 +163,6 @@ distance_written a ranges = record {
 
 -- ---- centres
 
--- the centre of a line
-square_of : Values (plane_ratio ∷ []) → PlaneRatio
-square_of v = v.0
-
 -- a centre as the field of its line
 square_parts : PlaneRatio → Values (plane_ratio ∷ [])
 square_parts c = (c, tt)
@@ -243,8 +239,3 @@ centres_written a ranges = record {
     ),
   );
 }
-
--- their kind
-pub kind-centres_written : (a : CentresAnswer) (ranges : CentresRanges a) → (centres_written a ranges).kind ≡ centres_kind
-unfolding centres_written
-kind-centres_written a ranges = refl
