@@ -13,7 +13,7 @@ use Rattle.answers.specs.declared.balls.Weighted.{Weighted}
 use Rattle.answers.specs.Answers.{weighted_of}
 use Rattle.integers.proofs.Lists.{All-unmap}
 use Rattle.ball_sums.specs.declared.sums.Sums.{Sums}
-use Rattle.ball_check.specs.DeterminedBalls.{AreSupportSums}
+use Rattle.ball_sums.specs.DeterminedBalls.{AreSupportSums}
 
 -- the place of a numbered point
 pub placed : {P : Type 0} (place : P → SpacePoint) (points : List P) (i : ℕ) (p : P) → slice_get points i ≡ Some p → point_at (map place points) i ≡ place p

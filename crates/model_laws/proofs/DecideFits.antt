@@ -1,9 +1,8 @@
 -- Tests whether an object fits. Each decides the definition of the like name.
-use Rattle.std.proofs.Common.{pos, ◌*ℤ◌, ℤ, List, length, map, zip}
+use Rattle.std.proofs.Common.{pos, ◌*ℤ◌, List, length, map}
 use Rattle.integers.specs.Total.{total}
 use Rattle.bounds_model.specs.Plane.{PlanePoint, origin, times, dot, cross, quarter_turn, plane_limit, IsInPlane}
-use Rattle.bounds_model.specs.Space
-use Rattle.bounds_model.specs.Space.{SpacePoint, flat, weighted_sum, space_limit, IsInSpace}
+use Rattle.bounds_model.specs.Space.{SpacePoint, flat, space_limit, IsInSpace}
 use Rattle.bounds_model.specs.Fractions.{Fraction}
 use Rattle.bounds_model.specs.Best.{IsPrintedSize}
 use Rattle.bounds_model.specs.Ball.{Ball, IsInBall, FitsBall, FitsCircle}
@@ -13,9 +12,8 @@ use Rattle.bounds_model.specs.Parallelogram.{Parallelogram, FitsParallelogram}
 use Rattle.bounds_model.specs.Annulus.{Annulus, IsInAnnulus, FitsAnnulus}
 use Rattle.bounds_model.specs.EmptyRectangle.{Box, IsFrame, IsStrictlyInside, EmptyRectangle, FitsEmpty}
 use Rattle.bounds_model.specs.Distance.{Weights, FitsDistance}
-use Rattle.bounds_model.specs.Slacks.{IsDependence}
 use Rattle.model_laws.proofs.Decisions.{Decision, like, both, negated, all, equal_ℕ, equal_ℤ, most_ℤ, less_ℤ}
-use Rattle.model_laws.proofs.DecideParts.{same_point, same_space_point, within, in_span, not_negative, lowest, same_value}
+use Rattle.model_laws.proofs.DecideParts.{same_point, within, in_span, not_negative, lowest, same_value}
 use Rattle.model_laws.proofs.DecideEmpty.{strictly_inside}
 
 abbrev pub is_in_plane : (p : PlanePoint) → Decision (IsInPlane p)

@@ -1,18 +1,13 @@
 -- Directions in lowest terms: where p x + q y is 0, x and y are no longer than q and p.
 use Prim.Native.Nat.{◌∣◌}
-use Rattle.std.proofs.Common.{◌≡◌, ◌≢◌, refl, sym, ◌∙◌, subst, ℕ, zero, suc, ◌+◌, ◌-◌, ◌*◌, ◌%◌, ◌<◌, ◌≤◌, ℤ, pos, negsuc, neg_ℤ, ◌+ℤ◌, ◌-ℤ◌, ◌*ℤ◌, List, [], ◌∷◌, length, nat_abs, arith}
-use mathlib.Core.Logic.{inl, inr}
-use Rattle.std.specs.Prelude.{◌⊎◌, All, SomeIndex}
+use Rattle.std.proofs.Common.{◌≡◌, ◌≢◌, refl, sym, ◌∙◌, subst, ℕ, zero, suc, ◌+◌, ◌*◌, ◌<◌, ◌≤◌, ℤ, pos, negsuc, ◌+ℤ◌, ◌*ℤ◌, [], ◌∷◌, nat_abs, arith}
 use Rattle.std.proofs.Math.Nat.{dvd-mul_left}
 use Rattle.std.proofs.lemmas.Int.{ints, unsigned_abs-mul}
 use Rattle.std.proofs.lemmas.Nat.Gcd.{le_of_dvd}
-use Rattle.std.proofs.lemmas.List.{get_or_default}
 use Rattle.std.proofs.lemmas.List.Elements.{All-nil, All-cons}
 use Rattle.std.specs.Int.{IsGcd}
 use Rattle.integers.proofs.Divisors.{IsGcd-one, dvd_of_dvd-mul}
-use Rattle.integers.proofs.Identities.{den-ring, read, polys}
-use Rattle.bounds_model.specs.Numbers.{IsWithin}
-use Rattle.bounds_model.specs.Plane.{PlanePoint, origin, point_at, vector, dot, cross, IsInPlane}
+use Rattle.bounds_model.specs.Plane.{PlanePoint, origin}
 use Rattle.bounds_model.specs.Fractions.{HaveNoCommonFactor}
 
 -- ---- two products that are equal: a factor without a common factor with its partner divides the other's partner

@@ -3,7 +3,7 @@ use Rattle.std.specs.Prelude.{◌≡◌, ⊤, ℕ, ◌+◌, ◌≤◌, List, len
 use Rattle.bounds_model.specs.Plane.{PlanePoint, IsInPlane}
 use Rattle.bounds_model.specs.Fractions.{Fraction}
 use Rattle.bounds_model.specs.Hull.{AreCorners}
-use Rattle.bounds_model.specs.Fans.{TurnLeft, east, north, west, IsShort}
+use Rattle.bounds_model.specs.Fans.{IsShort}
 use Rattle.bounds_model.specs.PlainFans.{IsPlainHalf, IsPlainQuarter}
 use Rattle.bounds_model.specs.CornerTest.{CornersPass}
 use Rattle.bounds_model.specs.KgonAnswer.{KgonAnswer, corner_points, PassesKgon}

@@ -8,9 +8,9 @@ use Rattle.integers.proofs.Order.{nonneg_mul, nonneg_add, positive_mul, positive
 use Rattle.integers.proofs.Sums.{total_weighted_le}
 use Rattle.integers.specs.Total.{total}
 use Rattle.bounds_model.specs.Space.{SpacePoint, point_at, origin, vector, times, squared_length, entries, flat}
-use Rattle.bounds_model.specs.Fractions.{Fraction, IsNotNegative, IsAtMost}
+use Rattle.bounds_model.specs.Fractions.{IsNotNegative, IsAtMost}
 use Rattle.bounds_model.specs.Ball.{Ball, FitsBall, FitsCircle}
-use Rattle.bounds_model.specs.BallAnswer.{Weighted, CircleAnswer, SphereAnswer, circle_of, sphere_of, weight_sum, first_support, seen_support, pull, IsBallWitness}
+use Rattle.bounds_model.specs.BallAnswer.{Weighted, circle_of, sphere_of, weight_sum, first_support, seen_support, pull, IsBallWitness}
 use Rattle.model_laws.proofs.Decisions.{all-uncons}
 use Rattle.optimality.specs.Laws.{PassingCirclesAreBest, PassingSpheresAreBest}
 use Rattle.optimality.proofs.Bounds.{nonneg_from_one}
