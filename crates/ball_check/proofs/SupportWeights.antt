@@ -10,7 +10,7 @@ use Rattle.kernel_laws.specs.Limits.{ball_limit}
 use Rattle.ball_sums.proofs.Weights.{weights_of_some}
 use Rattle.answers.specs.declared.balls.Weighted.{Weighted}
 use Rattle.answers.specs.Answers.{weighted_of}
-use Rattle.ball_check.specs.DeterminedBalls.{HasBallLimits}
+use Rattle.ball_sums.specs.DeterminedBalls.{HasBallLimits}
 use Rattle.integers.proofs.Lists.{All-unmap}
 
 -- those before a support, and its own, are at most all

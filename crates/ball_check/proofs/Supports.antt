@@ -14,7 +14,7 @@ use Rattle.answers.specs.declared.balls.Weighted.{Weighted}
 use Rattle.answers.specs.Answers.{weighted_of}
 use Rattle.integers.proofs.Lists.{All-unmap}
 use Rattle.ball_sums.specs.declared.sums.Sums.{Sums}
-use Rattle.ball_check.specs.DeterminedBalls.{AreSupportSums}
+use Rattle.ball_sums.specs.DeterminedBalls.{AreSupportSums}
 
 -- and that of the first support
 pub first_placed : {P : Type 0} (place : P → SpacePoint) (points : List P) (supports : List Weighted) (none : Weighted) (p : P) → 1 ≤ length supports → slice_get points (get_or supports 0 none).point ≡ Some p

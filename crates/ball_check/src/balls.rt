@@ -12,7 +12,7 @@ ghost use Rattle.kernel_laws.specs.Signs.{slack_from_origin};
 ghost use Rattle.answers.specs.Answers.{weighted_of, circle_of, sphere_of};
 ghost use Rattle.ball_sums.specs.Sums.{IsInRange};
 ghost use Rattle.ball_sums.specs.Means.{mean_size, plane_mean, space_mean};
-ghost use Rattle.ball_check.specs.DeterminedBalls.{HasBallLimits, DetermineBall, AreSupportSums};
+ghost use Rattle.ball_sums.specs.DeterminedBalls.{HasBallLimits, DetermineBall, AreSupportSums, places_of};
 
 use answers::{BallAnswer2, BallAnswer3, Weighted};
 use ball_sums::Sums;
@@ -57,9 +57,9 @@ fn determined_ball<K: Kernel>(
     supports: &[Weighted],
     size: &Frac,
 ) -> Option<Sums>
-    ensures { MatchOption result (DetermineBall K.DIM (map K.place (points_of cloud.entry)) (map weighted_of supports.now) size.now → ⊥)
-        (λ h. DetermineBall K.DIM (map K.place (points_of cloud.entry)) (map weighted_of supports.now) size.now
-        × AreSupportSums K.DIM (map K.place (points_of cloud.entry)) (map weighted_of supports.now) h) }
+    ensures { MatchOption result (DetermineBall K.DIM (places_of K.place cloud.entry) (map weighted_of supports.now) size.now → ⊥)
+        (λ h. DetermineBall K.DIM (places_of K.place cloud.entry) (map weighted_of supports.now) size.now
+        × AreSupportSums K.DIM (places_of K.place cloud.entry) (map weighted_of supports.now) h) }
 {
     let totals = sums(kernel, cloud, supports)?;
     if !is_size(size, &totals) {
@@ -81,7 +81,7 @@ fn determined_ball<K: Kernel>(
 fn sums<K: Kernel>(kernel: &K, cloud: Cloud<'_, K::P>, supports: &[Weighted]) -> Option<Sums>
     ensures { MatchOption result (HasBallLimits K.DIM (length (points_of cloud.entry)) (map weighted_of supports.now) → ⊥)
         (λ h. HasBallLimits K.DIM (length (points_of cloud.entry)) (map weighted_of supports.now)
-        × AreSupportSums K.DIM (map K.place (points_of cloud.entry)) (map weighted_of supports.now) h) }
+        × AreSupportSums K.DIM (places_of K.place cloud.entry) (map weighted_of supports.now) h) }
 {
     if supports.is_empty() {
         return None;
@@ -126,8 +126,8 @@ fn are_on_ball<K: Kernel>(
     totals: &Sums,
 ) -> bool
     requires limits { HasBallLimits K.DIM (length (points_of cloud)) (map weighted_of supports.now) }
-    requires totals { AreSupportSums K.DIM (map K.place (points_of cloud)) (map weighted_of supports.now) totals.now }
-    ensures { IsTrue result ↔ All (IsOnBall (map K.place (points_of cloud.entry)) (map weighted_of supports.now)) (map weighted_of supports.now) }
+    requires totals { AreSupportSums K.DIM (places_of K.place cloud) (map weighted_of supports.now) totals.now }
+    ensures { IsTrue result ↔ All (IsOnBall (places_of K.place cloud.entry) (map weighted_of supports.now)) (map weighted_of supports.now) }
 {
     let first = cloud.at(supports[0].point);
     for s in supports {
@@ -146,9 +146,9 @@ fn is_none_outside<K: Kernel>(
     totals: &Sums,
 ) -> bool
     requires limits { HasBallLimits K.DIM (length (points_of cloud)) (map weighted_of supports.now) }
-    requires totals { AreSupportSums K.DIM (map K.place (points_of cloud)) (map weighted_of supports.now) totals.now }
-    ensures { IsTrue result ↔ All (IsNotOutside (map K.place (points_of cloud.entry)) (map weighted_of supports.now))
-        (map K.place (points_of cloud.entry)) }
+    requires totals { AreSupportSums K.DIM (places_of K.place cloud) (map weighted_of supports.now) totals.now }
+    ensures { IsTrue result ↔ All (IsNotOutside (places_of K.place cloud.entry) (map weighted_of supports.now))
+        (places_of K.place cloud.entry) }
 {
     let first = cloud.at(supports[0].point);
     for i in 0..cloud.len() {

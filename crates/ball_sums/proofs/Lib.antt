@@ -3,3 +3,4 @@ pub mod Weights
 pub mod SupportSums
 pub mod MachineMeans
 pub mod Means
+pub mod BallPassing

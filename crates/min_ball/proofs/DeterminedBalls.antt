@@ -25,7 +25,8 @@ use Rattle.corral.specs.WeightedItems.{AreSupportItems, weighted_item, weighted_
 use Rattle.corral.specs.Supports.{AreSupports}
 use Rattle.corral.proofs.Moments.{at_least_common, mass_positive}
 use Rattle.ball_sums.specs.declared.sums.Sums.{Sums}
-use Rattle.min_ball.specs.Balls.{weighted_point, FewDetermineBall}
+use Rattle.ball_sums.specs.DeterminedBalls.{DetermineBall}
+use Rattle.min_ball.specs.Balls.{weighted_point}
 use Rattle.min_ball.proofs.SeenFromFirst.{sum_seen, on_ball_of_same, inside_of_above}
 
 -- ---- lists
@@ -114,18 +115,20 @@ pub determined_by_supports : (K : Type 0) {P : Type 0} (dim : ℕ) (place : P �
     → (mass (weighted_items place (cloud_items K cloud) members)) ≤ℤ pos (ball_limit dim)
     → ((id : Id) → IsItem (cloud_items K cloud) id → ¬ IsLow (pos 1) (weighted_items place (cloud_items K cloud) members) (item place (cloud_items K cloud) id))
     → IsFraction size → SameValue size (supported_size (map place (first_points items)) (map weighted_point members))
-    → FewDetermineBall dim (map place (first_points items)) (map weighted_point members) size
+    → DetermineBall dim (map place (first_points items)) (map weighted_point members) size
 determined_by_supports K {P} dim place cloud items members size is are_members supports limit none_low lowest size_is =
-    subst (λ (items : Items K P). SameValue size (supported_size (map place (first_points items)) (map weighted_point members)) → FewDetermineBall dim (map place (first_points items)) (map weighted_point members) size) (sym is)
+    subst (λ (items : Items K P). SameValue size (supported_size (map place (first_points items)) (map weighted_point members)) → DetermineBall dim (map place (first_points items)) (map weighted_point members) size) (sym is)
     (λ size_is. let as_many = length-map members weighted_point in record {
-      count = record { at_least = let h = are_members.count.at_least in omega arith; at_most = let h = are_members.count.at_most in omega arith };
-      numbers = All-map (λ (s : Weighted). s.point < length (map place (points_of cloud))) weighted_point members
-          (λ k d l. let named = (are_members.listed k d l).0 in let count = length-map (points_of cloud) place in omega arith);
-      weights = All-map (λ (s : Weighted). pos 1 ≤ℤ s.weight) weighted_point members (All-unmap (λ (s : WeightedVector). pos 1 ≤ℤ s.weight) (weighted_item place (cloud_items K cloud)) members supports.weights);
-      weight_limit = subst (λ m. m ≤ℤ pos (ball_limit dim)) (mass_is place (cloud_items K cloud) members) limit;
+      limits = record {
+        some = let h = are_members.count.at_least in omega arith;
+        numbers = All-map (λ (s : Weighted). s.point < length (map place (points_of cloud))) weighted_point members
+            (λ k d l. let named = (are_members.listed k d l).0 in let count = length-map (points_of cloud) place in omega arith);
+        weights = All-map (λ (s : Weighted). pos 1 ≤ℤ s.weight) weighted_point members (All-unmap (λ (s : WeightedVector). pos 1 ≤ℤ s.weight) (weighted_item place (cloud_items K cloud)) members supports.weights);
+        weight_limit = subst (λ m. m ≤ℤ pos (ball_limit dim)) (mass_is place (cloud_items K cloud) members) limit;
+      };
+      size_in_range = lowest;
+      size_is = size_is;
       on_ball = supports_on_ball K place cloud members supports;
       none_outside = none_outside K place cloud members supports none_low;
-      lowest = lowest;
-      size_is = size_is;
     })
     size_is

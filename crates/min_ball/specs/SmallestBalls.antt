@@ -1,5 +1,6 @@
 -- What a smallest ball holds.
-use Rattle.std.specs.Prelude.{List}
+use Rattle.std.specs.Prelude.{List, map}
+use Rattle.bounds_model.specs.Space.{SpacePoint}
 use Rattle.bounds_model.specs.Fractions.{Fraction}
 use Rattle.corral.specs.declared.support.Support.{Support}
 use Rattle.corral.specs.Items.{first_points}
@@ -13,6 +14,10 @@ support_of ball = ball.support
 -- the points that it encloses
 abbrev pub points_in : {K P : Type 0} {g : _} → Ball K P g → List P
 points_in ball = first_points (items_of ball.support)
+
+-- the same at their places in space
+abbrev pub places_in : {K P : Type 0} {g : _} → (P → SpacePoint) → Ball K P g → List SpacePoint
+places_in place ball = map place (points_in ball)
 
 -- its squared radius
 abbrev pub size_of : {K P : Type 0} {g : _} → Ball K P g → Fraction

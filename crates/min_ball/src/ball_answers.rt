@@ -6,7 +6,6 @@ ghost use Rattle.answers.specs.Answers.{weighted_of, circle_of, sphere_of};
 ghost use Rattle.min_ball.specs.Balls.{listed};
 
 use crate::Ball;
-use crate::sums::sums_over;
 use answers::{BallAnswer2, BallAnswer3, Weighted};
 use arrayvec::ArrayVec;
 use corral::Support;
@@ -21,11 +20,10 @@ impl<'a> Ball<'a, Plane> {
         ensures size { result.size ≡ size_of self.now }
         ensures supports { map weighted_of result.supports.items ≡ listed (support_of self.now) }
     {
-        let sums = sums_over(&Plane, &self.support);
         let first = self.support.first(0);
         BallAnswer2 {
             size: self.size,
-            center: sums.plane_centre(first),
+            center: self.sums.plane_centre(first),
             supports: weighted(&self.support),
         }
     }
@@ -40,11 +38,10 @@ impl<'a> Ball<'a, Space> {
         ensures size { result.size ≡ size_of self.now }
         ensures supports { map weighted_of result.supports.items ≡ listed (support_of self.now) }
     {
-        let sums = sums_over(&Space, &self.support);
         let first = self.support.first(0);
         BallAnswer3 {
             size: self.size,
-            center: sums.space_centre(first),
+            center: self.sums.space_centre(first),
             supports: weighted(&self.support),
         }
     }

@@ -52,7 +52,3 @@ same_greatest Fits Fits' size size' there back a b p q da db h k hp hq =
 -- where the same objects fit
 pub kept : {X : Type 0} (Fits Fits' : X → Type 0) (size : X → Fraction) → ((o : X) → Fits o → Fits' o) → Reaches Fits size Fits' size
 kept Fits Fits' size f o h = (o, f o h, refl)
-
--- a size in lowest terms prints as itself
-pub printed_as_is : (size : Fraction) → IsLowest size → IsPrintedSize size size
-printed_as_is size h = record { lowest = h; same = refl }

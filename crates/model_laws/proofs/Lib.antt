@@ -31,9 +31,6 @@ pub mod PermutedWeights
 pub mod KindSizes
 pub mod SizeLaw
 pub mod OrderLaw
-pub mod WeightedVectors
-pub mod BallLaw
-pub mod OneSquareLaw
 pub mod ExampleBalls
 pub mod ExampleStrips
 pub mod ExampleRectangles
@@ -70,7 +67,6 @@ pub mod ExampleKgonConditions
 pub mod ExampleCentresConditions
 pub mod ExampleLeaves
 pub mod ExampleClaims
-pub mod ExampleBest
 pub mod ExampleAsks
 pub mod ExampleChosenClaims
 pub mod ExampleAnnulusRanges

@@ -20,10 +20,6 @@ PassingAnswersKeepRanges = (ask : Ask) (sets : Sets) (answer : Answer) → Passe
 abbrev pub FittingPointsSuit : Type 0
 FittingPointsSuit = (ask : Ask) (sets : Sets) (answer : Answer) → Fits ask sets answer → Suits ask sets
 
--- what passes is best, where this is asked
-abbrev pub PassingAnswersAreBest : Ask → Type 0
-PassingAnswersAreBest ask = (sets : Sets) (answer : Answer) → Passes ask sets answer → IsBest ask sets answer
-
 -- the corners that a checker accepts are the corners of the hull
 abbrev pub PassingCornersAreCorners : Type 0
 PassingCornersAreCorners = (points corners : List PlanePoint) → All (Contains points) corners → CornersPass points corners → AreCorners points corners

@@ -1,7 +1,6 @@
 //! Laws of the definitions.
 
-ghost use Rattle.model_laws.specs.Laws.{PassingAnswersKeepRanges, FittingPointsSuit, PassingAnswersAreBest, PassingCornersAreCorners, PassingKgonsListCorners, CornersAreUnique, BestSizeIsUnique, OptimumIsUnique, BestSizeHasNoOrder, BestAnswersHaveNoOrder, PlainHalfFansAreFew, PlainQuarterFansAreFew, PlainHalfFansAreShort, PlainQuarterFansAreShort};
-ghost use Rattle.bounds_model.specs.Asks.Ask.{ask_circle, ask_sphere, ask_centres};
+ghost use Rattle.model_laws.specs.Laws.{PassingAnswersKeepRanges, FittingPointsSuit, PassingCornersAreCorners, PassingKgonsListCorners, CornersAreUnique, BestSizeIsUnique, OptimumIsUnique, BestSizeHasNoOrder, BestAnswersHaveNoOrder, PlainHalfFansAreFew, PlainQuarterFansAreFew, PlainHalfFansAreShort, PlainQuarterFansAreShort};
 
 /// An answer that passes has all its numbers in their ranges.
 pub fn passing_answers_keep_ranges()
@@ -46,21 +45,6 @@ pub fn best_size_has_no_order()
 /// A best answer whose object is not given by numbers of points is best for the points in another order.
 pub fn best_answers_have_no_order()
     ensures { BestAnswersHaveNoOrder }
-{}
-
-/// A circle that passes is best.
-pub fn passing_circles_are_best()
-    ensures { PassingAnswersAreBest ask_circle }
-{}
-
-/// A sphere that passes is best.
-pub fn passing_spheres_are_best()
-    ensures { PassingAnswersAreBest ask_sphere }
-{}
-
-/// One centre that passes is best.
-pub fn passing_single_centres_are_best()
-    ensures { PassingAnswersAreBest (ask_centres 1) }
 {}
 
 /// A plain fan over half a turn has at most three directions more than the hull has corners.

@@ -12,10 +12,9 @@ use Rattle.bounds_model.specs.Fractions.{Fraction, IsAtMost}
 use Rattle.bounds_model.specs.Centres.{Cover, IsNear, FitsCentres, centres_size}
 use Rattle.bounds_model.specs.CentresAnswer.{Leaf, CentresAnswer, cover_of, side, AreLeaves, PassesCentres}
 use Rattle.model_laws.proofs.SizeDenominators.{centres_denominator}
-use Rattle.model_laws.proofs.BestSizes.{printed_as_is}
 use Rattle.model_laws.proofs.OneSquareLaw.{no_leaf}
 use Rattle.optimality.specs.Laws.{PassingCentresAreBest}
-use Rattle.optimality.proofs.PrintedSizes.{smallest_by_printed}
+use Rattle.optimality.proofs.PrintedSizes.{printed_as_is, smallest_by_printed}
 use Rattle.optimality.proofs.Colours.{Colouring, IsColoured}
 use Rattle.optimality.proofs.CornerTree.{some_leaf_is_near}
 

@@ -26,7 +26,11 @@ const WEIGHT_LIMIT: u128 = 1 << 66;
 impl PairSums {
     /// Over no pairs.
     pub fn none() -> PairSums
-        ensures { result ≡ record { weight = 0; first = record { x = pos 0; y = pos 0; z = pos 0 }; second = record { x = pos 0; y = pos 0; z = pos 0 } } }
+        ensures { result ≡ record {
+          weight = 0;
+          first = record { x = pos 0; y = pos 0; z = pos 0 };
+          second = record { x = pos 0; y = pos 0; z = pos 0 };
+        } }
     {
         let nothing = Sum { x: 0, y: 0, z: 0 };
         PairSums {

@@ -120,7 +120,8 @@ impl Reader {
         ensures stands { (ask : asks.Ask) (bytes : List ℕ) → StandsFor self.old ask bytes → StandsFor self.new ask (bytes ++ piece.now) }
         ensures going { OnOk result (HasFailed self.new → ⊥) }
         ensures failed { OnErr result (HasFailed self.new) }
-        ensures memory { OnErr result ((ask : asks.Ask) (bytes more : List ℕ) → StandsFor self.old ask bytes → KeepsPoint ask ((bytes ++ piece.now) ++ more)) }
+        ensures memory { OnErr result ((ask : asks.Ask) (bytes more : List ℕ) → StandsFor self.old ask bytes
+            → KeepsPoint ask ((bytes ++ piece.now) ++ more)) }
         ensures stays { HasFailed self.old → HasFailed self.new }
     {
         let mut rest = self.pass_lines(piece);

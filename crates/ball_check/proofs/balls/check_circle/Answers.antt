@@ -8,7 +8,8 @@ use Rattle.bounded_coords.specs.Clouds.{points_of}
 use Rattle.answers.specs.Answers.{weighted_of, circle_of}
 use Rattle.answers.specs.declared.balls.Weighted.{Weighted}
 use Rattle.ball_check.proofs.Supports.{some_supports, names_point, first_placed}
-use Rattle.ball_check.proofs.BallPassing.{circle_decided, circle_determined}
+use Rattle.ball_sums.proofs.BallPassing.{circle_determined}
+use Rattle.ball_check.proofs.BallPassing.{circle_decided}
 use Rattle.ball_check.proofs.balls.check_circle.Goals as goal
 
 pub at-requires : goal.at-requires

@@ -7,9 +7,10 @@ use Rattle.bounds_model.specs.Answers.{sphere}
 use Rattle.bounded_coords.specs.Clouds.{points_of}
 use Rattle.answers.specs.Answers.{weighted_of, sphere_of}
 use Rattle.answers.specs.declared.balls.Weighted.{Weighted}
-use Rattle.ball_check.specs.DeterminedBalls.{DetermineBall, AreSupportSums}
+use Rattle.ball_sums.specs.DeterminedBalls.{DetermineBall, AreSupportSums}
 use Rattle.ball_check.proofs.Supports.{some_supports, names_point, first_placed}
-use Rattle.ball_check.proofs.BallPassing.{sphere_decided, sphere_determined, map_same}
+use Rattle.ball_sums.proofs.BallPassing.{sphere_determined}
+use Rattle.ball_check.proofs.BallPassing.{sphere_decided, map_same}
 use Rattle.ball_check.proofs.balls.check_sphere.Goals as goal
 
 pub at-requires : goal.at-requires

@@ -5,7 +5,7 @@ use Rattle.bounded_coords.specs.Clouds.{points_of}
 use Rattle.answers.specs.Answers.{weighted_of}
 use Rattle.ball_sums.proofs.SumSizes.{weight_most, second_moment_most}
 use Rattle.ball_sums.proofs.Means.{mean_size_is}
-use Rattle.ball_check.specs.DeterminedBalls.{HasBallLimits}
+use Rattle.ball_sums.specs.DeterminedBalls.{HasBallLimits}
 use Rattle.integers.proofs.Lists.{clash}
 use Rattle.ball_check.proofs.balls.determined_ball.Goals as goal
 

@@ -32,4 +32,8 @@ invariant_of-result g c =
       determined = determined_by_supports g.row.K.Denot g.K.Kernel.DIM g.K.Kernel.place c.args.cloud (items_of support) members c.size-size.result
           c.settle-support.ensures.items c.settle-support.ensures.members c.settle-support.ensures.supports c.settle-support.ensures.limit c.settle-support.ensures.none_low c.size-size.ensures.lowest
           (subst (SameValue c.size-size.result) (mean_size_is (coordinates g.K.Kernel.place support) (listed support) c.sums_over-sums.result c.sums_over-sums.ensures.sums) c.size-size.ensures.value);
+      summed = record {
+        some = some_weight g.K.Kernel.place (cloud_items g.row.K.Denot c.args.cloud) members c.sums_over-sums.result c.settle-support.ensures.supports c.sums_over-sums.ensures.sums.weight;
+        sums = c.sums_over-sums.ensures;
+      };
     }

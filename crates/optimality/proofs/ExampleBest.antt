@@ -13,10 +13,10 @@ use Rattle.model_laws.proofs.Decisions.{by_test, by_failed_test, by_one_failure,
 use Rattle.model_laws.proofs.DecideFits.{printed, fits_circle}
 use Rattle.model_laws.proofs.DecideClaims.{fits}
 use Rattle.model_laws.proofs.DecideAnswers.{passes}
-use Rattle.model_laws.proofs.BallLaw.{circle_is_best}
 use Rattle.model_laws.proofs.SizeLaw.{one_optimum}
 use Rattle.model_laws.proofs.ExampleBalls.{triangle, over_longest}
 use Rattle.model_laws.proofs.Literals.{fraction}
+use Rattle.optimality.proofs.AnswerLaw.{answer_law}
 
 -- ---- numbers: the smallest that is at least 2, and the greatest that is at most 2
 
@@ -66,7 +66,7 @@ abbrev IsSmallestCircle : Ball → Type 0
 IsSmallestCircle = IsSmallest (FitsCircle triangle) ball_size
 
 longest_is_best : IsBest ask_circle (plane triangle) (circle over_longest)
-longest_is_best = circle_is_best (plane triangle) (circle over_longest) (by_test (passes ask_circle (plane triangle) (circle over_longest)) refl)
+longest_is_best = answer_law ask_circle (plane triangle) (circle over_longest) (by_test (passes ask_circle (plane triangle) (circle over_longest)) refl)
 
 -- the same with the squared radius 9, which fits
 abbrev roomy : CircleAnswer
