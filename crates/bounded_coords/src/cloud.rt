@@ -2,6 +2,7 @@
 ghost use Rattle.std.specs.Prelude.{⊤, ◌≡◌, ◌↔◌, ◌+◌, ◌<◌, ◌≤◌, length, slice_get, Some, IsSome, IfSome};
 
 use crate::Steps;
+use crate::measure::{Measure, Reversed};
 use std::alloc::AllocError;
 use std::sync::ledger::Ledger;
 
@@ -28,7 +29,9 @@ impl<'a, P> Clone for Cloud<'a, P> {
 impl<'a, P> Copy for Cloud<'a, P> {}
 
 impl<'a, P> Cloud<'a, P> {
+    ghost use Rattle.std.specs.Ordering.{on};
     ghost use Rattle.bounded_coords.specs.Clouds.{points_of, counted_points};
+    ghost use Rattle.bounded_coords.specs.Firsts.{IsFirstLeast, IsFirstGreatest};
 
     /// The cloud of these points, or None where there are none or more than 10000.
     pub fn from_slice(points: &'a [P]) -> Option<Cloud<'a, P>>
@@ -58,6 +61,29 @@ impl<'a, P> Cloud<'a, P> {
         &self.points[i as usize]
     }
 
+    /// The number of the point whose value is least, and of the first of several.
+    pub fn first_least<M: Measure<P>>(self, measure: &M) -> u32
+        ensures { IsFirstLeast (on (M.measured measure.now) M.Value.cmp) (points_of self.entry) result }
+    {
+        let mut least = measure.at(self.at(0));
+        let mut number = 0;
+        'points: for i in 1..self.len() {
+            let value = measure.at(self.at(i));
+            if value < least {
+                least = value;
+                number = i;
+            }
+        }
+        number
+    }
+
+    /// The number of the point whose value is greatest, and of the first of several.
+    pub fn first_greatest<M: Measure<P>>(self, measure: &M) -> u32
+        ensures { IsFirstGreatest (on (M.measured measure.now) M.Value.cmp) (points_of self.entry) result }
+    {
+        self.first_least(&Reversed { measure })
+    }
+
     /// The same points, each access to which is counted.
     pub fn counted(self) -> Counted<'a, P>
         ensures { counted_points result ≡ points_of self.entry }
@@ -84,7 +110,9 @@ impl<'a, P> Clone for Counted<'a, P> {
 impl<'a, P> Copy for Counted<'a, P> {}
 
 impl<'a, P> Counted<'a, P> {
+    ghost use Rattle.std.specs.Ordering.{on};
     ghost use Rattle.bounded_coords.specs.Clouds.{counted_points};
+    ghost use Rattle.bounded_coords.specs.Firsts.{IsFirstLeast, IsFirstGreatest};
 
     /// How many points there are. It counts no step.
     pub fn len(self) -> u32
@@ -103,5 +131,29 @@ impl<'a, P> Counted<'a, P> {
     {
         steps.tick();
         self.cloud.at(i)
+    }
+    /// The number of the point whose value is least, and of the first of several, at one step a point.
+    pub fn first_least<M: Measure<P>, L: Ledger>(self, measure: &M, steps: &mut Steps<L>) -> u32
+        ensures found { IsFirstLeast (on (M.measured measure.now) M.Value.cmp) (counted_points self.entry) result }
+        ensures steps { steps.new ≡ steps.old + length (counted_points self.entry) }
+    {
+        let mut lowest = measure.at(self.point(0, steps));
+        let mut number = 0;
+        'points: for i in 1..self.len() {
+            let value = measure.at(self.point(i, steps));
+            if value < lowest {
+                lowest = value;
+                number = i;
+            }
+        }
+        number
+    }
+
+    /// The number of the point whose value is greatest, and of the first of several, at one step a point.
+    pub fn first_greatest<M: Measure<P>, L: Ledger>(self, measure: &M, steps: &mut Steps<L>) -> u32
+        ensures found { IsFirstGreatest (on (M.measured measure.now) M.Value.cmp) (counted_points self.entry) result }
+        ensures steps { steps.new ≡ steps.old + length (counted_points self.entry) }
+    {
+        self.first_least(&Reversed { measure }, steps)
     }
 }

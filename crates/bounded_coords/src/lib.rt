@@ -3,6 +3,7 @@
 //! - `point`: points of the plane and of space, made only inside their bounds
 //! - `points`: lists of at most 10000 points
 //! - `cloud`: borrowed lists of 1 to 10000 points, plain and counted
+//! - `measure`: values of points, by which a pass over a cloud finds the least or the greatest
 //! - `steps`: the counter of accesses
 //! - `frame`: boxes for the empty rectangle
 //! - `ask`: what is asked, and of which point sets
@@ -14,6 +15,7 @@ mod ask;
 mod cloud;
 mod frame;
 pub mod laws;
+mod measure;
 mod memory;
 mod point;
 mod points;
@@ -22,6 +24,7 @@ mod steps;
 pub use ask::{Ask, Sets, fit};
 pub use cloud::{Cloud, Counted};
 pub use frame::Frame;
+pub use measure::Measure;
 pub use memory::OutOfMemory;
 pub use point::{Point2, Point3};
 pub use points::{Points, Points2, Points3, PushFault};
