@@ -17,7 +17,7 @@ use Rattle.corral.specs.Balances.{IsBalance}
 use Rattle.corral.proofs.Supports.{all_vectors}
 use Rattle.corral.proofs.Moments.{below_common}
 use Rattle.corral.proofs.MomentSums.{AreLimited, limited}
-use Rattle.corral.proofs.Running.{is_less, is_not_less}
+use Rattle.corral.proofs.Comparisons.{is_less, is_not_less}
 use Rattle.corral.proofs.Solutions.{within_difference_limit, slack_is}
 
 -- its sums are within the limits

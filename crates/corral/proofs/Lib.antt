@@ -18,7 +18,7 @@ pub mod Settled
 pub mod Measure
 pub mod TooMany
 pub mod MomentSizes
-pub mod Running
+pub mod Comparisons
 pub mod PointNumbers
 pub mod Ends
 pub mod MomentSums

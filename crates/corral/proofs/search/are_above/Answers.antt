@@ -8,7 +8,7 @@ use Rattle.corral.specs.Moments.{slack_at}
 use Rattle.corral.specs.Balances.{vectors}
 use Rattle.corral.proofs.Blanks.{blank}
 use Rattle.corral.proofs.Mapped.{at_map, map_all_more, take_whole}
-use Rattle.corral.proofs.Running.{is_less, is_not_less}
+use Rattle.corral.proofs.Comparisons.{is_less, is_not_less}
 use Rattle.corral.proofs.search.are_above.Goals as goal
 
 pub slack-requires-clause-vector : goal.slack-requires-clause-vector
