@@ -132,6 +132,7 @@ impl<'a, P> Counted<'a, P> {
         steps.tick();
         self.cloud.at(i)
     }
+
     /// The number of the point whose value is least, and of the first of several, at one step a point.
     pub fn first_least<M: Measure<P>, L: Ledger>(self, measure: &M, steps: &mut Steps<L>) -> u32
         ensures found { IsFirstLeast (on (M.measured measure.now) M.Value.cmp) (counted_points self.entry) result }

@@ -4,11 +4,14 @@ use Rattle.std.proofs.lemmas.Int.{ints}
 use Rattle.integers.proofs.Identities.{den-ring, read, polys}
 use Rattle.bounds_model.specs.Space.{SpacePoint, vector, dot, point_at}
 use Rattle.bounded_coords.specs.declared.cloud.Cloud.{Cloud}
+use Rattle.std.specs.Ordering.{on, int_cmp}
 use Rattle.bounded_coords.specs.Clouds.{points_of}
+use Rattle.bounded_coords.specs.Firsts.{IsFirstLeast, IsFirstGreatest}
 use Rattle.kernel_laws.specs.Vectors.{sum_of}
 use Rattle.corral.specs.declared.items.Items.TheVariants.{Differences}
 use Rattle.corral.specs.declared.sums.Moments.{Moments}
-use Rattle.corral.specs.LeastSlacks.{HasLeastSlack, IsLeastAlong, IsMostAlong}
+use Rattle.corral.specs.LeastSlacks.{HasLeastSlack}
+use Rattle.corral.proofs.PointNumbers.{least_at, greatest_at}
 
 -- a difference is that of the ways from any origin
 pub difference_along : (o a b s : SpacePoint) → dot (vector b a) s ≡ dot (vector o a) s -ℤ dot (vector o b) s
@@ -25,12 +28,15 @@ by_parts p q r s t u = omega (arith, ints)
 
 -- so it has the least slack for distances
 pub least_by_ends : {K P : Type 0} (quadratic : ℤ) (place : P → SpacePoint) (p q : Cloud P) (m : Moments) (origin : P) (first second : ℕ) → quadratic ≡ pos 0
-    → IsLeastAlong place origin (points_of p) (sum_of m.sum) first → IsMostAlong place origin (points_of q) (sum_of m.sum) second
+    → IsFirstLeast (on (λ r. dot (vector (place origin) (place r)) (sum_of m.sum)) int_cmp) (points_of p) first
+    → IsFirstGreatest (on (λ r. dot (vector (place origin) (place r)) (sum_of m.sum)) int_cmp) (points_of q) second
     → HasLeastSlack {K = K} quadratic place (Differences p q) m (record { first = first; second = second })
 least_by_ends quadratic place p q m origin first second flag least most = record {
   named = (least.listed, most.listed);
   least = λ other h. by_parts
       (difference_along (place origin) (point_at (map place (points_of p)) first) (point_at (map place (points_of q)) second) (sum_of m.sum))
       (difference_along (place origin) (point_at (map place (points_of p)) other.first) (point_at (map place (points_of q)) other.second) (sum_of m.sum))
-      (no_quadratic quadratic _ flag) (no_quadratic quadratic _ flag) (least.least other.first h.0) (most.most other.second h.1);
+      (no_quadratic quadratic _ flag) (no_quadratic quadratic _ flag)
+      (least_at place (λ v. dot (vector (place origin) v) (sum_of m.sum)) (points_of p) origin first other.first least h.0)
+      (greatest_at place (λ v. dot (vector (place origin) v) (sum_of m.sum)) (points_of q) origin second other.second most h.1);
 }

@@ -18,7 +18,6 @@ pub mod Settled
 pub mod Measure
 pub mod TooMany
 pub mod MomentSizes
-pub mod Running
 pub mod PointNumbers
 pub mod Ends
 pub mod MomentSums

@@ -1,24 +1,27 @@
--- The points that numbers stand for.
-use Rattle.std.proofs.Common.{◌≡◌, sym, ap, ap₂, ◌∙◌, ℕ, zero, suc, ℤ, List, [], ◌∷◌, map}
-use Rattle.std.specs.Prelude.{slice_get, Some}
-use Rattle.bounds_model.specs.Space.{SpacePoint, point_at, vector, dot}
-use Rattle.corral.specs.declared.sums.Moments.{Moments}
-use Rattle.corral.specs.Moments.{slack_at}
-use Rattle.corral.specs.LeastSlacks.{along}
+-- The points that numbers stand for, and which of them is least or greatest by a number.
+use Rattle.std.proofs.Common.{sym, subst, ℕ, ◌<◌, ℤ, ◌≤ℤ◌, List, length, map, get_or}
+use Rattle.std.specs.Ordering.{on, int_cmp}
+use Rattle.std.proofs.lemmas.Option.{slice_get-get_or}
+use Rattle.bounds_model.specs.Space.{SpacePoint, point_at}
+use Rattle.bounded_coords.specs.Firsts.{IsFirstLeast, IsFirstGreatest}
+use Rattle.bounded_coords.proofs.Integers.{is_least, is_greatest}
 use Rattle.kernel_laws.proofs.Points.{point_at_place}
 
--- how far along a vector it lies
-pub along_is : {P : Type 0} (place : P → SpacePoint) (origin : P) (points : List P) (sum : SpacePoint) (i : ℕ) (p : P) (v : SpacePoint) (r : ℤ)
-    → slice_get points i ≡ Some p → v ≡ vector (place origin) (place p) → r ≡ dot v sum → r ≡ along place origin points sum i
-along_is place origin points sum i p v r h e f =
-    f ∙ ap (λ u. dot u sum) (e ∙ ap (λ q. vector (place origin) q) (sym (point_at_place place points i p h)))
+-- each number of a list stands for one of its points; any point serves to find it
+module _ {P : Type 0} (place : P → SpacePoint) (f : SpacePoint → ℤ) (points : List P) (any : P) where
+  chosen : (R : SpacePoint → Type 0) (i : ℕ) → i < length points → R (place (get_or points i any)) → R (point_at (map place points) i)
+  chosen R i h = subst R (sym (point_at_place place points i (get_or points i any) (slice_get-get_or points i any h)))
 
--- the slack of a point as seen from the first
-abbrev pub point_slack : {P : Type 0} → ℤ → Moments → (P → SpacePoint) → List P → ℕ → ℤ
-point_slack quadratic m place points i = slack_at quadratic m (vector (point_at (map place points) 0) (point_at (map place points) i))
+  -- where its coordinates give the least number
+  pub least_at : (number other : ℕ) → IsFirstLeast (on (λ p. f (place p)) int_cmp) points number → other < length points
+      → f (point_at (map place points) number) ≤ℤ f (point_at (map place points) other)
+  least_at number other h listed = chosen (λ v. f v ≤ℤ f (point_at (map place points) other)) number h.listed
+      (chosen (λ v. f (place (get_or points number any)) ≤ℤ f v) other listed
+      (is_least (λ p. f (place p)) points number other (get_or points number any) (get_or points other any) h (slice_get-get_or points number any h.listed) (slice_get-get_or points other any listed)))
 
--- what it is
-pub point_slack_is : {P : Type 0} (quadratic : ℤ) (m : Moments) (place : P → SpacePoint) (points : List P) (i : ℕ) (o p : P) (v : SpacePoint) (r : ℤ)
-    → slice_get points 0 ≡ Some o → slice_get points i ≡ Some p → v ≡ vector (place o) (place p) → r ≡ slack_at quadratic m v → r ≡ point_slack quadratic m place points i
-point_slack_is quadratic m place points i o p v r g h e f =
-    f ∙ ap (slack_at quadratic m) (e ∙ ap₂ vector (sym (point_at_place place points 0 o g)) (sym (point_at_place place points i p h)))
+  -- and the greatest
+  pub greatest_at : (number other : ℕ) → IsFirstGreatest (on (λ p. f (place p)) int_cmp) points number → other < length points
+      → f (point_at (map place points) other) ≤ℤ f (point_at (map place points) number)
+  greatest_at number other h listed = chosen (λ v. f (point_at (map place points) other) ≤ℤ f v) number h.listed
+      (chosen (λ v. f v ≤ℤ f (place (get_or points number any))) other listed
+      (is_greatest (λ p. f (place p)) points number other (get_or points number any) (get_or points other any) h (slice_get-get_or points number any h.listed) (slice_get-get_or points other any listed)))

@@ -1,14 +1,57 @@
 //! An item of least slack.
-ghost use Rattle.std.specs.Prelude.{◌≡◌, pos, ◌<◌};
+ghost use Rattle.std.specs.Prelude.{◌≡◌, pos};
+ghost use Rattle.bounds_model.specs.Space.{vector, dot as product};
 ghost use Rattle.kernel_laws.specs.Vectors.{sum_of};
-ghost use Rattle.bounded_coords.specs.Clouds.{points_of};
-ghost use Rattle.corral.specs.Moments.{AreWithin};
-ghost use Rattle.corral.specs.LeastSlacks.{HasLeastSlack, IsLeastAlong, IsMostAlong};
+ghost use Rattle.corral.specs.Moments.{AreWithin, slack_at};
+ghost use Rattle.corral.specs.LeastSlacks.{HasLeastSlack};
 
 use crate::items::{Id, Items};
 use crate::sums::Moments;
-use bounded_coords::Cloud;
+use bounded_coords::{Cloud, Measure};
 use kernel_laws::{Kernel, Potential};
+use std::marker::PhantomData;
+
+/// The slack of each point, as seen from an origin.
+#[derive(Drop)]
+struct Slacks<'a, K: Kernel, T: Potential> {
+    kernel: &'a K,
+    origin: &'a K::P,
+    moments: Moments,
+    slack: PhantomData<T>,
+    ghost within: { AreWithin T.SQUARE K.DIM moments },
+}
+
+impl<'a, K: Kernel, T: Potential> Measure<K::P> for Slacks<'a, K, T> {
+    type Value = i128;
+
+    ghost measured = { λ s p. slack_at T.SQUARE s.moments (vector (K.place s.origin.now) (K.place p)) };
+
+    fn at(&self, point: &K::P) -> i128 {
+        self.moments
+            .slack::<K, T>(self.kernel, self.kernel.diff(self.origin, point))
+    }
+}
+
+/// How far each point lies along the weighted sum, as seen from an origin.
+#[derive(Drop)]
+struct Along<'a, K: Kernel, T: Potential> {
+    kernel: &'a K,
+    origin: &'a K::P,
+    moments: Moments,
+    slack: PhantomData<T>,
+    ghost within: { AreWithin T.SQUARE K.DIM moments },
+}
+
+impl<'a, K: Kernel, T: Potential> Measure<K::P> for Along<'a, K, T> {
+    type Value = i128;
+
+    ghost measured = { λ s p. product (vector (K.place s.origin.now) (K.place p)) (sum_of s.moments.sum) };
+
+    fn at(&self, point: &K::P) -> i128 {
+        self.moments
+            .along::<K, T>(self.kernel.diff(self.origin, point))
+    }
+}
 
 /// The point whose item has the least slack.
 pub(crate) fn point_of_least_slack<K: Kernel, T: Potential>(
@@ -19,19 +62,16 @@ pub(crate) fn point_of_least_slack<K: Kernel, T: Potential>(
     requires { AreWithin T.SQUARE K.DIM moments }
     ensures { HasLeastSlack {K = K} T.SQUARE K.place (Items.Points cloud.entry) moments result }
 {
-    let origin = cloud.at(0);
-    let mut least = moments.slack::<K, T>(kernel, kernel.diff(origin, origin));
-    let mut place = 0;
-    for i in 1..cloud.len() {
-        let slack = moments.slack::<K, T>(kernel, kernel.diff(origin, cloud.at(i)));
-        if slack < least {
-            least = slack;
-            place = i;
-        }
-    }
+    let slacks = Slacks::<K, T> {
+        kernel,
+        origin: cloud.at(0),
+        moments,
+        slack: PhantomData,
+    };
+    let number = cloud.first_least(&slacks);
     Id {
-        first: place,
-        second: place,
+        first: number,
+        second: number,
     }
 }
 
@@ -47,53 +87,14 @@ pub(crate) fn difference_of_least_slack<K: Kernel, T: Potential>(
     requires quadratic { T.SQUARE ≡ pos 0 }
     ensures { HasLeastSlack {K = K} T.SQUARE K.place (Items.Differences p.entry q.entry) moments result }
 {
-    let origin = q.at(0);
+    let along = Along::<K, T> {
+        kernel,
+        origin: q.at(0),
+        moments,
+        slack: PhantomData,
+    };
     Id {
-        first: least_along::<K, T>(kernel, origin, p, moments),
-        second: most_along::<K, T>(kernel, origin, q, moments),
+        first: p.first_least(&along),
+        second: q.first_greatest(&along),
     }
-}
-
-/// The point of a cloud that is least far along the weighted sum, as seen from the origin.
-fn least_along<K: Kernel, T: Potential>(
-    kernel: &K,
-    origin: &K::P,
-    cloud: Cloud<'_, K::P>,
-    moments: Moments,
-) -> u32
-    requires { AreWithin T.SQUARE K.DIM moments }
-    ensures { IsLeastAlong K.place origin.now (points_of cloud.entry) (sum_of moments.sum) result }
-{
-    let mut least = moments.along::<K, T>(kernel.diff(origin, cloud.at(0)));
-    let mut place = 0;
-    for i in 1..cloud.len() {
-        let along = moments.along::<K, T>(kernel.diff(origin, cloud.at(i)));
-        if along < least {
-            least = along;
-            place = i;
-        }
-    }
-    place
-}
-
-/// The point of a cloud that is farthest along the weighted sum, as seen from the origin.
-fn most_along<K: Kernel, T: Potential>(
-    kernel: &K,
-    origin: &K::P,
-    cloud: Cloud<'_, K::P>,
-    moments: Moments,
-) -> u32
-    requires { AreWithin T.SQUARE K.DIM moments }
-    ensures { IsMostAlong K.place origin.now (points_of cloud.entry) (sum_of moments.sum) result }
-{
-    let mut most = moments.along::<K, T>(kernel.diff(origin, cloud.at(0)));
-    let mut place = 0;
-    for i in 1..cloud.len() {
-        let along = moments.along::<K, T>(kernel.diff(origin, cloud.at(i)));
-        if along > most {
-            most = along;
-            place = i;
-        }
-    }
-    place
 }

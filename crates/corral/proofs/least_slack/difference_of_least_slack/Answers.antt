@@ -3,4 +3,4 @@ use Rattle.corral.proofs.least_slack.difference_of_least_slack.Goals as goal
 
 pub returns : goal.returns
 returns g c =
-    least_by_ends g.T.Potential.SQUARE g.K.Kernel.place c.args.p c.args.q c.args.moments c.at-origin.result.now c.least_along.result c.most_along.result c.requires.quadratic c.least_along.ensures c.most_along.ensures
+    least_by_ends g.T.Potential.SQUARE g.K.Kernel.place c.args.p c.args.q c.args.moments c.at.result.now c.first_least.result c.first_greatest.result c.requires.quadratic c.first_least.ensures c.first_greatest.ensures
