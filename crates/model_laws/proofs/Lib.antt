@@ -24,6 +24,7 @@ pub mod Turning
 pub mod CornerLaw
 pub mod NextCorner
 pub mod CornersUnique
+pub mod PassingRanges
 pub mod BestSizes
 pub mod SizeDenominators
 pub mod PermutedFits

@@ -14,7 +14,7 @@ use Rattle.bounds_tool.specs.Judging.{points_in}
 use Rattle.bounds_tool.proofs.OpenedFiles.{accepted}
 use Rattle.bounds_tool.proofs.Corners.{unsolved_file, if_unsolved}
 use Rattle.bounds_tool.proofs.StepCounts.{file_steps}
-use Rattle.bounds_tool.proofs.PassingRanges.{KeepsRanges-passes}
+use Rattle.model_laws.proofs.PassingRanges.{passing_keeps_ranges}
 use Rattle.bounds_tool.proofs.Works.{solved, sized}
 use Rattle.bounds_tool.proofs.command.solve_file.Goals as goal
 
@@ -43,7 +43,7 @@ pub print-requires : goal.print-requires
 print-requires g c =
     let ask = asked c.args.ask.now in
     let answer = answer_of c.in_ok-answer.answer in
-    KeepsRanges-passes ask c.in_ok-sets.sets answer (subst (λ sets. Passes ask sets answer) c.view.ensures c.in_ok-answer.ensures.passes)
+    passing_keeps_ranges ask c.in_ok-sets.sets answer (subst (λ sets. Passes ask sets answer) c.view.ensures c.in_ok-answer.ensures.passes)
 
 pub returns-in_err-answer-clause-cause : goal.returns-in_err-answer-clause-cause
 returns-in_err-answer-clause-cause g c =
