@@ -25,6 +25,7 @@ pub mod CornerLaw
 pub mod NextCorner
 pub mod CornersUnique
 pub mod PassingRanges
+pub mod WeightedVectors
 pub mod BestSizes
 pub mod SizeDenominators
 pub mod PermutedFits

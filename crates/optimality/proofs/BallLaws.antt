@@ -14,7 +14,7 @@ use Rattle.bounds_model.specs.BallAnswer.{Weighted, circle_of, sphere_of, weight
 use Rattle.model_laws.proofs.Decisions.{all-uncons}
 use Rattle.optimality.specs.Laws.{PassingCirclesAreBest, PassingSpheresAreBest}
 use Rattle.optimality.proofs.PrintedSizes.{printed_as_is}
-use Rattle.optimality.proofs.WeightedVectors.{distances_sum, balance}
+use Rattle.model_laws.proofs.WeightedVectors.{distances_sum, balance}
 
 -- ---- the numbers of a ball that passes: q is the first support, C the weighted sum as seen from it, W the sum of the weights, S the second moment
 

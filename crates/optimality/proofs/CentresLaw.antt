@@ -12,7 +12,6 @@ use Rattle.bounds_model.specs.Fractions.{Fraction, IsAtMost}
 use Rattle.bounds_model.specs.Centres.{Cover, IsNear, FitsCentres, centres_size}
 use Rattle.bounds_model.specs.CentresAnswer.{Leaf, CentresAnswer, cover_of, side, AreLeaves, PassesCentres}
 use Rattle.model_laws.proofs.SizeDenominators.{centres_denominator}
-use Rattle.model_laws.proofs.OneSquareLaw.{no_leaf}
 use Rattle.optimality.specs.Laws.{PassingCentresAreBest}
 use Rattle.optimality.proofs.PrintedSizes.{printed_as_is, smallest_by_printed}
 use Rattle.optimality.proofs.Colours.{Colouring, IsColoured}
@@ -92,6 +91,10 @@ cover_colours count points size t pD twice other fits less = record {
 }
 
 -- ---- so the leaves refuse every smaller cover
+
+-- any leaf, for reading past the end of a list
+no_leaf : Leaf
+no_leaf = record { first = 0; second = 0 }
 
 -- points of few colours have no leaves of the next side
 no_leaves : (t count : ℕ) (points : List PlanePoint) (colour : Colouring points) (leaves : List Leaf) → 1 ≤ count → count ≤ 3 → IsColoured t count points colour → ¬ AreLeaves (suc t) count points leaves

@@ -15,7 +15,6 @@ pub mod CornerSquares
 pub mod Colours
 pub mod CornerTree
 pub mod CentresLaw
-pub mod WeightedVectors
 pub mod BallLaws
 pub mod AnswerLaw
 pub mod ExampleBest
