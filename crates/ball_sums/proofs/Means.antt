@@ -1,8 +1,8 @@
 -- The size and the centre that the sums over supports give are those of the ball that the supports hold.
 use Rattle.std.proofs.Common.{◌≡◌, refl, sym, ◌∙◌, ap, ap₂, ℕ, zero, suc, ℤ, pos, ◌+ℤ◌, ◌-ℤ◌, ◌*ℤ◌, List, [], ◌∷◌, map, arith}
 use Rattle.std.proofs.lemmas.Int.{ints}
-use Rattle.bounds_model.specs.Plane.{PlanePoint, PlaneRatio}
-use Rattle.bounds_model.specs.Space.{SpacePoint, SpaceRatio, point_at, plus, times, vector, weighted_sum, flat, flat_ratio}
+use Rattle.bounds_model.specs.Plane.{PlanePoint}
+use Rattle.bounds_model.specs.Space.{SpacePoint, point_at, plus, times, vector, weighted_sum, flat, flat_ratio}
 use Rattle.bounds_model.specs.BallAnswer.{Weighted, weight_sum, first_support, pull, supported_size, supported_centre}
 use Rattle.exact_fractions.proofs.UniqueForms.{space_ratio_by}
 use Rattle.ball_sums.specs.declared.sums.Sums.{Sums}
