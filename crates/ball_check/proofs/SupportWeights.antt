@@ -12,6 +12,7 @@ use Rattle.answers.specs.declared.balls.Weighted.{Weighted}
 use Rattle.answers.specs.Answers.{weighted_of}
 use Rattle.ball_sums.specs.DeterminedBalls.{HasBallLimits}
 use Rattle.integers.proofs.Lists.{All-unmap}
+use Rattle.integers.proofs.Order.{nonneg_from_one}
 
 -- those before a support, and its own, are at most all
 prefix_sum : (supports : List Weighted) (i : ℕ) (none : Weighted) → i < length supports → All (λ s. pos 1 ≤ℤ s.weight) (map weighted_of supports)
@@ -20,11 +21,8 @@ prefix_sum supports i none below some =
     let front = map weighted_of (take (i + 1) supports) in
     let first : weight_sum front ≡ weight_sum (map weighted_of (take i supports)) +ℤ pos (get_or supports i none).weight = ap weight_sum (map_more weighted_of supports i none below) ∙ total-one_more (λ s. s.weight) (map weighted_of (take i supports)) (weighted_of (get_or supports i none)) in
     let part : weight_sum front ≤ℤ weight_sum (map weighted_of supports) = subst (λ ss. weight_sum ss ≤ℤ weight_sum (map weighted_of supports)) (take-map weighted_of (i + 1) supports)
-    (weights_of_some (map weighted_of supports) (i + 1) (All-weaker (λ s. pos 1 ≤ℤ s.weight) (λ s. pos 0 ≤ℤ s.weight) (λ s h. weaken s.weight h) (map weighted_of supports) some)) in
+    (weights_of_some (map weighted_of supports) (i + 1) (All-weaker (λ s. pos 1 ≤ℤ s.weight) (λ s. pos 0 ≤ℤ s.weight) (λ s h. nonneg_from_one h) (map weighted_of supports) some)) in
     subst (λ z. z ≤ℤ weight_sum (map weighted_of supports)) first part
-  where
-    weaken : (a : ℤ) → pos 1 ≤ℤ a → pos 0 ≤ℤ a
-    weaken a h = omega (arith, ints)
 
 -- a support without weight, or past the limit of the weights, is not within the limits
 pub too_heavy : {dim count : ℕ} (supports : List Weighted) (i : ℕ) (none : Weighted) (t : ℕ) → i < length supports → pos t ≡ weight_sum (map weighted_of (take i supports))

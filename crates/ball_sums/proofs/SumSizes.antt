@@ -1,7 +1,7 @@
 -- How large sums over weighted points are.
 use Rattle.std.proofs.Common.{◌≡◌, sym, subst, ℕ, ◌+◌, ◌*◌, ◌^◌, ◌≤◌, ◌⊎◌, inl, inr, ℤ, pos, ◌+ℤ◌, ◌*ℤ◌, arith, le_trans, mul-le-mul, le_refl}
 use Rattle.integers.specs.Size.{Size}
-use Rattle.integers.proofs.Sizes.{size_add, size_mul, size_unsigned, size_more_weight}
+use Rattle.integers.proofs.Sizes.{size_more_weight}
 use Rattle.bounds_model.specs.Space.{SpacePoint}
 use Rattle.kernel_laws.specs.Limits.{IsVectorWithin, difference_limit, ball_limit}
 use Rattle.ball_sums.specs.Sums.{IsInRange, squared_length_limit}

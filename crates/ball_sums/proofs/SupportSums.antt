@@ -1,10 +1,8 @@
 -- Sums over supports, one support after another.
-use Rattle.std.proofs.Common.{◌≡◌, sym, ◌∙◌, ap, ap₂, ℕ, ℤ, pos, ◌+ℤ◌, ◌*ℤ◌, List, [], ◌∷◌, ◌++◌, arith}
-use Rattle.std.proofs.lemmas.Int.{ints}
+use Rattle.std.proofs.Common.{◌≡◌, sym, ◌∙◌, ap, ap₂, ℕ, pos, ◌+ℤ◌, ◌*ℤ◌, List, [], ◌∷◌, ◌++◌}
 use Rattle.integers.proofs.Sums.{total-one_more}
-use Rattle.bounds_model.specs.Space.{SpacePoint, point_at, vector, plus, times, squared_length, weighted_sum}
+use Rattle.bounds_model.specs.Space.{SpacePoint, point_at, vector, plus, times, squared_length}
 use Rattle.bounds_model.specs.BallAnswer.{Weighted}
-use Rattle.kernel_laws.proofs.Points.{same_point}
 use Rattle.kernel_laws.proofs.WeightedSums.{weighted_sum-one_more}
 use Rattle.ball_sums.specs.declared.sums.Sums.{Sums}
 use Rattle.ball_sums.specs.Sums.{Adds, AreSumsFrom}

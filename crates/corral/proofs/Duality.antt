@@ -2,6 +2,7 @@
 use Rattle.std.proofs.Common.{◌≡◌, ℤ, pos, ◌≤ℤ◌, ◌<ℤ◌, List, arith}
 use Rattle.std.specs.Prelude.{All}
 use Rattle.std.proofs.lemmas.Int.{ints}
+use Rattle.integers.proofs.Order.{nonneg_from_one}
 use Rattle.bounds_model.specs.Space.{squared_length, dot}
 use Rattle.bounds_model.specs.Fractions.{IsAtMost}
 use Rattle.bounds_model.specs.Slacks.{WeightedVector, mass, moment, second_moment, slack, value}
@@ -26,8 +27,5 @@ pub none_low_is_best : NoneLowIsBest
 none_low_is_best quadratic flag best items supports some weights none =
     let common = common_slack quadratic best supports.some supports.equal in
     level_is_greatest quadratic best items common.0 (mass_positive best supports.some supports.weights) (mass_positive items some weights) common.1
-    (λ k d l. weaken (weights k d l))
+    (λ k d l. nonneg_from_one (weights k d l))
     (λ k d l. at_least_common quadratic best common.0 common.1 _ (none k d l))
-  where
-    weaken : {a : ℤ} → pos 1 ≤ℤ a → pos 0 ≤ℤ a
-    weaken h = omega (arith, ints)

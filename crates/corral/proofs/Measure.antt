@@ -3,7 +3,7 @@ use Rattle.std.proofs.Common.{sym, subst, inl, inr, ℕ, ◌*◌, ◌/◌, ◌<�
 use Rattle.std.specs.Prelude.{All}
 use Rattle.std.proofs.lemmas.Int.{ints}
 use Rattle.integers.proofs.Identities.{den-ring, read, polys, lits}
-use Rattle.integers.proofs.Order.{nonneg_add, nonneg_mul, le_from_lt, positive_difference, nonneg_difference, positive_mul, square_nonneg, mul_le_both, le_by, lt_by}
+use Rattle.integers.proofs.Order.{nonneg_add, nonneg_mul, le_from_lt, positive_difference, nonneg_difference, positive_mul, square_nonneg, mul_le_both, le_by, lt_by, nonneg_from_one}
 use Rattle.integers.proofs.Sums.{total_weighted_le}
 use Rattle.std.proofs.lemmas.List.Elements.{All-weaker}
 use Rattle.integers.proofs.LeastDifferences.{floor_rises, floor_rises_ℤ, rest_falls}
@@ -37,11 +37,8 @@ difference_nonneg quadratic (inl e) longest limit items h =
 difference_nonneg quadratic (inr e) longest limit items h =
     subst (λ g. pos 0 ≤ℤ (pos longest *ℤ (value g items).d -ℤ (value g items).n)) (sym e)
     (difference_of_ball (mass items) (second_moment items) (squared_length (moment items)) (pos longest) (le_from_lt h.some) (squared_length_nonneg (moment items))
-    (total_weighted_le (λ (item : WeightedVector). item.weight) (λ item. squared_length item.vector) (pos 1) (pos longest) items (λ k d l. weaken (h.weights k d l)) (λ k d l. once (h.short k d l))))
+    (total_weighted_le (λ (item : WeightedVector). item.weight) (λ item. squared_length item.vector) (pos 1) (pos longest) items (λ k d l. nonneg_from_one (h.weights k d l)) (λ k d l. once (h.short k d l))))
   where
-    weaken : {a : ℤ} → pos 1 ≤ℤ a → pos 0 ≤ℤ a
-    weaken h = omega (arith, ints)
-
     once : {a b : ℤ} → a ≤ℤ b → (pos 1 *ℤ a) ≤ℤ b
     once h = omega (arith, ints)
 

@@ -8,6 +8,7 @@ use Rattle.integers.specs.Size.{Size}
 use Rattle.integers.specs.Total.{total}
 use Rattle.integers.proofs.Sizes.{size_add, size_mul, size_between}
 use Rattle.integers.proofs.Sums.{total_nonneg_all}
+use Rattle.integers.proofs.Order.{nonneg_from_one}
 use Rattle.bounds_model.specs.Space.{SpacePoint, plus, times}
 use Rattle.bounds_model.specs.Slacks.{WeightedVector, mass, moment}
 use Rattle.kernel_laws.specs.Vectors.{vector_of, vectors_of, sum_of}
@@ -111,11 +112,8 @@ pub first_of_total : (limit : ℕ) (ws : List ℤ) (d : ℤ) → 1 ≤ length ws
 first_of_total limit [] d some weights light = absurd (omega arith)
 first_of_total limit (w ∷ ws) d some weights light =
     let first : pos 1 ≤ℤ w = All-head (λ w. pos 1 ≤ℤ w) w ws weights in
-    let others : pos 0 ≤ℤ total (λ w. w) ws = total_nonneg_all (λ w. w) ws (λ k e l. nonneg (All-tail (λ w. pos 1 ≤ℤ w) w ws weights k e l)) in
+    let others : pos 0 ≤ℤ total (λ w. w) ws = total_nonneg_all (λ w. w) ws (λ k e l. nonneg_from_one (All-tail (λ w. pos 1 ≤ℤ w) w ws weights k e l)) in
     size_between (omega (arith, ints)) (omega (arith, ints))
-  where
-    nonneg : {z : ℤ} → pos 1 ≤ℤ z → pos 0 ≤ℤ z
-    nonneg h = omega (arith, ints)
 
 -- vectors in bounds, but the first
 pub near_rest : (P : SpacePoint → Type 0) (vs : List Vector) → All P (vectors_of vs) → All P (vectors_of (rest vs))

@@ -4,7 +4,7 @@ use Rattle.std.specs.Prelude.{All}
 use Rattle.std.proofs.lemmas.Int.{ints}
 use Rattle.std.proofs.lemmas.List.Elements.{All-nil, All-cons, All-head, All-tail}
 use Rattle.integers.proofs.Identities.{den-ring, read, polys, lits}
-use Rattle.integers.proofs.Order.{nonneg_difference, nonneg_add, positive_difference, positive_add, positive_from_one, mul_lt_left, mul_le_left, le_by, lt_by, le_of_mul_le, lt_of_mul_lt}
+use Rattle.integers.proofs.Order.{nonneg_difference, nonneg_add, positive_difference, positive_add, positive_from_one, mul_lt_left, mul_le_left, le_by, lt_by, le_of_mul_le, lt_of_mul_lt, nonneg_from_one}
 use Rattle.integers.proofs.Fractions.{fraction_le_trans, fraction_total}
 use Rattle.bounds_model.specs.Slacks.{WeightedVector}
 use Rattle.corral.proofs.Blends.{Numbered, blended}
@@ -61,11 +61,8 @@ has_least (t ∷ (s ∷ ts)) some weights = go (has_least (s ∷ ts) (omega arit
 -- at most 0
 pub least_not_positive : (t s : Numbered) → pos 1 ≤ℤ t.weight → pos 1 ≤ℤ s.weight → (t.number *ℤ s.weight) ≤ℤ (s.number *ℤ t.weight) → s.number ≤ℤ pos 0 → t.number ≤ℤ pos 0
 least_not_positive t s wt ws less low =
-    le_of_mul_le s.weight (positive_from_one ws) (at_most s.weight t.number s.number t.weight less (mul_le_left t.weight (weaken wt) low))
+    le_of_mul_le s.weight (positive_from_one ws) (at_most s.weight t.number s.number t.weight less (mul_le_left t.weight (nonneg_from_one wt) low))
   where
-    weaken : {a : ℤ} → pos 1 ≤ℤ a → pos 0 ≤ℤ a
-    weaken h = omega (arith, ints)
-
     at_most : (w n m v : ℤ) → (n *ℤ w) ≤ℤ (m *ℤ v) → (v *ℤ m) ≤ℤ (v *ℤ pos 0) → (w *ℤ n) ≤ℤ (w *ℤ pos 0)
     at_most w n m v h k = le_by (nonneg_add (nonneg_difference h) (nonneg_difference k)) (read (w ∷ n ∷ m ∷ v ∷ []) (λ xs a b c d. simp (a, b, c, d, polys, lits xs) (den-ring xs _ _ tt)))
 

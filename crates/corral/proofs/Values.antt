@@ -5,7 +5,7 @@
 use Rattle.std.proofs.Common.{◌≡◌, subst, ℤ, suc, pos, negsuc, ◌+ℤ◌, ◌-ℤ◌, ◌*ℤ◌, neg_ℤ, ◌≤ℤ◌, ◌<ℤ◌, arith, [], ◌∷◌}
 use Rattle.std.proofs.lemmas.Int.{ints}
 use Rattle.integers.proofs.Identities.{den-ring, read, polys, lits, below_lits}
-use Rattle.integers.proofs.Order.{nonneg_mul, nonneg_add, positive_add, square_nonneg, le_from_lt, nonneg_difference, positive_difference, at_least_one, mul_le_both, le_by, lt_by, le_of_mul_le, combine1, combine2}
+use Rattle.integers.proofs.Order.{nonneg_mul, nonneg_add, positive_add, square_nonneg, le_from_lt, nonneg_difference, positive_difference, at_least_one, mul_le_both, le_by, lt_by, le_of_mul_le, combine1, combine2, nonneg_from_one}
 use Rattle.bounds_model.specs.Space.{SpacePoint, plus, times, dot, squared_length}
 
 -- ---- squared lengths of sums
@@ -81,12 +81,9 @@ step_raises g M Q W A Y p q k hM hk level is low large =
     let ones = mul_le_both unit unit one one in
     let apart = at_least_one (positive_difference low) in
     let all : (pos 1 *ℤ pos 1 *ℤ pos 1) ≤ℤ (M *ℤ M *ℤ (p -ℤ q)) = mul_le_both unit unit ones apart in
-    lt_by (positive_add large (nonneg_mul (above hk) (nonneg_difference all)))
+    lt_by (positive_add large (nonneg_mul (nonneg_from_one hk) (nonneg_difference all)))
     (combine2 (neg_ℤ (k *ℤ M)) (k *ℤ M *ℤ M) level is
     (read (g ∷ M ∷ Q ∷ W ∷ A ∷ Y ∷ p ∷ q ∷ k ∷ []) (λ xs a b c d e f h i j. simp (a, b, c, d, e, f, h, i, j, polys, lits xs, below_lits xs) (den-ring xs _ _ tt))))
   where
     unit : pos 0 ≤ℤ pos 1
     unit = omega (arith, ints)
-
-    above : {k : ℤ} → pos 1 ≤ℤ k → pos 0 ≤ℤ k
-    above h = omega (arith, ints)

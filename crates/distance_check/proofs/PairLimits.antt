@@ -15,6 +15,7 @@ use Rattle.answers.specs.Answers.{pair_of}
 use Rattle.pair_sums.proofs.PairWeights.{weights_of_some}
 use Rattle.distance_check.specs.DeterminedDistances.{HasPairLimits}
 use Rattle.integers.proofs.Lists.{All-unmap}
+use Rattle.integers.proofs.Order.{nonneg_from_one}
 
 -- what is read past the end of a list of pairs
 abbrev pub no_pair : WeightedPair
@@ -40,11 +41,8 @@ prefix_sum pairs i below some =
     let front = map pair_of (take (i + 1) pairs) in
     let first : pair_sum front ≡ pair_sum (map pair_of (take i pairs)) +ℤ pos (get_or pairs i no_pair).weight = ap pair_sum (map_more pair_of pairs i no_pair below) ∙ total-one_more (λ (pair : model.WeightedPair). pair.weight) (map pair_of (take i pairs)) (pair_of (get_or pairs i no_pair)) in
     let part : pair_sum front ≤ℤ pair_sum (map pair_of pairs) = subst (λ ps. pair_sum ps ≤ℤ pair_sum (map pair_of pairs)) (take-map pair_of (i + 1) pairs)
-    (weights_of_some (map pair_of pairs) (i + 1) (All-weaker (λ (pair : model.WeightedPair). pos 1 ≤ℤ pair.weight) (λ pair. pos 0 ≤ℤ pair.weight) (λ pair h. weaken pair.weight h) (map pair_of pairs) some)) in
+    (weights_of_some (map pair_of pairs) (i + 1) (All-weaker (λ (pair : model.WeightedPair). pos 1 ≤ℤ pair.weight) (λ pair. pos 0 ≤ℤ pair.weight) (λ pair h. nonneg_from_one h) (map pair_of pairs) some)) in
     subst (λ z. z ≤ℤ pair_sum (map pair_of pairs)) first part
-  where
-    weaken : (a : ℤ) → pos 1 ≤ℤ a → pos 0 ≤ℤ a
-    weaken a h = omega (arith, ints)
 
 -- a pair without weight, or past the limit of the weights, is not within the limits
 pub too_heavy : {m n : ℕ} (pairs : List WeightedPair) (i t : ℕ) → i < length pairs → pos t ≡ pair_sum (map pair_of (take i pairs))

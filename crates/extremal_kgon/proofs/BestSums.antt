@@ -6,6 +6,7 @@ use Rattle.std.specs.declared.cmp.Ordering.TheVariants.{Less, Equal, Greater}
 use Rattle.std.specs.Ordering.{ord_max, is_lt, MatchOrdering}
 use Rattle.std.specs.Cmp.{int_ranks}
 use Rattle.integers.proofs.Lists.{below_or_at}
+use Rattle.integers.proofs.Order.{le_trans_ℤ}
 use Rattle.extremal_kgon.specs.Rows.{at, IsBestSum}
 
 -- none comes to less than 0
@@ -15,9 +16,9 @@ best_sum-none area before = record { not_negative = omega (arith, ints); grows =
 -- the greater of these and what one more earlier number comes to
 pub best_sum-more : (area : ℕ → ℤ) (before : List ℤ) (i : ℕ) (u v r : ℤ) → IsBestSum area before i u → v ≡ at before i +ℤ area i → u ≤ℤ r → v ≤ℤ r → (r ≡ u) ⊎ (r ≡ v) → IsBestSum area before (i + 1) r
 best_sum-more area before i u v r so_far is below_u below_v pick = record {
-  not_negative = trans so_far.not_negative below_u;
+  not_negative = le_trans_ℤ so_far.not_negative below_u;
   grows = λ j low. elim (below_or_at j i low) [
-    | inl less ↦ trans (so_far.grows j less) below_u
+    | inl less ↦ le_trans_ℤ (so_far.grows j less) below_u
     | inr same ↦ subst (λ n. (at before n +ℤ area n) ≤ℤ r) (sym same) (subst (λ s. s ≤ℤ r) is below_v)
   ];
   reached = elim pick [
@@ -29,9 +30,6 @@ best_sum-more area before i u v r so_far is below_u below_v pick = record {
   ];
 }
   where
-    trans : {s u r : ℤ} → s ≤ℤ u → u ≤ℤ r → s ≤ℤ r
-    trans h k = omega (arith, ints)
-
     later : {j i : ℕ} → j < i → j < i + 1
     later h = omega arith
 

@@ -5,7 +5,7 @@ use Rattle.std.proofs.lemmas.Int.{ints}
 use Rattle.std.proofs.lemmas.List.{length-map}
 use Rattle.std.proofs.lemmas.List.Elements.{All-weaker, All-map, All-nil, All-head, All-tail, All-cons}
 use Rattle.integers.proofs.Identities.{den-ring, read, polys}
-use Rattle.integers.proofs.Order.{le_by, nonneg_mul, nonneg_difference}
+use Rattle.integers.proofs.Order.{le_by, nonneg_mul, nonneg_difference, nonneg_from_one}
 use Rattle.integers.specs.Size.{Size}
 use Rattle.integers.proofs.Sizes.{below_size}
 use Rattle.bounds_model.specs.Plane.{PlanePoint, point_at, turn}
@@ -77,11 +77,8 @@ answer_passes k points numbers chosen us layers best size three twelve many few 
         by_layers (suc l) e h alone = omega arith
 
     times : (u : ℤ) → u ≤ℤ best.area → (u *ℤ size.d) ≤ℤ (best.area *ℤ size.d)
-    times u h = mul_le_right u best.area size.d (positive fraction.lowest.not_negative.denominator) h
+    times u h = mul_le_right u best.area size.d (nonneg_from_one fraction.lowest.not_negative.denominator) h
       where
-        positive : {d : ℤ} → pos 1 ≤ℤ d → pos 0 ≤ℤ d
-        positive h = omega (arith, ints)
-
         mul_le_right : (x y d : ℤ) → pos 0 ≤ℤ d → x ≤ℤ y → (x *ℤ d) ≤ℤ (y *ℤ d)
         mul_le_right x y d p h = le_by (nonneg_mul p (nonneg_difference h)) (read (x ∷ y ∷ d ∷ []) (λ xs a b c. simp (a, b, c, polys) (den-ring xs _ _ tt)))
 

@@ -9,6 +9,7 @@ use Rattle.std.proofs.lemmas.Int.{ints}
 use native.Mathlib.Nat.{mul-le-mul}
 use Rattle.integers.specs.Size.{Size}
 use Rattle.integers.proofs.Lists.{below_or_at}
+use Rattle.integers.proofs.Order.{le_trans_ℤ}
 use Rattle.std.proofs.lemmas.List.{length-append, get_or_append_left}
 use Rattle.std.proofs.lemmas.List.Elements.{All-append, All-weaker, All-from_get_or}
 use Rattle.bounds_model.specs.Plane.{PlanePoint, point_at, turn}
@@ -169,9 +170,9 @@ found-stands count layers us row first layer best i as_many width below f = reco
 -- the greatest number with a new row
 best-more : (count layers : ℕ) (us row : List ℤ) (first layer : ℕ) (old new : Best) → length us ≡ ending count layers first layer → first + 1 + length row ≡ count → layer < layers → IsBestOf count layers us old → TakesBest old row first (layer + 1) new → IsBestOf count layers (us ++ row) new
 best-more count layers us row first layer old new as_many width below b t = record {
-  not_negative = trans b.not_negative t.rises;
+  not_negative = le_trans_ℤ b.not_negative t.rises;
   small = t.small;
-  above = All-append (λ u. u ≤ℤ new.area) us row (All-weaker (λ u. u ≤ℤ old.area) (λ u. u ≤ℤ new.area) (λ u h. trans h t.rises) us b.above) t.above;
+  above = All-append (λ u. u ≤ℤ new.area) us row (All-weaker (λ u. u ≤ℤ old.area) (λ u. u ≤ℤ new.area) (λ u h. le_trans_ℤ h t.rises) us b.above) t.above;
   stands = elim t.one [
     | inl same ↦ subst (λ x. (x.area ≡ pos 0) ⊎ StandsAt count layers (us ++ row) x) (sym same) (elim b.stands [
       | inl none ↦ inl none
@@ -180,9 +181,6 @@ best-more count layers us row first layer old new as_many width below b t = reco
     | inr found ↦ inr (found-stands count layers us row first layer new found.0 as_many width below found.1)
   ];
 }
-  where
-    trans : {x y z : ℤ} → x ≤ℤ y → y ≤ℤ z → x ≤ℤ z
-    trans h k = omega (arith, ints)
 
 -- the numbers of a new row are not below 0, and not large
 pub row-low : (ways : List Way) (before row : List ℤ) → IsNextRow (map vector_of ways) before row → All (λ u. pos 0 ≤ℤ u) row

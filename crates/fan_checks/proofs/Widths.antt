@@ -3,7 +3,7 @@ use Rattle.std.proofs.Common.{◌≡◌, ◌↔◌, refl, subst, ap₂, ℕ, ◌
 use Rattle.std.proofs.Math.Nat.{mul-le-mul}
 use Rattle.std.proofs.lemmas.Int.{ints}
 use Rattle.integers.proofs.Identities.{den-ring, read, polys}
-use Rattle.integers.proofs.Order.{nonneg_mul, positive_mul, positive_from_one}
+use Rattle.integers.proofs.Order.{nonneg_mul, positive_mul, positive_from_one, nonneg_from_one}
 use Rattle.directions.proofs.Signs.{magnitude_of}
 
 -- a number that is read as a magnitude is within the magnitude's bound
@@ -24,11 +24,8 @@ square_within {w} z is low h = let within : w ≤ 2 ^ 41 = omega (arith, is, low
 -- a product below 0 is no numerator
 pub no_value : {n d e : ℤ} (p : ℤ) → pos 0 ≤ℤ n → pos 1 ≤ℤ d → pos 1 ≤ℤ e → p <ℤ pos 0 → n *ℤ e ≡ p *ℤ d → ⊥
 no_value {n} {d} {e} p low some more below same =
-    contrary (nonneg_mul low (from_one more)) (negative p d below some) same
+    contrary (nonneg_mul low (nonneg_from_one more)) (negative p d below some) same
   where
-    from_one : {z : ℤ} → pos 1 ≤ℤ z → pos 0 ≤ℤ z
-    from_one h = omega (arith, ints)
-
     negative : (p d : ℤ) → p <ℤ pos 0 → pos 1 ≤ℤ d → (p *ℤ d) <ℤ pos 0
     negative p d h k = turned_back (positive_mul (turned h) (positive_from_one k)) (is p d)
       where

@@ -7,7 +7,7 @@ use Rattle.std.proofs.lemmas.List.Elements.{Contains-get_or}
 use Rattle.integers.specs.Extremes.{greatest, least}
 use Rattle.integers.proofs.Extremes.{greatest_is, least_is}
 use Rattle.integers.proofs.Identities.{den-ring, read, polys, lits}
-use Rattle.integers.proofs.Order.{mul_le_left, le_of_mul_le, same_of_mul, positive_mul, combine2, combine3, le_from_lt, positive_from_one}
+use Rattle.integers.proofs.Order.{mul_le_left, le_of_mul_le, same_of_mul, positive_mul, combine2, combine3, le_from_lt, positive_from_one, nonneg_from_one}
 use Rattle.bounds_model.specs.Numbers.{IsWithin}
 use Rattle.bounds_model.specs.Plane.{PlanePoint, PlaneRatio, point_at, origin, squared_length}
 use Rattle.bounds_model.specs.Space.{SamePlace, flat_ratio}
@@ -112,13 +112,10 @@ in_ranges : (points : List PlanePoint) (pairs : List WeightedPair) → length po
 in_ranges points pairs few numbers weights = λ k d below.
     let n = numbers k d below in
     let w = weights k d below in
-    (number few n.0, number few n.1, record { low = not_negative w.0; high = light w.1 })
+    (number few n.0, number few n.1, record { low = nonneg_from_one w.0; high = light w.1 })
   where
     number : {i n : ℕ} → n ≤ 10000 → i < n → i ≤ point_limit
     number h k = omega arith
-
-    not_negative : {z : ℤ} → pos 1 ≤ℤ z → pos 0 ≤ℤ z
-    not_negative h = omega (arith, ints)
 
     light : {z : ℤ} → z ≤ℤ pos (2 ^ 42) → z ≤ℤ pos number_limit
     light h = omega (arith, ints)

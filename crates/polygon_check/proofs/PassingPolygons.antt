@@ -6,7 +6,7 @@ use Rattle.std.proofs.lemmas.Int.{ints}
 use Rattle.std.proofs.lemmas.List.{length-map}
 use Rattle.std.proofs.lemmas.List.Elements.{All-weaker, All-map}
 use Rattle.integers.proofs.Lists.{All-unmap}
-use Rattle.integers.proofs.Order.{mul_le_left, le_of_mul_le, le_from_lt, positive_from_one}
+use Rattle.integers.proofs.Order.{mul_le_left, le_of_mul_le, le_from_lt, positive_from_one, le_trans_ℤ}
 use Rattle.bounds_model.specs.Plane.{PlanePoint, point_at}
 use Rattle.bounds_model.specs.Fractions.{Fraction, SameValue}
 use Rattle.bounds_model.specs.Ranges.{IsFraction, IsNatural, point_limit}
@@ -108,10 +108,7 @@ under_size {area} us size some e all =
 
 -- numbers that are at most the area are small, and in their ranges
 pub small_under : {area : ℤ} (us : List ℕ) → area ≤ℤ pos (2 ^ 43) → All (λ u. pos u ≤ℤ area) us → All (λ u. u ≤ℤ pos (2 ^ 43)) (map pos us)
-small_under {area} us h all = All-map (λ u. u ≤ℤ pos (2 ^ 43)) pos us (All-weaker (λ u. pos u ≤ℤ area) (λ u. pos u ≤ℤ pos (2 ^ 43)) (λ u k. through k h) us all)
-  where
-    through : {x y z : ℤ} → x ≤ℤ y → y ≤ℤ z → x ≤ℤ z
-    through h k = omega (arith, ints)
+small_under {area} us h all = All-map (λ u. u ≤ℤ pos (2 ^ 43)) pos us (All-weaker (λ u. pos u ≤ℤ area) (λ u. pos u ≤ℤ pos (2 ^ 43)) (λ u k. le_trans_ℤ k h) us all)
 
 pub naturals_of : (us : List ℕ) → All (λ u. u ≤ℤ pos (2 ^ 43)) (map pos us) → All IsNatural (map pos us)
 naturals_of us all = All-map IsNatural pos us (All-weaker (λ u. pos u ≤ℤ pos (2 ^ 43)) (λ u. IsNatural (pos u)) (λ u h. record { low = least u; high = far u h }) us (All-unmap (λ u. u ≤ℤ pos (2 ^ 43)) pos us all))

@@ -1,5 +1,6 @@
 use Rattle.std.proofs.Common.{◌≡◌, ◌+◌, ◌-◌, ◌≤◌, subst, ap, Bool, false, ℤ, pos, ◌≤ℤ◌, ◌<ℤ◌, IsTrue, length, arith}
 use Rattle.std.proofs.lemmas.Int.{ints, by_lt_z}
+use Rattle.integers.proofs.Order.{le_from_lt}
 use Rattle.bounds_model.specs.Fans as fans
 use Rattle.bounded_coords.specs.Clouds.{points_of}
 use Rattle.answers.specs.Answers.{half_fan_of}
@@ -14,13 +15,10 @@ is_behind-requires-clause-direction c = around_short c.args.fan.now c.args.j c.a
 
 -- what is not found behind lies ahead
 not_behind : {b : Bool} {z : ℤ} → (z ≤ℤ pos 0 → IsTrue b) → b ≡ false → pos 0 ≤ℤ z
-not_behind {b} {z} h e = by_lt_z (pos 0) z (λ above. plain above) (λ below. absurd (never (subst IsTrue e (h below))))
+not_behind {b} {z} h e = by_lt_z (pos 0) z (λ above. le_from_lt above) (λ below. absurd (never (subst IsTrue e (h below))))
   where
     never : IsTrue false → ⊥
     never t = absurd (cc)
-
-    plain : {z : ℤ} → pos 0 <ℤ z → pos 0 ≤ℤ z
-    plain h = omega (arith, ints)
 
 pub loop-i-preserved : goal.loop-i-preserved
 loop-i-preserved c =
