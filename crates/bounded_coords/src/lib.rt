@@ -20,6 +20,8 @@ mod memory;
 mod point;
 mod points;
 mod steps;
+#[cfg(test)]
+mod tests;
 
 pub use ask::{Ask, Sets, fit};
 pub use cloud::{Cloud, Counted};

@@ -27,8 +27,8 @@ impl<'a, K: Kernel, T: Potential> Measure<K::P> for Slacks<'a, K, T> {
     ghost measured = { λ s p. slack_at T.SQUARE s.moments (vector (K.place s.origin.now) (K.place p)) };
 
     fn at(&self, point: &K::P) -> i128 {
-        self.moments
-            .slack::<K, T>(self.kernel, self.kernel.diff(self.origin, point))
+        let vector = self.kernel.diff(self.origin, point);
+        self.moments.slack::<K, T>(self.kernel, vector)
     }
 }
 
@@ -48,8 +48,8 @@ impl<'a, K: Kernel, T: Potential> Measure<K::P> for Along<'a, K, T> {
     ghost measured = { λ s p. product (vector (K.place s.origin.now) (K.place p)) (sum_of s.moments.sum) };
 
     fn at(&self, point: &K::P) -> i128 {
-        self.moments
-            .along::<K, T>(self.kernel.diff(self.origin, point))
+        let vector = self.kernel.diff(self.origin, point);
+        self.moments.along::<K, T>(vector)
     }
 }
 

@@ -23,7 +23,8 @@ pub(crate) enum Finding {
     Far(Leaf),
 }
 
-/// What the squares leave over: each point is read once, and none after the first two that are too far apart.
+/// What the squares leave over: each point is read once, and none after the first two that are too far apart. One pass finds the
+/// ends in x and in y of the points that are left over, and may stop early, so it is no search for the least of one value.
 pub(crate) fn survey<L: Ledger>(
     cloud: Counted<'_, Point2>,
     squares: &[Square],
