@@ -1,4 +1,4 @@
-pub mod Numerals
+pub mod Numbers
 pub mod Boxes
 pub mod Parsed
 pub mod FirstCauses

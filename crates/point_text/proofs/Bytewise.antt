@@ -11,7 +11,7 @@ use Rattle.std.proofs.lemmas.List.Folds.{list_all-append}
 use Rattle.std.proofs.lemmas.List.Sums.{fold-append}
 use Rattle.bounds_model.specs.PointText.{natural, number, digits_number, digit_size}
 use Rattle.point_text.specs.Clamps.{clamped_size, clamped}
-use Rattle.point_text.specs.Digits.{number_behind}
+use Rattle.byte_tools.specs.LeadingDigits.{number_behind}
 use Rattle.point_text.specs.Fields.{clamped_number}
 use Rattle.point_text.specs.declared.field_in_hand.FieldInHand.{FieldInHand}
 use Rattle.point_text.specs.declared.field_in_hand.FieldInHand.TheVariants as field

@@ -1,34 +1,15 @@
 -- Clamped coordinates are as good as the coordinates themselves.
-use Rattle.std.proofs.Common.{◌≡◌, ◌∙◌, refl, sym, ap, ℕ, ℤ, pos, negsuc, neg_ℤ, ◌+◌, ◌≤◌, ◌&&◌, Bool, true, false, cond, min, List, [], ◌∷◌, Option, Some, None, arith, suc}
-use Rattle.std.proofs.lemmas.Int.{ints}
-use Rattle.std.proofs.lemmas.Bool.Decides.{nat_tests}
-use Rattle.std.specs.Option.{option_map}
+use Rattle.std.proofs.Common.{◌≡◌, ◌∙◌, refl, sym, ap, ℕ, ℤ, ◌≤◌, ◌&&◌, Bool, true, false, cond, List, [], ◌∷◌, Option, Some, arith}
 use Rattle.bounds_model.specs.Plane.{PlanePoint, plane_limit}
 use Rattle.bounds_model.specs.Space.{SpacePoint, space_limit}
 use Rattle.bounds_model.specs.PointText.{Meaning, is_within, says_point, out_of_bounds, plane_meaning, space_meaning}
+use Rattle.byte_tools.proofs.Clamping.{within_or_not}
 use Rattle.point_text.specs.Clamps.{clamped}
-
--- a number is in bounds where its clamped one is
-clamped_test : (limit : ℕ) (z : ℤ) → limit ≤ 200000 → is_within limit (clamped z) ≡ is_within limit z
-clamped_test limit (pos n) small = grind (arith, nat_tests)
-clamped_test limit (negsuc n) small = grind (arith, ints, nat_tests)
-
--- a number in bounds is its own clamped number
-clamped_same : (limit : ℕ) (z : ℤ) → limit ≤ 200000 → is_within limit z ≡ true → clamped z ≡ z
-clamped_same limit (pos n) small test = ap pos (grind (arith, nat_tests))
-clamped_same limit (negsuc n) small test =
-    let same : min (n + 1) 200001 ≡ suc n = grind (arith, nat_tests) in
-    ap (λ m. neg_ℤ (pos m)) same
 
 -- what a coordinate in bounds leads to, and anything else, does not change where the coordinate is clamped
 through_clamp : {A : Type 0} (limit : ℕ) (z : ℤ) → limit ≤ 200000 → (inside : ℤ → A) (outside : A)
     → cond (is_within limit (clamped z)) (inside (clamped z)) outside ≡ cond (is_within limit z) (inside z) outside
-through_clamp limit z small inside outside =
-    ap (λ v. cond v (inside (clamped z)) outside) (clamped_test limit z small)
-    ∙ elim (is_within limit z) as (λ v. is_within limit z ≡ v → cond v (inside (clamped z)) outside ≡ cond v (inside z) outside) [
-      | true ↦ λ test. ap inside (clamped_same limit z small test)
-      | false ↦ λ test. refl
-    ] refl
+through_clamp limit z small inside outside = within_or_not 200000 limit z small inside outside
 
 -- ---- points of clamped coordinates
 
@@ -62,11 +43,6 @@ space_clamped x y z =
     ∙ sym (parted x y z)))
 
 -- ---- fields
-
--- a field whose clamped number is this one has a number
-pub number_clamped : (a : Option ℤ) (x : ℤ) → Some x ≡ option_map clamped a → (z : ℤ) × (x ≡ clamped z) × (a ≡ Some z)
-number_clamped None x e = cc
-number_clamped (Some z) x e = (z, cc, refl)
 
 -- three clamped numbers mean what the numbers of the three fields mean
 pub three_numbers : (x y z u v w : ℤ) (fields behind further rest : List (Option ℤ)) → x ≡ clamped u → fields ≡ Some u ∷ behind → y ≡ clamped v → behind ≡ Some v ∷ further

@@ -8,7 +8,7 @@ use Rattle.std.specs.List.{slice_split, position_or_len, before_first, after_fir
 use Rattle.std.proofs.lemmas.List.Sums.{fails_before_first, prefix_len-le-length}
 use Rattle.std.proofs.lemmas.List.Splits.{slice_split_first, slice_split_none, slice_split-cons_yes}
 use Rattle.bounds_model.specs.PointText.{is_blank, fields_of}
-use Rattle.point_text.proofs.FirstIndices.{position-cons_no, position-cons_yes}
+use Rattle.byte_tools.proofs.FirstIndices.{position-cons_no, position-cons_yes}
 
 abbrev pub is_filled : List ℕ → Bool
 is_filled field = nat_le 1 (length field)

@@ -1,20 +1,15 @@
 -- What fields come to, as one more is read.
-use Rattle.std.proofs.Common.{◌≡◌, ◌∙◌, refl, ap, ℕ, ℤ, false, List, [], ◌∷◌, ◌++◌, map, codes, append_assoc, Option, Some, None}
+use Rattle.std.proofs.Common.{◌≡◌, ◌∙◌, refl, sym, ap, ℕ, ℤ, false, List, [], ◌∷◌, ◌++◌, map, codes, append_assoc, Option, Some, None}
 use Rattle.std.proofs.lemmas.List.{map-append}
-use Rattle.std.specs.Option.{option_map}
 use Rattle.std.specs.Str.{bytes_eq}
 use Rattle.bounds_model.specs.PointText.{number}
+use Rattle.byte_tools.proofs.Clamping.{number_found}
 use Rattle.point_text.specs.Clamps.{clamped}
 use Rattle.point_text.specs.Fields.{clamped_number, IsField, AreBad, AreFields}
 use Rattle.point_text.specs.declared.fields.Field.{Field}
 use Rattle.point_text.specs.declared.fields.Field.TheVariants as field
 use Rattle.point_text.specs.declared.fields.Fields.{Fields}
 use Rattle.point_text.specs.declared.fields.Fields.TheVariants as fields
-
--- a field whose clamped number is this one has a number
-pub number_within : (a : Option ℤ) (x : ℤ) → option_map clamped a ≡ Some x → (z : ℤ) × (x ≡ clamped z) × (a ≡ Some z)
-number_within None x e = cc
-number_within (Some z) x e = (z, cc, refl)
 
 -- ---- fields with these clamped numbers
 
@@ -29,7 +24,7 @@ pub one_number : (line : List (List ℕ)) (x : ℤ) → map clamped_number line 
 one_number [] x e = cc
 one_number (a ∷ []) x e =
     let h : clamped_number a ≡ Some x = cc in
-    let n = number_within (number a) x h in
+    let n = number_found 200000 (number a) x (sym h) in
     record { first = a; z = n.0; fields = refl; first_number = n.2; first_clamped = n.1 }
 one_number (a ∷ b ∷ line) x e = cc
 
@@ -49,7 +44,7 @@ two_numbers [] x y e = cc
 two_numbers (a ∷ line) x y e =
     let h : clamped_number a ≡ Some x = cc in
     let rest : map clamped_number line ≡ Some y ∷ [] = cc in
-    let n = number_within (number a) x h in
+    let n = number_found 200000 (number a) x (sym h) in
     let m = one_number line y rest in
     record {
       first = a;
@@ -77,7 +72,7 @@ three_numbers [] x y z e = cc
 three_numbers (a ∷ line) x y z e =
     let h : clamped_number a ≡ Some x = cc in
     let rest : map clamped_number line ≡ Some y ∷ Some z ∷ [] = cc in
-    let n = number_within (number a) x h in
+    let n = number_found 200000 (number a) x (sym h) in
     record { first = a; u = n.0; behind = line; fields = refl; first_number = n.2; first_clamped = n.1; two = two_numbers line y z rest }
 
 -- one more number

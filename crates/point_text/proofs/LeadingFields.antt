@@ -11,15 +11,15 @@ use Rattle.std.specs.List.{All, list_all, position_from, position_or_len, before
 use Rattle.std.specs.Option.{option_map}
 use Rattle.bounds_model.specs.PointText.{is_blank, is_comment_sign, fields_of, number, bad_form, plane_meaning, space_meaning}
 use Rattle.point_text.specs.Clamps.{clamped_size, clamped}
-use Rattle.point_text.specs.Digits.{number_behind, BeginsWithNoDigit}
+use Rattle.byte_tools.specs.LeadingDigits.{number_behind, BeginsWithNoDigit}
 use Rattle.point_text.specs.Fields.{clamped_number}
 use Rattle.point_text.specs.InHand.{Write}
 use Rattle.point_text.specs.Lines.{numbers_of, uncommented, is_field_end, first_field, are_behind_field, IsUnsigned, HasNoNumber}
 use Rattle.point_text.proofs.Bytewise.{natural_all, natural_none, no_digit, unsigned_number, plus_number, minus_number}
 use Rattle.point_text.proofs.Clamping.{plane_clamped}
 use Rattle.point_text.proofs.FieldCuts.{is_no_blank, fields_of-blank, fields_of-first, start_is_filled}
-use Rattle.point_text.proofs.FieldLaws.{number_within}
-use Rattle.point_text.proofs.FirstIndices.{index_found, position-cons_no, position-cons_yes, before_first-cons_no, before_first-cons_yes, after_first-cons_no, after_first-cons_yes, before_first_all, before_first_at}
+use Rattle.byte_tools.proofs.Clamping.{number_found}
+use Rattle.byte_tools.proofs.FirstIndices.{index_found, position-cons_no, position-cons_yes, before_first-cons_no, before_first-cons_yes, after_first-cons_no, after_first-cons_yes, before_first_all, before_first_at}
 
 -- ---- where a field ends
 
@@ -199,7 +199,7 @@ fields_parted xs some = fields_of-first (uncommented xs) some ∙ ap (λ f. f �
 
 pub numbers_some : (xs rest : List ℕ) (x : ℤ) → LeadsTo xs x rest → (z : ℤ) × (x ≡ clamped z) × (numbers_of (uncommented xs) ≡ Some z ∷ numbers_of (uncommented rest))
 numbers_some xs rest x (is, parts) =
-    let read = number_within (number (first_field xs)) x is in
+    let read = number_found 200000 (number (first_field xs)) x (sym is) in
     let behind : fields_of (after_first is_blank (uncommented xs)) ≡ fields_of (uncommented rest) = behind_first xs ∙ ap (λ ys. fields_of (uncommented ys)) (sym (rest_is xs rest parts)) in
     let fields : fields_of (uncommented xs) ≡ first_field xs ∷ fields_of (uncommented rest) = fields_parted xs (some (position_or_len is_blank (uncommented xs)) refl) ∙ ap (λ fs. first_field xs ∷ fs) behind in
     (read.0, read.1, ap (map number) fields ∙ ap (λ a. a ∷ numbers_of (uncommented rest)) read.2)

@@ -1,4 +1,3 @@
-pub mod FirstIndices
 pub mod FieldCuts
 pub mod Clamping
 pub mod FieldLaws

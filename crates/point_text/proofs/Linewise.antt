@@ -12,7 +12,7 @@ use Rattle.point_text.specs.declared.line_in_hand.LineInHand.TheVariants.{Commen
 use Rattle.point_text.specs.declared.line_in_hand.ContentInHand.{ContentInHand}
 use Rattle.point_text.specs.InHand.{IsFieldInHand, IsLineInHand, HasNoComment, filled}
 use Rattle.point_text.proofs.Bytewise.{write_some}
-use Rattle.point_text.proofs.FirstIndices.{before_first_all, before_first_at}
+use Rattle.byte_tools.proofs.FirstIndices.{before_first_all, before_first_at}
 
 -- a field in hand other than the empty one has a byte
 pub field_some : (f : FieldInHand) (bytes : List ℕ) → IsFieldInHand f bytes → (f ≡ Empty → ⊥) → nat_le 1 (length bytes) ≡ true

@@ -5,7 +5,7 @@ use Rattle.std.specs.List.{All, list_all}
 use Rattle.std.specs.Str.Lines.{strip_carriage_return}
 use Rattle.std.proofs.lemmas.List.Elements.{All-append, All-cons}
 use Rattle.bounds_model.specs.PointText.{is_blank, is_comment_sign}
-use Rattle.point_text.specs.Digits.{AreCut}
+use Rattle.byte_tools.specs.LeadingDigits.{AreCut}
 use Rattle.point_text.specs.InHand.{IsFieldInHand, IsContentInHand, IsLineInHand, Adds, AddsDigits}
 use Rattle.point_text.specs.declared.field_in_hand.FieldInHand.{FieldInHand}
 use Rattle.point_text.specs.declared.field_in_hand.FieldInHand.TheVariants.{Positive, Negative}
@@ -22,7 +22,7 @@ adds_none IsInHand held text = record { adds = record { added = []; text_is = re
 
 -- ---- to a field
 
-pub adds_positive : (size least written : ℕ) (text rest : List ℕ) → least ≡ min size 200001 → AreCut least text written rest → AddsDigits IsFieldInHand (Positive size) (Positive written) text rest
+pub adds_positive : (size least written : ℕ) (text rest : List ℕ) → least ≡ min size 200001 → AreCut 200000 least text written rest → AddsDigits IsFieldInHand (Positive size) (Positive written) text rest
 adds_positive size least written text rest is cut = record {
   adds = record {
     added = cut.digits;
@@ -34,7 +34,7 @@ adds_positive size least written text rest is cut = record {
   digits = cut.are_digits;
 }
 
-pub adds_negative : (size least written : ℕ) (text rest : List ℕ) → least ≡ min size 200001 → AreCut least text written rest → AddsDigits IsFieldInHand (Negative size) (Negative written) text rest
+pub adds_negative : (size least written : ℕ) (text rest : List ℕ) → least ≡ min size 200001 → AreCut 200000 least text written rest → AddsDigits IsFieldInHand (Negative size) (Negative written) text rest
 adds_negative size least written text rest is cut = record {
   adds = record {
     added = cut.digits;

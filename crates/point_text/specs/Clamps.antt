@@ -1,11 +1,11 @@
--- Numbers of any length, brought within the range of machine arithmetic.
-use Rattle.std.specs.Prelude.{ℕ, ℤ, pos, negsuc, neg_ℤ, ◌+◌, min}
+-- The numbers of a point file, clamped past the limit of all coordinates.
+use Rattle.std.specs.Prelude.{ℕ, ℤ}
+use Rattle.byte_tools.specs.Clamps as tools
 
 -- the magnitude, or the first one past every bound where it is greater
 abbrev pub clamped_size : ℕ → ℕ
-clamped_size n = min n 200001
+clamped_size n = tools.clamped_size 200000 n
 
 -- the number with its magnitude clamped
 abbrev pub clamped : ℤ → ℤ
-clamped (pos n) = pos (clamped_size n)
-clamped (negsuc n) = neg_ℤ (pos (clamped_size (n + 1)))
+clamped z = tools.clamped 200000 z

@@ -1,46 +1,11 @@
-//! Indices in a text, and fields cut off a line.
-ghost use Rattle.std.specs.Prelude.{◌≡◌, ◌≢◌, ℕ, Bool, true, false, ◌<◌, ◌==◌, [], ◌∷◌, not, length, slice_index_or, IfSome, MatchOption};
-ghost use Rattle.std.specs.List.{before_first, after_first, position_from};
+//! Fields cut off a line.
+ghost use Rattle.std.specs.Prelude.{◌≡◌, ◌≢◌, true, false, ◌<◌, [], ◌∷◌, not, length, IfSome, MatchOption};
+ghost use Rattle.std.specs.List.{position_from};
 ghost use Rattle.std.specs.Str.Lines.{strip_carriage_return};
 ghost use Rattle.bounds_model.specs.PointText.{is_blank, fields_of};
 ghost use Rattle.point_text.specs.Lines.{uncommented, are_behind_field};
 
-/// What stands before this index and what stands after it, or all and nothing without an index.
-fn parted(text: &[u8], index: Option<usize>) -> (&[u8], &[u8])
-    requires { IfSome index (λ i. i < length text.now) }
-    ensures before { (p : ℕ → Bool) → index ≡ position_from p 0 text.now → result.0.now ≡ before_first p text.now }
-    ensures after { (p : ℕ → Bool) → index ≡ position_from p 0 text.now → result.1.now ≡ after_first p text.now }
-{
-    match index {
-        Some(index) => (&text[..index], &text[index + 1..]),
-        None => (text, &[]),
-    }
-}
-
-/// The index of the first byte of this value.
-pub(crate) fn index_of(text: &[u8], byte: u8) -> Option<usize>
-    ensures index { result ≡ position_from (λ b. b == byte) 0 text.now }
-    ensures within { IfSome result (λ i. i < length text.now) }
-{
-    text.iter().position(|b| *b == byte)
-}
-
-/// An index of a byte of this value, the last one.
-pub(crate) fn last_index_of(text: &[u8], byte: u8) -> Option<usize>
-    ensures within { IfSome result (λ i. i < length text.now) }
-    ensures here { IfSome result (λ i. slice_index_or text.now i 0 ≡ byte) }
-{
-    text.iter().rposition(|b| *b == byte)
-}
-
-/// What stands before the first byte of this value and what stands after it, or all and nothing
-/// where there is no such byte.
-fn cut(text: &[u8], byte: u8) -> (&[u8], &[u8])
-    ensures before { result.0.now ≡ before_first (λ b. b == byte) text.now }
-    ensures after { result.1.now ≡ after_first (λ b. b == byte) text.now }
-{
-    parted(text, index_of(text, byte))
-}
+use byte_tools::{cut, parted};
 
 /// The line without a carriage return at its end.
 pub(crate) fn without_return(line: &[u8]) -> &[u8]

@@ -7,7 +7,8 @@ ghost use Rattle.point_text.specs.Fields.{IsField};
 ghost use Rattle.point_text.specs.InHand.{IsFieldInHand, AddsDigits};
 
 use crate::fields::Field;
-use crate::number::{FAR, cut_digits};
+use crate::number::{FAR, LIMIT};
+use byte_tools::cut_digits;
 
 /// The bytes so far of a field.
 #[derive(Clone, Copy)]
@@ -109,11 +110,11 @@ impl FieldInHand {
     {
         match self {
             FieldInHand::Positive(size) => {
-                let (size, rest) = cut_digits(size.min(FAR), text);
+                let (size, rest) = cut_digits(LIMIT, size.min(FAR), text);
                 (FieldInHand::Positive(size), rest)
             }
             FieldInHand::Negative(size) => {
-                let (size, rest) = cut_digits(size.min(FAR), text);
+                let (size, rest) = cut_digits(LIMIT, size.min(FAR), text);
                 (FieldInHand::Negative(size), rest)
             }
             field => (field, text),

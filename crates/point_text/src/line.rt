@@ -7,8 +7,9 @@ ghost use Rattle.point_text.specs.Lines.{meaning_of, numbers_of, uncommented, fi
 
 use crate::cuts::{before_comment, ends_field, field_start, has_field, next_field, without_return};
 use crate::fields::Fields;
-use crate::number::cut_digits;
+use crate::number::LIMIT;
 use bounded_coords::{Point2, Point3};
+use byte_tools::cut_digits;
 
 /// What a line says, where `P` are the points.
 #[derive(Clone, Copy)]
@@ -67,7 +68,7 @@ fn leading_number(text: &[u8]) -> Option<(i64, &[u8])>
         (λ parts. (clamped_number (first_field text.now) ≡ Some parts.0) × (text.now ≡ first_field text.now ++ parts.1.now)) }
 {
     let (negative, digits) = unsigned(text);
-    let (size, rest) = cut_digits(0, digits);
+    let (size, rest) = cut_digits(LIMIT, 0, digits);
     if rest.len() == digits.len() || !ends_field(rest) {
         return None;
     }

@@ -10,11 +10,11 @@ ghost use Rattle.point_text.specs.Refusals.{Answers};
 ghost use Rattle.point_text.specs.Judged.{lines_judged};
 ghost use Rattle.point_text.specs.Keeping.{KeepsPoint};
 
-use crate::cuts::{index_of, last_index_of};
 use crate::judgement::Judgement;
 use crate::line_in_hand::LineInHand;
 use crate::{OwnedSets, TextFault};
 use bounded_coords::{Ask, OutOfMemory};
+use byte_tools::{index_of, last_index_of};
 use std::alloc::Global;
 
 /// What the bytes of a text come to so far, for what is asked. It keeps points, and no bytes.

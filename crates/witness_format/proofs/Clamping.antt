@@ -9,22 +9,13 @@ use Rattle.bounds_model.specs.Ranges.{number_limit}
 use Rattle.bounds_model.specs.AnswerText.Numerals.{whole_number}
 use Rattle.bounds_model.specs.AnswerText.Fields.{number, fraction, plane_ratio, space_ratio, is_in_range}
 use Rattle.text_laws.proofs.AnswerTexts.NumberLaws.{both_true}
-use Rattle.witness_format.specs.Clamps.{clamped_size, clamped}
+use Rattle.byte_tools.specs.Clamps as tools
+use Rattle.byte_tools.proofs.Clamping.{number_found, within-clamped, clamped-same}
 use Rattle.witness_format.specs.Judging.{judged_by, judged_field, field_at}
 
--- a digit behind a clamped number
-pub clamped-digit : (n d : ℕ) → clamped_size (clamped_size n * 10 + d) ≡ clamped_size (n * 10 + d)
-clamped-digit n d = omega arith
-
--- what is written has a number whose clamped number this is
-pub size_found : (read : Option ℕ) (n : ℕ) → Some n ≡ option_map clamped_size read → (m : ℕ) × (n ≡ clamped_size m) × (read ≡ Some m)
-size_found None n e = absurd cc
-size_found (Some m) n e = (m, cc, refl)
-
--- the same of a whole number
-pub number_found : (read : Option ℤ) (n : ℤ) → Some n ≡ option_map clamped read → (m : ℤ) × (n ≡ clamped m) × (read ≡ Some m)
-number_found None n e = absurd cc
-number_found (Some m) n e = (m, cc, refl)
+-- the number with its magnitude clamped past the limit of all numbers
+abbrev pub clamped : ℤ → ℤ
+clamped z = tools.clamped number_limit z
 
 -- ---- judgements
 
@@ -33,16 +24,12 @@ abbrev within : ℤ → Bool
 within z = nat_le (nat_abs z) number_limit
 
 -- a number is within the limit where its clamped one is
-within-clamped : (z : ℤ) → within (clamped z) ≡ within z
-within-clamped (pos n) = grind (arith, nat_tests)
-within-clamped (negsuc n) = grind (arith, ints, nat_tests)
+within-limit : (z : ℤ) → within (clamped z) ≡ within z
+within-limit z = within-clamped number_limit number_limit z (omega arith)
 
 -- a number within the limit is its own clamped number
-clamped-same : (z : ℤ) → within z ≡ true → clamped z ≡ z
-clamped-same (pos n) small = ap pos (grind (arith, nat_tests))
-clamped-same (negsuc n) small =
-    let same : min (n + 1) (number_limit + 1) ≡ suc n = grind (arith, nat_tests) in
-    ap (λ m. neg_ℤ (pos m)) same
+same-within : (z : ℤ) → within z ≡ true → clamped z ≡ z
+same-within z small = clamped-same number_limit number_limit z (omega arith) small
 
 -- two values of which both or none is within the limit, and which are one where they are
 by_limit : {A : Type 0} (small other : Bool) (in_range : A → Bool) (v w : A) → small ≡ other → (other ≡ true → v ≡ w) → judged_by small (in_range v) v ≡ judged_by other (in_range w) w
@@ -53,38 +40,38 @@ by_limit false true in_range v w same one = absurd cc
 
 -- a clamped number
 pub number-clamped : (z : ℤ) → judged_field number (clamped z) ≡ judged_field number z
-number-clamped z = by_limit _ _ (is_in_range number) (clamped z) z (λ i. within-clamped z i && true) (λ small. clamped-same z (both_true (within z) true small).0)
+number-clamped z = by_limit _ _ (is_in_range number) (clamped z) z (λ i. within-limit z i && true) (λ small. same-within z (both_true (within z) true small).0)
 
 -- the clamped numbers of a fraction
 pub fraction-clamped : (n d : ℤ) → judged_field fraction (record { n = clamped n; d = clamped d }) ≡ judged_field fraction (record { n = n; d = d })
 fraction-clamped n d =
-    by_limit _ _ (is_in_range fraction) (record { n = clamped n; d = clamped d }) (record { n = n; d = d }) (λ i. within-clamped n i && (within-clamped d i && true))
+    by_limit _ _ (is_in_range fraction) (record { n = clamped n; d = clamped d }) (record { n = n; d = d }) (λ i. within-limit n i && (within-limit d i && true))
     (λ small.
     let first = both_true (within n) (within d && true) small in
     let second = both_true (within d) true first.1 in
-    λ i. record { n = clamped-same n first.0 i; d = clamped-same d second.0 i })
+    λ i. record { n = same-within n first.0 i; d = same-within d second.0 i })
 
 -- those of a point of the plane
 pub plane_ratio-clamped : (x y w : ℤ) → judged_field plane_ratio (record { x = clamped x; y = clamped y; w = clamped w }) ≡ judged_field plane_ratio (record { x = x; y = y; w = w })
 plane_ratio-clamped x y w =
-    by_limit _ _ (is_in_range plane_ratio) (record { x = clamped x; y = clamped y; w = clamped w }) (record { x = x; y = y; w = w }) (λ i. within-clamped x i && (within-clamped y i && (within-clamped w i && true)))
+    by_limit _ _ (is_in_range plane_ratio) (record { x = clamped x; y = clamped y; w = clamped w }) (record { x = x; y = y; w = w }) (λ i. within-limit x i && (within-limit y i && (within-limit w i && true)))
     (λ small.
     let first = both_true (within x) (within y && (within w && true)) small in
     let second = both_true (within y) (within w && true) first.1 in
     let third = both_true (within w) true second.1 in
-    λ i. record { x = clamped-same x first.0 i; y = clamped-same y second.0 i; w = clamped-same w third.0 i })
+    λ i. record { x = same-within x first.0 i; y = same-within y second.0 i; w = same-within w third.0 i })
 
 -- those of a point of space
 pub space_ratio-clamped : (x y z w : ℤ) → judged_field space_ratio (record { x = clamped x; y = clamped y; z = clamped z; w = clamped w }) ≡ judged_field space_ratio (record { x = x; y = y; z = z; w = w })
 space_ratio-clamped x y z w =
     by_limit _ _ (is_in_range space_ratio) (record { x = clamped x; y = clamped y; z = clamped z; w = clamped w }) (record { x = x; y = y; z = z; w = w })
-    (λ i. within-clamped x i && (within-clamped y i && (within-clamped z i && (within-clamped w i && true))))
+    (λ i. within-limit x i && (within-limit y i && (within-limit z i && (within-limit w i && true))))
     (λ small.
     let first = both_true (within x) (within y && (within z && (within w && true))) small in
     let second = both_true (within y) (within z && (within w && true)) first.1 in
     let third = both_true (within z) (within w && true) second.1 in
     let fourth = both_true (within w) true third.1 in
-    λ i. record { x = clamped-same x first.0 i; y = clamped-same y second.0 i; z = clamped-same z third.0 i; w = clamped-same w fourth.0 i })
+    λ i. record { x = same-within x first.0 i; y = same-within y second.0 i; z = same-within z third.0 i; w = same-within w fourth.0 i })
 
 -- ---- fields by their clamped numbers
 
@@ -110,15 +97,15 @@ space_ratio_numbers a b c d rest x y z w p q r s = rw (p, q, r, s) refl
 -- a whole number
 pub number_at : (word : List ℕ) (words rest : List (List ℕ)) (n : ℤ) → words ≡ word ∷ rest → Some n ≡ option_map clamped (whole_number word) → field_at number words ≡ Some (judged_field number n, rest)
 number_at word words rest n is read =
-    let found = number_found (whole_number word) n read in
+    let found = number_found number_limit (whole_number word) n read in
     ap (field_at number) is ∙ (number_known word rest found.0 found.2 ∙ (ap (λ j. Some (j, rest)) (sym (number-clamped found.0)) ∙ (λ i. Some (judged_field number (sym found.1 i), rest))))
 
 -- a fraction
 pub fraction_at : (word : List ℕ) (words rest : List (List ℕ)) (n d : ℤ) → words ≡ word ∷ rest → Some n ≡ option_map clamped (whole_number (before_first (λ b. b == 47) word))
     → Some d ≡ option_map clamped (whole_number (after_first (λ b. b == 47) word)) → field_at fraction words ≡ Some (judged_field fraction (record { n = n; d = d }), rest)
 fraction_at word words rest n d is n-read d-read =
-    let n-found = number_found (whole_number (before_first (λ b. b == 47) word)) n n-read in
-    let d-found = number_found (whole_number (after_first (λ b. b == 47) word)) d d-read in
+    let n-found = number_found number_limit (whole_number (before_first (λ b. b == 47) word)) n n-read in
+    let d-found = number_found number_limit (whole_number (after_first (λ b. b == 47) word)) d d-read in
     ap (field_at fraction) is ∙ (fraction_numbers word rest n-found.0 d-found.0 n-found.2 d-found.2
     ∙ (ap (λ j. Some (j, rest)) (sym (fraction-clamped n-found.0 d-found.0)) ∙ (λ i. Some (judged_field fraction (record { n = sym n-found.1 i; d = sym d-found.1 i }), rest))))
 
@@ -126,9 +113,9 @@ fraction_at word words rest n d is n-read d-read =
 pub plane_ratio_at : (a b c : List ℕ) (words rest : List (List ℕ)) (x y w : ℤ) → words ≡ a ∷ b ∷ c ∷ rest → Some x ≡ option_map clamped (whole_number a) → Some y ≡ option_map clamped (whole_number b)
     → Some w ≡ option_map clamped (whole_number c) → field_at plane_ratio words ≡ Some (judged_field plane_ratio (record { x = x; y = y; w = w }), rest)
 plane_ratio_at a b c words rest x y w is x-read y-read w-read =
-    let x-found = number_found (whole_number a) x x-read in
-    let y-found = number_found (whole_number b) y y-read in
-    let w-found = number_found (whole_number c) w w-read in
+    let x-found = number_found number_limit (whole_number a) x x-read in
+    let y-found = number_found number_limit (whole_number b) y y-read in
+    let w-found = number_found number_limit (whole_number c) w w-read in
     ap (field_at plane_ratio) is ∙ (plane_ratio_numbers a b c rest x-found.0 y-found.0 w-found.0 x-found.2 y-found.2 w-found.2
     ∙ (ap (λ j. Some (j, rest)) (sym (plane_ratio-clamped x-found.0 y-found.0 w-found.0)) ∙ (λ i. Some (judged_field plane_ratio (record { x = sym x-found.1 i; y = sym y-found.1 i; w = sym w-found.1 i }), rest))))
 
@@ -136,10 +123,10 @@ plane_ratio_at a b c words rest x y w is x-read y-read w-read =
 pub space_ratio_at : (a b c d : List ℕ) (words rest : List (List ℕ)) (x y z w : ℤ) → words ≡ a ∷ b ∷ c ∷ d ∷ rest → Some x ≡ option_map clamped (whole_number a) → Some y ≡ option_map clamped (whole_number b)
     → Some z ≡ option_map clamped (whole_number c) → Some w ≡ option_map clamped (whole_number d) → field_at space_ratio words ≡ Some (judged_field space_ratio (record { x = x; y = y; z = z; w = w }), rest)
 space_ratio_at a b c d words rest x y z w is x-read y-read z-read w-read =
-    let x-found = number_found (whole_number a) x x-read in
-    let y-found = number_found (whole_number b) y y-read in
-    let z-found = number_found (whole_number c) z z-read in
-    let w-found = number_found (whole_number d) w w-read in
+    let x-found = number_found number_limit (whole_number a) x x-read in
+    let y-found = number_found number_limit (whole_number b) y y-read in
+    let z-found = number_found number_limit (whole_number c) z z-read in
+    let w-found = number_found number_limit (whole_number d) w w-read in
     ap (field_at space_ratio) is ∙ (space_ratio_numbers a b c d rest x-found.0 y-found.0 z-found.0 w-found.0 x-found.2 y-found.2 z-found.2 w-found.2
     ∙ (ap (λ j. Some (j, rest)) (sym (space_ratio-clamped x-found.0 y-found.0 z-found.0 w-found.0))
     ∙ (λ i. Some (judged_field space_ratio (record { x = sym x-found.1 i; y = sym y-found.1 i; z = sym z-found.1 i; w = sym w-found.1 i }), rest))))

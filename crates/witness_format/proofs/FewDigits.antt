@@ -10,7 +10,7 @@ use Rattle.std.proofs.lemmas.List.Sums.{position_or_len_is, fails_before_first}
 use Rattle.std.proofs.lemmas.List.Splits.{slice_split_first, slice_split_none}
 use Rattle.bounds_model.specs.AnswerText.Numerals.{◌>>=◌}
 use Rattle.bounds_model.specs.AnswerText.Fields.{natural, value_of}
-use Rattle.witness_format.proofs.Digits.{number_of_digits, digits_no_blank}
+use Rattle.byte_tools.proofs.NumeralLaws.{number_of_digits, digits_no_blank}
 
 abbrev pub is_blank : ℕ → Bool
 is_blank b = b == 32

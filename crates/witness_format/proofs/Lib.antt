@@ -1,6 +1,4 @@
-pub mod Digits
 pub mod Clamping
-pub mod FirstIndices
 pub mod FieldJudgements
 pub mod LineCuts
 pub mod FirstLines

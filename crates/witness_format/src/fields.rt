@@ -8,9 +8,9 @@ ghost use Rattle.witness_format.specs.Lines.{words_left};
 ghost use Rattle.witness_format.specs.Outcomes.{Finds};
 
 use crate::judging::{Flaw, Judged};
-use crate::numerals::{LIMIT, natural_number, whole_number};
-use crate::words::{Words, cut};
+use crate::words::Words;
 use answers::Blocker;
+use byte_tools::{LIMIT, cut, natural_number, whole_number};
 use exact_fractions::{Frac, Homog2, Homog3};
 
 /// The greatest number of a point.

@@ -9,7 +9,6 @@
 //! - `chord_lines` and `potential_rows`: the lines of a fan with chords, and the rows of a polygon's potentials, whose widths
 //!   `row_widths` gives
 //! - `lines` and `words`: a text cut into lines, and a line into words
-//! - `numerals`: the numbers that words write
 //! - `fields`: the fields of a line, as they are read
 //! - `judging`: the order of causes on one line
 //! - `fault`: why a text is refused
@@ -26,7 +25,6 @@ mod line;
 mod line_printing;
 mod line_reading;
 mod lines;
-mod numerals;
 mod potential_rows;
 mod printing;
 mod reading;

@@ -3,7 +3,8 @@ ghost use Rattle.std.specs.Prelude.{◌≡◌, ◌+◌, ◌≤◌, ◌^◌, leng
 ghost use Rattle.witness_format.specs.Outcomes.{Reads};
 
 use crate::ReadFault;
-use crate::words::{Words, index_of};
+use crate::words::Words;
+use byte_tools::index_of;
 
 /// The lines of a text that are not yet read, and the number of the first of them.
 #[derive(Drop)]

@@ -1,12 +1,11 @@
 //! The words of a line.
-ghost use Rattle.std.specs.Prelude.{◌≡◌, ◌≢◌, ◌<◌, ◌==◌, ◌^◌, [], ◌∷◌, length, pos, Some, IfSome, MatchOption};
-ghost use Rattle.std.specs.List.{position_from, before_first, after_first, slice_split};
+ghost use Rattle.std.specs.Prelude.{◌≡◌, ◌≢◌, ◌<◌, ◌==◌, ◌^◌, [], ◌∷◌, pos, Some, IfSome, MatchOption};
+ghost use Rattle.std.specs.List.{slice_split};
 ghost use Rattle.bounds_model.specs.AnswerText.Fields.{natural, number, value_of};
 ghost use Rattle.bounds_model.specs.AnswerText.LineFormats.{after_words};
 ghost use Rattle.witness_format.specs.Outcomes.{Finds};
 
-use crate::numerals::leading_number;
-use memchr::memchr;
+use byte_tools::{index_of, leading_number};
 
 /// The words of a line that are not yet read.
 #[derive(Clone, Copy)]
@@ -93,25 +92,5 @@ impl<'a> Words<'a> {
             None => Some(()),
             Some(_) => None,
         }
-    }
-}
-
-/// The index of the first byte of this value.
-pub(crate) fn index_of(text: &[u8], byte: u8) -> Option<usize>
-    ensures index { result ≡ position_from (λ b. b == byte) 0 text.now }
-    ensures within { IfSome result (λ i. i < length text.now) }
-{
-    memchr(byte, text)
-}
-
-/// What stands before the first byte of this value and what stands after it, or all and nothing where
-/// there is no such byte.
-pub(crate) fn cut(text: &[u8], byte: u8) -> (&[u8], &[u8])
-    ensures before { result.0.now ≡ before_first (λ b. b == byte) text.now }
-    ensures after { result.1.now ≡ after_first (λ b. b == byte) text.now }
-{
-    match index_of(text, byte) {
-        Some(index) => (&text[..index], &text[index + 1..]),
-        None => (text, &[]),
     }
 }

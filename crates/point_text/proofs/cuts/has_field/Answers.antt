@@ -1,6 +1,6 @@
 use Rattle.std.proofs.Common.{sym, ◌∙◌}
 use Rattle.std.proofs.lemmas.Bool.{not-false, not-true}
-use Rattle.point_text.proofs.FirstIndices.{index_missing}
+use Rattle.byte_tools.proofs.FirstIndices.{index_missing}
 use Rattle.point_text.proofs.FieldCuts.{is_no_blank}
 use Rattle.point_text.proofs.LeadingFields.{no_field, some_field, uncommented-none}
 use Rattle.point_text.proofs.cuts.has_field.Goals as goal

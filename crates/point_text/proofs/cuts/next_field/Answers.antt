@@ -2,7 +2,7 @@ use Rattle.std.proofs.Common.{arith, sym, ap, take, drop, ◌-◌, ◌<◌, ◌�
 use Rattle.std.proofs.lemmas.List.{take_all}
 use Rattle.std.specs.List.{position_or_len, before_first, after_first}
 use Rattle.bounds_model.specs.PointText.{is_blank, fields_of}
-use Rattle.point_text.proofs.FirstIndices.{index_found, index_missing}
+use Rattle.byte_tools.proofs.FirstIndices.{index_found, index_missing}
 use Rattle.point_text.proofs.FieldCuts.{is_no_blank, fields_of-start, fields_of-none, fields_of-first, start_is_filled}
 use Rattle.point_text.proofs.cuts.next_field.Goals as goal
 

@@ -1,6 +1,6 @@
 use Rattle.std.proofs.Common.{◌≡◌, ◌-◌, drop, take, length, length-drop, arith}
 use Rattle.std.proofs.lemmas.List.{take_all}
-use Rattle.point_text.proofs.FirstIndices.{index_missing}
+use Rattle.byte_tools.proofs.FirstIndices.{index_missing}
 use Rattle.point_text.proofs.FieldCuts.{is_no_blank}
 use Rattle.point_text.proofs.LeadingFields.{next_number_read, uncommented-none}
 use Rattle.point_text.proofs.line.next_number.Goals as goal

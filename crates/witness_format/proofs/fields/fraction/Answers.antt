@@ -4,10 +4,9 @@ use Rattle.std.specs.Option.{option_map}
 use Rattle.std.proofs.lemmas.Int.{to_z-of_z}
 use Rattle.bounds_model.specs.AnswerText.Numerals.{whole_number}
 use Rattle.bounds_model.specs.AnswerText.Fields.{fraction}
-use Rattle.witness_format.specs.Clamps.{clamped}
 use Rattle.witness_format.specs.Judging.{judged_field}
 use Rattle.witness_format.specs.Lines.{words_left}
-use Rattle.witness_format.proofs.Clamping.{fraction_at}
+use Rattle.witness_format.proofs.Clamping.{clamped, fraction_at}
 use Rattle.witness_format.proofs.fields.fraction.Goals as goal
 
 pub returns : goal.returns

@@ -1,6 +1,6 @@
 use Rattle.std.proofs.Common.{◌≡◌, ◌∙◌, ◌++◌, ◌∷◌, ◌+◌, ◌-◌, ◌==◌, sym, ap, take, drop, length, length-drop, arith, rules}
 use Rattle.std.proofs.lemmas.List.{take_all}
-use Rattle.point_text.proofs.FirstIndices.{before_index, cut_at_index, all_before}
+use Rattle.byte_tools.proofs.FirstIndices.{before_index, cut_at_index, all_before}
 use Rattle.point_text.proofs.Pieces.{reads_line, reads_rest}
 use Rattle.point_text.proofs.PassedLines.{failed_keeps}
 use Rattle.point_text.proofs.reader.Reader.feed.Goals as goal

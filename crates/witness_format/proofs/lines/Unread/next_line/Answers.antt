@@ -2,7 +2,7 @@ use Rattle.std.proofs.Common.{◌≡◌, ◌∙◌, sym, ap, ◌+◌, ◌-◌, �
 use Rattle.std.specs.List.{slice_split, position_or_len}
 use Rattle.std.proofs.lemmas.List.{take_all}
 use Rattle.bounds_model.specs.AnswerText.Lines.{lines_of}
-use Rattle.witness_format.proofs.FirstIndices.{index_found, index_missing}
+use Rattle.byte_tools.proofs.FirstIndices.{index_found, index_missing}
 use Rattle.witness_format.proofs.LineCuts.{is_feed, is_blank, next_words-cut, next_words-refused}
 use Rattle.witness_format.proofs.lines.Unread.next_line.Goals as goal
 

@@ -5,7 +5,7 @@ use Rattle.std.proofs.lemmas.List.{take_all}
 use Rattle.std.proofs.lemmas.List.Splits.{slice_split_first, slice_split_none}
 use Rattle.std.proofs.lemmas.List.Sums.{fails_before_first}
 use Rattle.witness_format.specs.Lines.{words_in, words_left}
-use Rattle.witness_format.proofs.FirstIndices.{index_found, index_missing}
+use Rattle.byte_tools.proofs.FirstIndices.{index_found, index_missing}
 use Rattle.witness_format.proofs.words.Words.next.Goals as goal
 
 abbrev is_blank : ℕ → Bool

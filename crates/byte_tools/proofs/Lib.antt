@@ -1,0 +1,4 @@
+pub mod FirstIndices
+pub mod SearchedIndices
+pub mod Clamping
+pub mod NumeralLaws
