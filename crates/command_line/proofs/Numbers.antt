@@ -10,16 +10,7 @@ use Rattle.byte_tools.specs.Clamps.{clamped}
 use Rattle.byte_tools.proofs.Clamping.{number_found, within_or_not}
 use Rattle.command_line.specs.Values.{coordinate}
 
--- a word that writes no number
-pub coordinate-none : (word : List ℕ) → None ≡ option_map (clamped number_limit) (whole_number word) → coordinate word ≡ None
-unfolding coordinate
-coordinate-none word none = go (whole_number word) none
-  where
-    go : (read : Option ℤ) → None ≡ option_map (clamped number_limit) read → (read >>= λ z. if nat_le (nat_abs z) 200000 then Some z else None) ≡ None
-    go None e = refl
-    go (Some z) e = absurd cc
-
--- one whose number, clamped, is this
+-- a word whose number, clamped, is this
 pub coordinate-some : (word : List ℕ) (z : ℤ) → Some z ≡ option_map (clamped number_limit) (whole_number word) → coordinate word ≡ cond (nat_le (nat_abs z) 200000) (Some z) None
 unfolding coordinate
 coordinate-some word z read =
