@@ -1,11 +1,10 @@
 -- Clamped numbers: how they are read digit by digit, and when they are the numbers themselves.
-use Rattle.std.proofs.Common.{◌≡◌, ◌∙◌, refl, sym, ap, ℕ, suc, ◌+◌, ◌*◌, ◌≤◌, min, ℤ, pos, negsuc, neg_ℤ, nat_abs, Bool, true, false, cond, ◌&&◌, Option, Some, None, arith}
+use Rattle.std.proofs.Common.{◌≡◌, ◌∙◌, refl, ap, ℕ, suc, ◌+◌, ◌*◌, ◌≤◌, min, ℤ, pos, negsuc, neg_ℤ, nat_abs, true, false, cond, Option, Some, None, arith}
 use Rattle.std.specs.Prelude.{nat_le}
 use Rattle.std.specs.Option.{option_map}
 use Rattle.std.proofs.lemmas.Int.{ints}
 use Rattle.std.proofs.lemmas.Bool.Decides.{nat_tests}
 use Rattle.byte_tools.specs.Clamps.{clamped_size, clamped}
-use Rattle.byte_tools.proofs.NumeralLaws.{and_false}
 
 module _ (limit : ℕ) where
   -- a digit behind a clamped number
@@ -13,11 +12,6 @@ module _ (limit : ℕ) where
   clamped-digit n d = omega arith
 
   -- what is written has a number whose clamped number this is
-  pub size_found : (read : Option ℕ) (n : ℕ) → Some n ≡ option_map (clamped_size limit) read → (m : ℕ) × (n ≡ clamped_size limit m) × (read ≡ Some m)
-  size_found None n e = absurd cc
-  size_found (Some m) n e = (m, cc, refl)
-
-  -- the same of a whole number
   pub number_found : (read : Option ℤ) (n : ℤ) → Some n ≡ option_map (clamped limit) read → (m : ℤ) × (n ≡ clamped limit m) × (read ≡ Some m)
   number_found None n e = absurd cc
   number_found (Some m) n e = (m, cc, refl)
@@ -43,19 +37,3 @@ module _ (limit : ℕ) where
         | true ↦ λ test. ap inside (clamped-same bound z small test)
         | false ↦ λ test. refl
       ] refl
-
-  -- the same of a number without a sign, between two bounds
-  pub between_or_not : {A : Type 0} (low high n : ℕ) → high ≤ limit → (inside : ℕ → A) (outside : A)
-      → cond (nat_le low (clamped_size limit n) && nat_le (clamped_size limit n) high) (inside (clamped_size limit n)) outside ≡ cond (nat_le low n && nat_le n high) (inside n) outside
-  between_or_not low high n small inside outside = by (nat_le n limit) refl
-    where
-      by : (t : Bool) → nat_le n limit ≡ t
-          → cond (nat_le low (clamped_size limit n) && nat_le (clamped_size limit n) high) (inside (clamped_size limit n)) outside ≡ cond (nat_le low n && nat_le n high) (inside n) outside
-      by true is =
-          let same : clamped_size limit n ≡ n = grind (arith, nat_tests) in
-          ap (λ m. cond (nat_le low m && nat_le m high) (inside m) outside) same
-      by false is =
-          let clamped_past : nat_le (clamped_size limit n) high ≡ false = grind (arith, nat_tests) in
-          let past : nat_le n high ≡ false = grind (arith, nat_tests) in
-          ap (λ v. cond v (inside (clamped_size limit n)) outside) (and_false (nat_le low (clamped_size limit n)) _ clamped_past)
-          ∙ sym (ap (λ v. cond v (inside n) outside) (and_false (nat_le low n) _ past))

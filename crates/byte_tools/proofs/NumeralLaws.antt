@@ -12,7 +12,7 @@ use Rattle.std.proofs.lemmas.Str.Parse.{digits_value_short, numerals_by_value, t
 use Rattle.bounds_model.specs.AnswerText.Numerals.{is_numeral, natural_number}
 
 -- the two tests for digits are one
-pub all_digits : (ds : List ℕ) → all_ascii_digits ds ≡ list_all is_ascii_digit ds
+all_digits : (ds : List ℕ) → all_ascii_digits ds ≡ list_all is_ascii_digit ds
 all_digits [] = refl
 all_digits (d ∷ ds) = ap (λ t. is_ascii_digit d && t) (all_digits ds)
 
@@ -43,7 +43,7 @@ is_numeral-zero (d ∷ []) several first = absurd (omega arith)
 is_numeral-zero (d ∷ e ∷ rest) several first = ap (λ t. not t && all_ascii_digits (d ∷ e ∷ rest)) (eq-eqb d 48 first)
 
 -- a test that fails
-pub and_false : (a b : Bool) → b ≡ false → a && b ≡ false
+and_false : (a b : Bool) → b ≡ false → a && b ≡ false
 and_false true b e = e
 and_false false b e = refl
 
