@@ -95,6 +95,9 @@ fn has_size(a: &ParaAnswer) -> bool
 }
 
 /// Whether for no direction of the fan the width of the points, times the length of the chord across it, is smaller.
+///
+/// Where a cone ends and the next one begins, the points of both are extreme, so that the width is the same by either, and each
+/// direction is looked at once.
 fn is_none_smaller(cloud: Cloud2<'_>, a: &ParaAnswer) -> bool
     requires limits { HasHalfLimits (points_of cloud) (half_fan_of a.now.fan) }
     requires chords { HasChordLimits (points_of cloud) (length a.now.fan.cones + 1) (map chord_of a.now.chords) }
@@ -109,12 +112,16 @@ fn is_none_smaller(cloud: Cloud2<'_>, a: &ParaAnswer) -> bool
         if !is_not_smaller(cloud, cone, cone.dir, a.chords.at(i), &a.size) {
             return false;
         }
-        let next = half_direction(&a.fan, i + 1);
-        if !is_not_smaller(cloud, cone, next, a.chords.at(i + 1), &a.size) {
-            return false;
-        }
     }
-    true
+    let last = a.fan.cones.len() - 1;
+    let end = half_direction(&a.fan, last + 1);
+    is_not_smaller(
+        cloud,
+        a.fan.cones.at(last),
+        end,
+        a.chords.at(last + 1),
+        &a.size,
+    )
 }
 
 /// Whether the width of the points in a direction, by a cone's points, which are extreme there, times the length of the chord across it

@@ -1,8 +1,8 @@
 -- What is no further out than a point of an arc in the arc's first and last direction is below the arc.
-use Rattle.std.proofs.Common.{◌≡◌, refl, sym, subst, ◌⊎◌, inl, inr, ℕ, zero, suc, ◌+◌, ◌-◌, ◌<◌, ◌≤◌, pos, ◌≤ℤ◌, arith, add-one}
+use Rattle.std.proofs.Common.{◌≡◌, refl, sym, subst, ◌⊎◌, inl, inr, ℕ, zero, suc, ◌+◌, ◌-◌, ◌<◌, ◌≤◌, ℤ, pos, ◌≤ℤ◌, arith, add-one}
 use Rattle.integers.proofs.Order.{nonneg_from_positive, le_trans_ℤ, le_of_same}
 use Rattle.bounds_model.specs.Plane.{PlanePoint, dot, cross}
-use Rattle.fan_test.specs.Chains.{Turns, IsWithinEach, IsArc, IsNoFurther}
+use Rattle.fan_test.specs.Chains.{Turns, IsWithinEach, IsArc}
 use Rattle.fan_test.proofs.Arcs.{between, below_or_same, falls, inner, of_parts}
 use Rattle.fan_test.proofs.Steps.{beside}
 
@@ -72,11 +72,13 @@ dominated D H from to m p turns arc some low high first last i above below =
     le_trans_ℤ (nearer D H from to p (H m) turns arc first (to - 1) (omega arith) last i above (omega arith))
     (on_whole_arc D H from to m turns arc some low high i above below)
 
--- the same under other names
-pub dominated_at : (D H : ℕ → PlanePoint) (from to m : ℕ) (first last q p : PlanePoint) → Turns D to → IsArc D H from to → from + 1 < to → from ≤ m → m < to
-    → first ≡ D from → last ≡ D (to - 1) → q ≡ H m → IsNoFurther first q p × IsNoFurther last q p → IsWithinEach D H from to p
-dominated_at D H from to m first last q p turns arc some low high is_first is_last is_q both =
-    dominated D H from to m p turns arc some low high (no_further first (D from) p q (H m) is_first is_q both.0) (no_further last (D (to - 1)) p q (H m) is_last is_q both.1)
+-- the same under other names, by how far out p and the point q of a cone are
+pub dominated_at : (D H : ℕ → PlanePoint) (from to m : ℕ) (first last q p : PlanePoint) {p_first p_last q_first q_last : ℤ} → Turns D to → IsArc D H from to → from + 1 < to → from ≤ m → m < to
+    → first ≡ D from → last ≡ D (to - 1) → q ≡ H m → p_first ≡ dot first p → p_last ≡ dot last p → q_first ≡ dot first q → q_last ≡ dot last q
+    → (p_first ≤ℤ q_first) × (p_last ≤ℤ q_last) → IsWithinEach D H from to p
+dominated_at D H from to m first last q p turns arc some low high is_first is_last is_q at_first at_last q_at_first q_at_last both =
+    dominated D H from to m p turns arc some low high (no_further first (D from) p q (H m) is_first is_q at_first q_at_first both.0) (no_further last (D (to - 1)) p q (H m) is_last is_q at_last q_at_last both.1)
   where
-    no_further : (d e p q r : PlanePoint) → d ≡ e → q ≡ r → dot d p ≤ℤ dot d q → dot e p ≤ℤ dot e r
-    no_further d e p q r same is h = subst (λ z. dot e p ≤ℤ dot e z) is (subst (λ z. dot z p ≤ℤ dot z q) same h)
+    no_further : (d e p q r : PlanePoint) {a b : ℤ} → d ≡ e → q ≡ r → a ≡ dot d p → b ≡ dot d q → a ≤ℤ b → dot e p ≤ℤ dot e r
+    no_further d e p q r {a} {b} same is at q_at h =
+        subst (λ z. dot e p ≤ℤ dot e z) is (subst (λ z. dot z p ≤ℤ dot z q) same (subst (λ z. z ≤ℤ dot d q) at (subst (λ z. a ≤ℤ z) q_at h)))

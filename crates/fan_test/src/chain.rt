@@ -1,11 +1,12 @@
 //! Chains, and whether their points are furthest out.
-ghost use Rattle.std.specs.Prelude.{◌≡◌, ◌↔◌, ◌+◌, ◌<◌, ◌≤◌, ◌≤ℤ◌, ℕ, pos, List, length, All, IsTrue, IfSome, IsNone};
+ghost use Rattle.std.specs.Prelude.{◌≡◌, ◌↔◌, ◌+◌, ◌^◌, ◌<◌, ◌≤◌, ◌≤ℤ◌, ℕ, pos, List, length, All, IsTrue, IfSome, IsNone};
+ghost use Rattle.bounds_model.specs.Numbers as numbers;
 ghost use Rattle.bounds_model.specs.Plane.{PlanePoint, point_at, dot as product};
 ghost use Rattle.bounds_model.specs.Fans.{IsShort};
 ghost use Rattle.bounded_coords.specs.Clouds.{points_of};
 ghost use Rattle.fan_test.specs.Directions.{direction_of};
 ghost use Rattle.fan_test.specs.Chains.{Turns, Leads, AreListed, Encloses, AreJoined, IsWithin, IsWithinEach};
-ghost use Rattle.fan_test.specs.Chains.{IsArc, AreEdges, AreNamed, IsEdgeFor, IsNoFurther};
+ghost use Rattle.fan_test.specs.Chains.{IsArc, AreEdges, AreNamed, IsEdgeFor};
 
 use crate::direction::Direction;
 use bounded_coords::{Cloud2, Point2};
@@ -249,18 +250,19 @@ fn are_below_arc<C: Chain>(chain: &C, from: u32, to: u32, cloud: Cloud2<'_>) -> 
 {
     let first = chain.direction(from);
     let last = chain.direction(to - 1);
-    let begin = chain.point(from);
-    let middle = chain.point(from + (to - from) / 2);
-    let end = chain.point(to - 1);
+    let begin = reach_of(first, last, chain.point(from));
+    let middle = reach_of(first, last, chain.point(from + (to - from) / 2));
+    let end = reach_of(first, last, chain.point(to - 1));
     let named = named_on(chain, from, to);
     for i in 0..cloud.len() {
         if named[i as usize] {
             continue;
         }
         let p = *cloud.at(i);
+        let out = reach_of(first, last, p);
         // The least of three, without a branch for each, since which of them dominates a point can't be foretold.
-        let least = excess(first, last, begin, p).min(excess(first, last, middle, p));
-        if least.min(excess(first, last, end, p)) <= 0 {
+        let least = excess(begin, out).min(excess(middle, out));
+        if least.min(excess(end, out)) <= 0 {
             continue;
         }
         if !is_below_arc(chain, from, to, first, p) {
@@ -270,21 +272,37 @@ fn are_below_arc<C: Chain>(chain: &C, from: u32, to: u32, cloud: Cloud2<'_>) -> 
     true
 }
 
-/// How far a point is beyond another one, in that of two directions in which it is further. At most 0 where the other dominates it.
-fn excess(first: Direction, last: Direction, q: Point2, p: Point2) -> i64
-    requires first { IsShort (direction_of first) }
-    requires last { IsShort (direction_of last) }
-    ensures { (result ≤ℤ pos 0) ↔ (IsNoFurther (direction_of first) q p × IsNoFurther (direction_of last) q p) }
-{
-    beyond(first, q, p).max(beyond(last, q, p))
+/// How far out a point is in the first and in the last direction of an arc.
+#[derive(Clone, Copy, Debug, PartialEq, Eq)]
+struct Reach {
+    first: i64,
+    last: i64,
 }
 
-/// How far a point is beyond another one in a direction.
-fn beyond(direction: Direction, q: Point2, p: Point2) -> i64
-    requires { IsShort (direction_of direction) }
-    ensures { (result ≤ℤ pos 0) ↔ IsNoFurther (direction_of direction) q p }
+/// How far out a point is in two directions.
+fn reach_of(first: Direction, last: Direction, p: Point2) -> Reach
+    requires first { IsShort (direction_of first) }
+    requires last { IsShort (direction_of last) }
+    ensures first { result.first ≡ product (direction_of first) p }
+    ensures last { result.last ≡ product (direction_of last) p }
+    ensures first_small { numbers.IsWithin (2 ^ 38) result.first }
+    ensures last_small { numbers.IsWithin (2 ^ 38) result.last }
 {
-    direction.dot(p) - direction.dot(q)
+    Reach {
+        first: first.dot(p),
+        last: last.dot(p),
+    }
+}
+
+/// How far p is beyond q, in that of two directions in which it is further. At most 0 where q dominates it.
+fn excess(q: Reach, p: Reach) -> i64
+    requires q_first { numbers.IsWithin (2 ^ 38) q.first }
+    requires q_last { numbers.IsWithin (2 ^ 38) q.last }
+    requires p_first { numbers.IsWithin (2 ^ 38) p.first }
+    requires p_last { numbers.IsWithin (2 ^ 38) p.last }
+    ensures { (result ≤ℤ pos 0) ↔ ((p.first ≤ℤ q.first) × (p.last ≤ℤ q.last)) }
+{
+    (p.first - q.first).max(p.last - q.last)
 }
 
 /// Which points the cones of an arc name.

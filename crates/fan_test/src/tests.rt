@@ -94,7 +94,7 @@ const TRIANGLE: &'static [(i64, i64)] = &[(0, 0), (4, 0), (0, 3)];
 
 const WEST: (i128, i128) = (-1, 0);
 
-// A rounded corner around the point 8. Its points stand in no order, so that the search for their indices goes back and forth.
+// A rounded corner around the point 8. Its points stand in no order in the file, so that their numbers neither rise nor fall along the arc.
 const ROUNDED: &'static [(i128, i128, u32, u32)] = &[
     (1, 0, 1, 8),
     (7, 1, 3, 8),

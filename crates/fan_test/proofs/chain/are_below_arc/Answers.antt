@@ -35,16 +35,17 @@ loop-i-preserved-then-min-le0 g c =
     let middle = c.excess-in-loop-i.result in
     let end = c.excess-in-loop-i-2.result in
     let least = c.min-least.result in
+    let out = c.reach_of-out.ensures in
     let is_first = c.direction-first.ensures.value in
     let is_last = c.direction-last.ensures.value in
     let of_three = one_at_most_zero _ least end (kept c.min.type_inv (c.min.ensures.value ∙ ap₂ int_min (kept {r = least} {a = least} c.min-least.type_inv refl) (kept {r = end} {a = end} c.excess-in-loop-i-2.type_inv refl))) (tested_at_most_zero c.if-min-le0.true) in
     let of_two = one_at_most_zero least begin middle (c.min-least.ensures.value ∙ ap₂ int_min (kept {r = begin} {a = begin} c.excess.type_inv refl) (kept {r = middle} {a = middle} c.excess-in-loop-i.type_inv refl)) in
     let below : IsWithinEach D H from to p = elim of_three [
       | inl two ↦ elim (of_two two) [
-        | inl small ↦ dominated_at D H from to from _ _ _ p turns c.requires.arc c.requires.inner (omega arith) (omega arith) is_first is_last c.point-begin.ensures (c.excess.ensures.0 small)
-        | inr small ↦ dominated_at D H from to (from + (to - from) / 2) _ _ _ p turns c.requires.arc c.requires.inner (omega arith) (omega arith) is_first is_last c.point-middle.ensures (c.excess-in-loop-i.ensures.0 small)
+        | inl small ↦ dominated_at D H from to from _ _ _ p turns c.requires.arc c.requires.inner (omega arith) (omega arith) is_first is_last c.point.ensures out.first out.last c.reach_of-begin.ensures.first c.reach_of-begin.ensures.last (c.excess.ensures.0 small)
+        | inr small ↦ dominated_at D H from to (from + (to - from) / 2) _ _ _ p turns c.requires.arc c.requires.inner (omega arith) (omega arith) is_first is_last c.point-2.ensures out.first out.last c.reach_of-middle.ensures.first c.reach_of-middle.ensures.last (c.excess-in-loop-i.ensures.0 small)
       ]
-      | inr small ↦ dominated_at D H from to (to - 1) _ _ _ p turns c.requires.arc c.requires.inner (omega arith) (omega arith) is_first is_last c.point-end.ensures (c.excess-in-loop-i-2.ensures.0 small)
+      | inr small ↦ dominated_at D H from to (to - 1) _ _ _ p turns c.requires.arc c.requires.inner (omega arith) (omega arith) is_first is_last c.point-3.ensures out.first out.last c.reach_of-end.ensures.first c.reach_of-end.ensures.last (c.excess-in-loop-i-2.ensures.0 small)
     ] in
     each_more (IsWithinEach D H from to) (points_of c.args.cloud) c.loop-i.i p c.at-p.ensures c.loop-i.invariant below
 
