@@ -30,7 +30,8 @@ pub(crate) fn read_chorded(
     ensures chords { IfOk result (λ x. length x.1 ≡ count) }
 {
     let mut cones: HalfCones = list_for(alloc, text, count);
-    let mut chords: Chords = list_for(alloc, text, count);
+    // The caller adds the chord across the last direction, which has no cone.
+    let mut chords: Chords = list_for(alloc, text, count + 1);
     for _ in 0..count {
         let line: ChordedCone = read_line(text)?;
         add(&mut cones, line.cone)?;
