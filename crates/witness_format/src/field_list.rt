@@ -99,6 +99,8 @@ impl FieldList for Chord {
 
     ghost values = { chord_values };
 
+    // Inlined, as its fields are.
+    #[inline(always)]
     fn read(words: Words<'_>) -> Option<Judged<Chord>> {
         match ChordFields::read(words)? {
             Ok((a, (b, (c, (beta, (gamma, (k, ()))))))) => Some(Ok(Chord {

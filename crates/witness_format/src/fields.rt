@@ -1,4 +1,7 @@
 //! The fields of a line: for each, its form, the limit of its numbers and its range.
+//!
+//! Those that stand in long lists are inlined. What a call gives back, the number and the words behind it, goes through memory, and that
+//! takes longer than to read a short number.
 ghost use Rattle.std.specs.Prelude.{◌≡◌, ◌≤◌, pos, IfSome, IfOk};
 ghost use Rattle.bounds_model.specs.EmptyAnswer.Blocker.{point as side_point};
 ghost use Rattle.bounds_model.specs.AnswerText.Fields as model;
@@ -20,6 +23,7 @@ const POINT_LIMIT: u32 = 9999;
 const POSITION_LIMIT: u32 = 127;
 
 /// A number without a sign from a least to a greatest one.
+#[inline(always)]
 pub(crate) fn bounded(words: Words<'_>, low: u32, high: u32) -> Option<(Judged<u32>, Words<'_>)>
     ensures field { Finds (λ x. (x.0, words_left x.1)) result (field_at (model.bounded low high) (words_left words.entry)) }
     ensures limited { IfSome result (λ x. IfOk x.0 (λ n. n ≤ high)) }
@@ -82,6 +86,7 @@ fn blocking_point(point: Judged<u32>) -> Judged<Blocker>
 }
 
 /// A number without a sign.
+#[inline(always)]
 pub(crate) fn natural(words: Words<'_>) -> Option<(Judged<u128>, Words<'_>)>
     ensures { Finds (λ x. (seen pos x.0, words_left x.1)) result (field_at model.natural (words_left words.entry)) }
 {
@@ -104,6 +109,7 @@ fn judged_natural(n: u128) -> Judged<u128>
 }
 
 /// A whole number.
+#[inline(always)]
 pub(crate) fn number(words: Words<'_>) -> Option<(Judged<i128>, Words<'_>)>
     ensures { Finds (λ x. (x.0, words_left x.1)) result (field_at model.number (words_left words.entry)) }
 {

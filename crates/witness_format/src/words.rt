@@ -38,6 +38,7 @@ impl<'a> Words<'a> {
 
     /// The next word, where it is a number without a sign of few digits, and the words behind it. It is read in one
     /// pass, and most words are such numbers.
+    #[inline(always)]
     pub(crate) fn few_digits(self) -> Option<(u64, Words<'a>)>
         ensures number { IfSome result (λ x. value_of natural (words_left self.entry) ≡ Some (pos x.0, words_left x.1)) }
         ensures limited { IfSome result (λ x. x.0 < 10 ^ 18) }
@@ -57,6 +58,7 @@ impl<'a> Words<'a> {
     }
 
     /// The next word, where it is a whole number of few digits, and the words behind it.
+    #[inline(always)]
     pub(crate) fn few_signed_digits(self) -> Option<(i64, Words<'a>)>
         ensures { IfSome result (λ x. value_of number (words_left self.entry) ≡ Some (x.0, words_left x.1)) }
     {
