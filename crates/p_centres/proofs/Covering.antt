@@ -1,8 +1,8 @@
 -- Squares that are placed one after another cover the points, or leaves below each corner show that they do not.
-use Rattle.std.proofs.Common.{◌≡◌, inl, inr, refl, sym, subst, ap, ◌∙◌, ℕ, zero, suc, ◌+◌, ◌-◌, ◌*◌, ◌/◌, ◌%◌, ◌^◌, ◌<◌, ◌≤◌, ◌≢◌, ℤ, pos, ◌+ℤ◌, ◌-ℤ◌, ◌≤ℤ◌, neg_ℤ, Bool, true, false, List, [], ◌∷◌, ◌++◌, length, map, take, All, IsTrue, arith}
+use Rattle.std.proofs.Common.{◌≡◌, inl, inr, refl, sym, subst, ap, ◌∙◌, ℕ, zero, suc, ◌+◌, ◌-◌, ◌*◌, ◌/◌, ◌%◌, ◌^◌, ◌<◌, ◌≤◌, ◌≢◌, ℤ, pos, ◌+ℤ◌, ◌-ℤ◌, ◌≤ℤ◌, neg_ℤ, Bool, true, false, List, [], ◌∷◌, ◌++◌, length, map, All, IsTrue, arith}
 use Rattle.std.specs.Prelude.{if◌then◌else◌, ◌==◌}
 use Rattle.std.proofs.lemmas.Int.{ints}
-use Rattle.std.proofs.lemmas.List.{append-nil, get_or_default, get_or_append_left, get_or_push, length_push, length-append, length-map, append_assoc, map-append, take_at}
+use Rattle.std.proofs.lemmas.List.{append-nil, get_or_default, get_or_append_left, get_or_push, length_push, length-append, length-map, append_assoc, map-append}
 use Rattle.std.proofs.lemmas.List.Elements.{All-nil, All-push, Contains-get_or}
 use Rattle.bounds_model.specs.Plane.{PlanePoint, point_at, origin}
 use Rattle.bounds_model.specs.CentresAnswer as model

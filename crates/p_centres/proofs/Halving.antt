@@ -2,15 +2,13 @@
 use Rattle.std.proofs.Common.{◌≡◌, ◌⊎◌, inl, inr, refl, sym, subst, ap, ℕ, zero, suc, ◌+◌, ◌-◌, ◌*◌, ◌/◌, ◌^◌, ◌<◌, ◌≤◌, List, [], length, map, All, arith}
 use Rattle.std.proofs.Math.Nat.{mul-le-mul_right}
 use Rattle.std.proofs.lemmas.List.Elements.{All-nil}
-use Rattle.bounds_model.specs.Plane.{PlanePoint, origin}
+use Rattle.bounds_model.specs.Plane.{PlanePoint}
 use Rattle.bounds_model.specs.CentresAnswer.{AreLeaves}
 use Rattle.answers.specs.Answers.{leaf_of}
 use Rattle.corner_squares.specs.declared.square.Square.{Square}
 use Rattle.corner_squares.specs.declared.bounds.Bounds.{Bounds}
 use Rattle.corner_squares.specs.Extents.{IsBox}
-use Rattle.corner_squares.specs.Squares.{IsCovered}
 use Rattle.corner_squares.specs.Trees.{NamesPoints, AreLeavesAt, nodes}
-use Rattle.corner_squares.proofs.LeftOver.{none_covered}
 use Rattle.corner_squares.proofs.Trees.{tree_leaves}
 use Rattle.p_centres.specs.declared.sides.Bracket.{Bracket}
 use Rattle.p_centres.specs.Surveys.{IsFirstFar}
@@ -24,16 +22,16 @@ use Rattle.p_centres.proofs.Covering.{cover_by_more, cover_with_one_more}
 pub record HasTries (n first now low high : ℕ) : Type 0 where
   pub tries : ℕ
   pub enough : high - low < 2 ^ tries
-  pub steps : now + tries * (21 * n) ≤ first + 421 * n
+  pub steps : now + tries * (21 * n) ≤ first + 428 * n
 
-pub tries_at_first : (n first seen now low high : ℕ) → low ≤ high → high ≤ 400000 → seen ≤ first + n → now ≤ seen + 21 * n → HasTries n first now low high
+pub tries_at_first : (n first seen now low high : ℕ) → low ≤ high → high ≤ 400000 → seen ≤ first + 8 * n → now ≤ seen + 21 * n → HasTries n first now low high
 tries_at_first n first seen now low high order limit h k = record { tries = 19; enough = omega (arith, limit); steps = omega (arith, h, k) }
 
 pub one_try_less : (n first now then low high low_then high_then side : ℕ) → HasTries n first now low high → low < high → side ≡ low + (high - low) / 2
     → ((low_then ≡ low) × (high_then ≡ side)) ⊎ ((low_then ≡ side + 1) × (high_then ≡ high)) → then ≤ now + 21 * n → HasTries n first then low_then high_then
 one_try_less n first now then low high low_then high_then side h some is half more = at h.tries h.enough h.steps
   where
-    at : (t : ℕ) → high - low < 2 ^ t → now + t * (21 * n) ≤ first + 421 * n → HasTries n first then low_then high_then
+    at : (t : ℕ) → high - low < 2 ^ t → now + t * (21 * n) ≤ first + 428 * n → HasTries n first then low_then high_then
     at zero e s = absurd (omega (arith, e, some))
     at (suc t) e s =
         let power : 2 ^ suc t ≡ 2 * 2 ^ t = omega arith in
@@ -42,12 +40,8 @@ one_try_less n first now then low high low_then high_then side h some is half mo
         halved : (m : ℕ) → high - low < 2 * m → high_then - low_then < m
         halved m e = elim half [ inl h' ↦ (let a = h'.0 in let b = h'.1 in omega (arith, e, some, is, a, b)) | inr h' ↦ (let a = h'.0 in let b = h'.1 in omega (arith, e, some, is, a, b)) ]
 
-pub steps_in_all : (n first now low high : ℕ) → HasTries n first now low high → now ≤ first + 421 * n
+pub steps_in_all : (n first now low high : ℕ) → HasTries n first now low high → now ≤ first + 428 * n
 steps_in_all n first now low high h = let s = h.steps in omega (arith, s)
-
--- some point is not covered by no squares
-pub not_all_covered : (points : List PlanePoint) → 1 ≤ length points → All (IsCovered []) points → ⊥
-not_all_covered points some h = none_covered _ (h 0 origin (omega (arith, some)))
 
 -- ---- brackets
 

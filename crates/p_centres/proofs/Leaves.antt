@@ -1,5 +1,5 @@
 -- The leaf of one square names the ends of the longer side of the points' bounding box.
-use Rattle.std.proofs.Common.{◌≡◌, ◌⊎◌, inl, inr, sym, subst, ap₂, ℕ, zero, suc, ◌+◌, ◌-◌, ◌<◌, ◌≤◌, ℤ, pos, ◌+ℤ◌, ◌-ℤ◌, ◌≤ℤ◌, ◌<ℤ◌, List, [], ◌∷◌, length, get_or, All, IsTrue, arith}
+use Rattle.std.proofs.Common.{◌≡◌, ◌⊎◌, inl, inr, sym, subst, ℕ, zero, suc, ◌+◌, ◌-◌, ◌<◌, ℤ, pos, ◌+ℤ◌, ◌-ℤ◌, ◌≤ℤ◌, ◌<ℤ◌, List, [], ◌∷◌, length, get_or, All, IsTrue, arith}
 use Rattle.std.proofs.lemmas.Int.{ints}
 use Rattle.std.proofs.lemmas.List.Elements.{All-nil}
 use Rattle.bounds_model.specs.Plane.{PlanePoint, point_at, origin}
@@ -11,7 +11,8 @@ use Rattle.corner_squares.proofs.Covering.{between_sides}
 use Rattle.corner_squares.proofs.LeftOver.{none_covered}
 use Rattle.p_centres.specs.Covers.{IsCover}
 use Rattle.p_centres.specs.Surveys.{IsFirstFarIn, IsFirstFar}
-use Rattle.p_centres.specs.Leaves.{later, IsFirstLeast, IsFirstGreatest, IsAlong, IsOnlyLeaf}
+use Rattle.p_centres.specs.Leaves.{later, IsAlong, IsOnlyLeaf}
+use Rattle.p_centres.proofs.Ends.{first_least, first_greatest}
 
 -- ---- what one square contains is no farther apart than its side
 
@@ -51,16 +52,10 @@ free {A} {p} (inr a) = a
 along : (of beside : PlanePoint → ℤ) (points : List PlanePoint) (limit i : ℕ) (leaf : model.Leaf) → NamesPoints points leaf → AreWithin of points (limit + 1) → AreWithin beside points (limit + 1)
     → IsFirstFarIn of beside points [] limit i leaf → IsAlong of beside points i leaf
 along of beside points limit i leaf names near near_beside h = record {
-  first = record {
-    below = names.first;
-    least = λ k below. least (of (point_at points leaf.first)) (of (point_at points leaf.second)) (of (point_at points k)) h.apart (near k leaf.second below names.second);
-    first = λ k sooner. free (h.ends.first_least k sooner);
-  };
-  second = record {
-    below = names.second;
-    greatest = λ k below. greatest (of (point_at points leaf.first)) (of (point_at points leaf.second)) (of (point_at points k)) h.apart (near leaf.first k names.first below);
-    first = λ k sooner. free (h.ends.first_greatest k sooner);
-  };
+  first = first_least of points leaf.first names.first (λ k below. least (of (point_at points leaf.first)) (of (point_at points leaf.second)) (of (point_at points k)) h.apart (near k leaf.second below names.second))
+      (λ k sooner. free (h.ends.first_least k sooner));
+  second = first_greatest of points leaf.second names.second (λ k below. greatest (of (point_at points leaf.first)) (of (point_at points leaf.second)) (of (point_at points k)) h.apart (near leaf.first k names.first below))
+      (λ k sooner. free (h.ends.first_greatest k sooner));
   no_longer = λ j k j_below k_below. no_longer (of (point_at points leaf.first)) (of (point_at points leaf.second)) (beside (point_at points j)) (beside (point_at points k)) h.apart (near_beside j k j_below k_below);
   not_yet = λ j k j_sooner k_sooner. not_yet (of (point_at points leaf.first)) (of (point_at points leaf.second)) (beside (point_at points j)) (beside (point_at points k)) h.apart (free (free (h.others j k j_sooner k_sooner)));
 }

@@ -1,5 +1,5 @@
 -- The numbers of the answer are in their ranges, and are kept as they are computed.
-use Rattle.std.proofs.Common.{◌≡◌, ◌⊎◌, ◌∷◌, [], ℕ, ◌/◌, ◌%◌, ◌==◌, ◌≤◌, Bool, true, false, ℤ, pos, ◌+ℤ◌, ◌*ℤ◌, ◌≤ℤ◌, negsuc, nat_abs, neg_ℤ, inl, inr, refl, sym, ap, ap₂, subst, ◌∙◌, arith}
+use Rattle.std.proofs.Common.{◌≡◌, ◌⊎◌, ◌∷◌, [], ℕ, ◌/◌, ◌%◌, ◌==◌, ◌≤◌, Bool, true, false, ℤ, pos, ◌+ℤ◌, ◌*ℤ◌, ◌≤ℤ◌, negsuc, nat_abs, neg_ℤ, inl, inr, refl, sym, ap, subst, ◌∙◌, arith}
 use Rattle.std.specs.Prelude.{if◌then◌else◌}
 use Rattle.std.proofs.lemmas.Int.{ints}
 use Rattle.std.proofs.lemmas.Bool.Decides.{nat_tests}
@@ -7,12 +7,12 @@ use Rattle.std.proofs.Math.Nat.{eq-one_of_dvd-one}
 use Rattle.bounds_model.specs.Fractions.{Fraction, HaveNoCommonFactor}
 use Rattle.bounds_model.specs.Numbers.{IsWithin}
 use Rattle.bounds_model.specs.Plane.{PlaneRatio}
-use Rattle.bounds_model.specs.Ranges.{IsFraction, IsPlaneRatio}
+use Rattle.bounds_model.specs.Ranges.{IsPlaneRatio}
 use Rattle.bounds_model.specs.CentresAnswer.{IsCentreWithinLimits}
 use Rattle.corner_squares.specs.declared.square.Square.{Square}
 use Rattle.p_centres.specs.Covers.{IsPlaced}
 use Rattle.p_centres.specs.Squares.{half_of, centre_of}
-use Rattle.p_centres.proofs.Halves.{divides_two, fraction_in_range}
+use Rattle.p_centres.proofs.Halves.{divides_two}
 use Rattle.bounded_coords.proofs.Ranges.{within_more}
 
 -- ---- the centre

@@ -1,19 +1,9 @@
 -- The leaf of one square: two points at the ends of the longer side of the bounding box.
 use Rattle.std.specs.Prelude.{◌⊎◌, ℕ, ◌+◌, ◌<◌, max, List, length, ℤ, ◌+ℤ◌, ◌-ℤ◌, ◌≤ℤ◌, ◌<ℤ◌}
+use Rattle.std.specs.Ordering.{on, int_cmp}
 use Rattle.bounds_model.specs.Plane.{PlanePoint, point_at}
 use Rattle.bounds_model.specs.CentresAnswer.{Leaf}
-
--- of the points with the least value, the first in the order of the file
-pub record IsFirstLeast (of : PlanePoint → ℤ) (points : List PlanePoint) (number : ℕ) : Type 0 where
-  pub below : number < length points
-  pub least : (k : ℕ) → k < length points → of (point_at points number) ≤ℤ of (point_at points k)
-  pub first : (k : ℕ) → k < number → of (point_at points number) <ℤ of (point_at points k)
-
--- of the points with the greatest value, the first in the order of the file
-pub record IsFirstGreatest (of : PlanePoint → ℤ) (points : List PlanePoint) (number : ℕ) : Type 0 where
-  pub below : number < length points
-  pub greatest : (k : ℕ) → k < length points → of (point_at points k) ≤ℤ of (point_at points number)
-  pub first : (k : ℕ) → k < number → of (point_at points k) <ℤ of (point_at points number)
+use Rattle.bounded_coords.specs.Firsts.{IsFirstLeast, IsFirstGreatest}
 
 -- the later of the leaf's points, in the order of the file
 abbrev pub later : Leaf → ℕ
@@ -23,10 +13,10 @@ later leaf = max leaf.first leaf.second
 abbrev pub span : (PlanePoint → ℤ) → List PlanePoint → Leaf → ℤ
 span of points leaf = of (point_at points leaf.second) -ℤ of (point_at points leaf.first)
 
--- the leaf names the ends in one coordinate; in the other one no two points are farther apart, and no two of the first i as far apart
+-- the leaf names the ends in one coordinate, each the first in the file; in the other one no two points are farther apart, and no two of the first i as far apart
 pub record IsAlong (of beside : PlanePoint → ℤ) (points : List PlanePoint) (i : ℕ) (leaf : Leaf) : Type 0 where
-  pub first : IsFirstLeast of points leaf.first
-  pub second : IsFirstGreatest of points leaf.second
+  pub first : IsFirstLeast (on of int_cmp) points leaf.first
+  pub second : IsFirstGreatest (on of int_cmp) points leaf.second
   pub no_longer : (j k : ℕ) → j < length points → k < length points → beside (point_at points k) ≤ℤ (beside (point_at points j) +ℤ span of points leaf)
   pub not_yet : (j k : ℕ) → j < i → k < i → beside (point_at points k) <ℤ (beside (point_at points j) +ℤ span of points leaf)
 

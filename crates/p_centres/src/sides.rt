@@ -4,7 +4,7 @@ ghost use Rattle.bounded_coords.specs.Clouds.{counted_points};
 ghost use Rattle.corner_squares.specs.Extents.{IsPlaneExtent, IsBox};
 ghost use Rattle.p_centres.specs.Sides.{IsBracket, IsStart, IsTried};
 
-use crate::surveys::whole;
+use crate::bounding_box::bounding_box;
 use crate::tree::cover;
 use answers::Leaf;
 use arrayvec::ArrayVec;
@@ -35,11 +35,9 @@ pub(crate) fn least_side<L: Ledger>(
     requires few { p ≤ 3 }
     ensures bracket { IsBracket (counted_points cloud.entry) p result }
     ensures least { result.low ≡ result.high }
-    ensures steps { steps.new ≤ steps.old + 421 * length (counted_points cloud.entry) }
+    ensures steps { steps.new ≤ steps.old + 428 * length (counted_points cloud.entry) }
 {
-    let Some(bounds) = whole(cloud, &[], steps) else {
-        unreachable!()
-    };
+    let bounds = bounding_box(cloud, steps);
     let mut bracket = first_bracket(cloud, p, bounds, steps);
     'halving: while bracket.low < bracket.high {
         let side = bracket.low + (bracket.high - bracket.low) / 2;

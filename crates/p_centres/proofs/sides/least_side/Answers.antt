@@ -1,16 +1,13 @@
 use Rattle.std.proofs.Common.{length, refl}
 use Rattle.bounded_coords.specs.Clouds.{counted_points}
-use Rattle.p_centres.proofs.Halving.{not_all_covered, tries_at_first, one_try_less, steps_in_all}
+use Rattle.p_centres.proofs.Halving.{tries_at_first, one_try_less, steps_in_all}
 use Rattle.p_centres.proofs.sides.least_side.Goals as goal
-
-pub unreachable-requires : goal.unreachable-requires
-unreachable-requires g c = not_all_covered (counted_points c.args.cloud) c.args.cloud.cloud.not_empty c.in_default.ensures.found
 
 pub halving-init : goal.halving-init
 halving-init g c = record {
   bracket = c.first_bracket-bracket.ensures.bracket;
-  tries = tries_at_first (length (counted_points c.args.cloud)) c.args.steps.now c.whole.new.steps c.first_bracket-bracket.new.steps c.first_bracket-bracket.result.low c.first_bracket-bracket.result.high
-      c.first_bracket-bracket.ensures.bracket.order c.first_bracket-bracket.ensures.bracket.limit c.in-Some.ensures.steps c.first_bracket-bracket.ensures.steps;
+  tries = tries_at_first (length (counted_points c.args.cloud)) c.args.steps.now c.bounding_box-bounds.new.steps c.first_bracket-bracket.new.steps c.first_bracket-bracket.result.low c.first_bracket-bracket.result.high
+      c.first_bracket-bracket.ensures.bracket.order c.first_bracket-bracket.ensures.bracket.limit c.bounding_box-bounds.ensures.steps c.first_bracket-bracket.ensures.steps;
 }
 
 pub halving-preserved : goal.halving-preserved
