@@ -2,9 +2,8 @@
 use Rattle.std.proofs.Common.{◌≡◌, sym, subst, ◌∙◌, ap, ap₂, ℕ, ◌<◌, ◌≤◌, ℤ, pos, ◌-ℤ◌, ◌*ℤ◌, ◌<ℤ◌, ◌≤ℤ◌, List, [], ◌∷◌, length, map, get_or, Bool, IsTrue, ◌↔◌, arith}
 use Rattle.std.specs.Prelude.{slice_get, Some, All}
 use Rattle.std.proofs.lemmas.Int.{ints, by_lt_z}
-use Rattle.std.proofs.lemmas.List.{get_or-map, length-map}
-use Rattle.std.proofs.lemmas.Option.{get_or_from_slice_get, slice_get_within}
-use Rattle.bounds_model.specs.Space.{SpacePoint, point_at, vector, origin, dot, squared_length}
+use Rattle.std.proofs.lemmas.List.{length-map}
+use Rattle.bounds_model.specs.Space.{SpacePoint, point_at, vector, dot, squared_length}
 use Rattle.bounds_model.specs.BallAnswer as model
 use Rattle.bounds_model.specs.BallAnswer.{weight_sum, first_support, pull, IsOnBall, IsNotOutside}
 use Rattle.kernel_laws.specs.Vectors.{sum_of}

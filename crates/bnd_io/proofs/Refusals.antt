@@ -1,9 +1,8 @@
 -- What a sink tells of the pieces that it refused.
-use Rattle.std.proofs.Common.{◌≡◌, ◌⊎◌, ◌∙◌, ℕ, List, [], ◌∷◌, ◌++◌, take, drop, length, Bool, true, false, inl, inr, refl, sym, ap, append_assoc, append-nil}
-use Rattle.std.specs.Prelude.{nat_lt, if◌then◌else◌}
+use Rattle.std.proofs.Common.{◌≡◌, ◌⊎◌, ◌∙◌, ℕ, List, [], ◌∷◌, ◌++◌, take, drop, inl, inr, sym, ap, append_assoc, append-nil}
+use Rattle.std.specs.Prelude.{if◌then◌else◌}
 use Rattle.std.proofs.lemmas.List.Elements.{All-nil, All-cons, All-append}
 use Rattle.std.proofs.lemmas.List.{take-append-drop}
-use Rattle.bnd_io.specs.Memory.{kept_pieces, kept_refused}
 use Rattle.bnd_io.specs.Sinks.{SinkState, Refused, IsCutFrom, RefusedOf}
 
 -- a sink that tells as many as before tells none that is not of these bytes

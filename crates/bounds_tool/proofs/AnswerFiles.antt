@@ -1,6 +1,5 @@
 -- What an answer file reads as.
-use Rattle.std.proofs.Common.{◌≡◌, ◌∙◌, ap, ℕ, ◌≤◌, true, cond, List, length, nat_le, Option, Some, None, Result, Ok, Err, IfSome, arith}
-use Rattle.std.proofs.lemmas.Bool.Decides.{nat_tests}
+use Rattle.std.proofs.Common.{◌≡◌, ◌∙◌, ap, ℕ, ◌≤◌, cond, List, length, Option, Some, None, Result, Ok, Err, IfSome}
 use Rattle.bounds_model.specs.Answers.{Answer}
 use Rattle.bounds_model.specs.AnswerText.Formats.{Refusal}
 use Rattle.bounds_model.specs.AnswerText.Reading.{reading}

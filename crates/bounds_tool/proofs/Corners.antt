@@ -3,7 +3,6 @@ use Rattle.std.proofs.Common.{◌≡◌, refl, ◌⊎◌, inl, inr, sym, subst, 
 use Rattle.std.specs.Prelude.{IfErr, IsErrAnd}
 use Rattle.bounds_model.specs.Asks as model
 use Rattle.bounds_model.specs.Asks.{Sets, ask_kgon, plane}
-use Rattle.bounds_model.specs.ErrorLines.{out_of_memory}
 use Rattle.bounded_coords.specs.declared.ask.Ask.{Ask}
 use Rattle.bounded_coords.specs.Asked.{asked}
 use Rattle.point_text.specs.declared.text.Form.{Form}
@@ -15,7 +14,7 @@ use Rattle.bounds_tool.specs.declared.cause.Cause as code
 use Rattle.bounds_tool.specs.Causes.{meant, unsolved}
 use Rattle.bounds_tool.specs.Judging.{points_in}
 use Rattle.bounds_tool.specs.Solving.{HasTooManyCorners, IsUnsolved}
-use Rattle.bounds_tool.specs.Run.{CornersCause, ComesOf}
+use Rattle.bounds_tool.specs.Run.{ComesOf}
 use Rattle.bounds_tool.proofs.OpenedFiles.{accepted}
 
 -- more than 128

@@ -1,13 +1,11 @@
 -- What is opened and read.
-use Rattle.std.proofs.Common.{◌≡◌, inl, inr, refl, sym, subst, ◌∙◌, ℕ, ◌+◌, ◌≤◌, Bool, true, false, cond, List, [], ◌∷◌, Option, Some, None, Result, Ok, Err, IfSome, arith, le_trans}
+use Rattle.std.proofs.Common.{◌≡◌, inl, inr, refl, sym, subst, ◌∙◌, ℕ, ◌+◌, ◌≤◌, cond, List, [], ◌∷◌, Option, Some, None, Result, Ok, Err, IfSome, arith, le_trans}
 use Rattle.std.specs.Prelude.{IsOk}
 use Rattle.bounds_model.specs.ErrorLines.{Cause}
 use Rattle.std.specs.Str.{bytes_eq}
-use Rattle.std.proofs.lemmas.Slice.Eq.{bytes_eq-Decides}
-use Rattle.std.proofs.lemmas.Bool.Decides.{not_from_Decides}
-use Rattle.bnd_io.specs.Files.{Folder, FilesState, Continues, NoFault, CountsOpen, CountsNoOpen, grown}
+use Rattle.bnd_io.specs.Files.{Folder, FilesState, Continues, NoFault}
 use Rattle.command_line.specs.Words.{Task, solve_task, check_task, demo_task}
-use Rattle.bounds_tool.specs.Run.{times, ReadsOnly, ReadsOfTask}
+use Rattle.bounds_tool.specs.Run.{ReadsOnly, ReadsOfTask}
 
 -- ---- counts
 

@@ -1,9 +1,8 @@
 -- What a sink receives from several writes, the last of which may fail.
-use Rattle.std.proofs.Common.{ℕ, ◌+◌, ◌≤◌, List, ◌++◌, take, length, inl, inr, sym, subst, arith, length-append}
+use Rattle.std.proofs.Common.{ℕ, ◌+◌, ◌≤◌, List, ◌++◌, take, length, sym, subst, arith, length-append}
 use Rattle.std.proofs.Math.Seq.{take-append-add, take-length}
 use Rattle.std.proofs.lemmas.List.{take-append-le}
 use Rattle.std.specs.declared.option.Option.{Option}
-use Rattle.std.specs.declared.option.Option.TheVariants.{Some, None}
 use Rattle.std.specs.Prelude.{Result, Ok, Err, OnOk, OnErr}
 use Rattle.bnd_io.specs.Faults.{Rose}
 use Rattle.bnd_io.specs.Sinks.{SinkState, SinkContinues, Appended, AppendedPrefix, RefusedOf}

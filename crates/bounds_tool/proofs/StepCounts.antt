@@ -1,11 +1,10 @@
 -- How often points are read.
-use Rattle.std.proofs.Common.{◌≡◌, ◌∙◌, refl, sym, ap, subst, ℕ, ◌+◌, ◌*◌, ◌≤◌, arith, Bool, List, Option, Some, None, Result, Ok, Err, IfSome}
+use Rattle.std.proofs.Common.{◌≡◌, ◌∙◌, refl, sym, ap, subst, ℕ, ◌+◌, ◌*◌, ◌≤◌, Bool, List, Option, Some, None, Result, Ok, Err, IfSome}
 use Rattle.bounds_model.specs.Asks.{Ask, ask_centres, Sets}
-use Rattle.bounds_model.specs.Demo.{demo_sets}
 use Rattle.bounds_model.specs.ErrorLines.{Cause}
 use Rattle.point_text.specs.declared.text.Form.{Form}
 use Rattle.bnd_io.specs.Files.{Folder, FilesState, bytes_of}
-use Rattle.command_line.specs.Words.{Task, solve_task, demo_task}
+use Rattle.command_line.specs.Words.{solve_task}
 use Rattle.bounds_tool.specs.Judging.{points_in}
 use Rattle.bounds_tool.specs.Solving.{point_count}
 use Rattle.bounds_tool.specs.Run.{StepsOfTask}

@@ -1,7 +1,7 @@
 -- The leaves below a node of the tree, corner by corner.
 use Rattle.std.proofs.Common.{◌≡◌, ◌≢◌, refl, sym, subst, ap, ap₂, ◌∙◌, ◌↔◌, ℕ, zero, suc, ◌+◌, ◌-◌, ◌*◌, ◌/◌, ◌^◌, ◌<◌, ◌≤◌, Bool, true, false, List, [], ◌∷◌, ◌++◌, length, map, take, drop, All, Contains, IsTrue, get_or, arith}
 use Rattle.std.specs.Prelude.{Option, None}
-use Rattle.std.proofs.lemmas.List.{take-map, drop-map, take-append-drop, take-take, drop-take, take_all, length-map, length-take-le, length-drop, take_at, length_push}
+use Rattle.std.proofs.lemmas.List.{take-map, drop-map, take-append-drop, take-take, drop-take, take_all, length-map, length-take-le, length-drop}
 use Rattle.std.proofs.lemmas.List.Elements.{All-take, All-drop, Contains-get_or}
 use Rattle.bounds_model.specs.Plane.{PlanePoint, point_at, origin}
 use Rattle.bounds_model.specs.CentresAnswer as model

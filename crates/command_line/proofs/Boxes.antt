@@ -1,15 +1,11 @@
 -- Numbers with commas between them, as a box.
-use Rattle.std.proofs.Common.{◌≡◌, ◌∙◌, refl, ap, cond, ℕ, zero, suc, ◌+◌, ◌<◌, Bool, true, false, List, [], ◌∷◌, length, Option, Some, None, Bor, arith, ℤ, pos, negsuc, ◌<ℤ◌, rules}
-use Rattle.std.specs.Prelude.{if◌then◌else◌, ◌==◌, nat_le, int_lt, unsigned_abs, ◌&&◌, ◌↔◌, IsSome, IfSome, MatchOption, Decides}
-use Rattle.std.specs.List.{position_or_len}
-use Rattle.std.proofs.lemmas.Bool.Decides.{nat_tests}
-use Rattle.std.proofs.lemmas.Int.{ints}
-use Rattle.std.proofs.lemmas.List.{drop_all}
-use Rattle.bounds_model.specs.AnswerText.Numerals.{◌>>=◌, natural_number, below_zero}
+use Rattle.std.proofs.Common.{◌≡◌, ◌∙◌, refl, ap, cond, ℕ, ◌+◌, ◌<◌, Bool, true, false, List, [], ◌∷◌, Option, Some, None, ℤ, ◌<ℤ◌, rules}
+use Rattle.std.specs.Prelude.{if◌then◌else◌, ◌==◌, int_lt, ◌&&◌, ◌↔◌, IsSome, IfSome}
+use Rattle.bounds_model.specs.AnswerText.Numerals.{◌>>=◌}
 use Rattle.bounds_model.specs.EmptyRectangle.{Box, IsFrame}
 use Rattle.bounds_model.specs.Numbers.{IsWithin}
 use Rattle.bounds_model.specs.Plane.{plane_limit}
-use Rattle.command_line.specs.Values.{number_within, coordinate, before_comma, after_comma, with_inside, frame_written}
+use Rattle.command_line.specs.Values.{coordinate, before_comma, after_comma, with_inside, frame_written}
 use Rattle.model_laws.proofs.Decisions.{less_ℤ_law}
 
 -- ---- boxes

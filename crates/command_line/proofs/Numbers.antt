@@ -1,5 +1,5 @@
 -- Coordinates, by their clamped numbers.
-use Rattle.std.proofs.Common.{◌≡◌, ◌∙◌, refl, sym, ap, cond, ℕ, ◌<◌, ◌≤◌, true, false, ℤ, pos, negsuc, nat_abs, nat_le, FitsSigned, List, Option, Some, None, arith}
+use Rattle.std.proofs.Common.{◌≡◌, ◌∙◌, sym, ap, cond, ℕ, ◌<◌, ◌≤◌, true, false, ℤ, pos, negsuc, nat_abs, nat_le, FitsSigned, List, Option, Some, None, arith}
 use Rattle.std.specs.Prelude.{if◌then◌else◌}
 use Rattle.std.proofs.lemmas.Bool.Decides.{nat_tests}
 use Rattle.std.specs.Int.{w64}

@@ -1,7 +1,6 @@
 -- No weights have a greater value than supports under which none of their vectors is low.
-use Rattle.std.proofs.Common.{◌≡◌, ℤ, pos, ◌≤ℤ◌, ◌<ℤ◌, List, arith}
+use Rattle.std.proofs.Common.{◌≡◌, ℤ, pos, ◌≤ℤ◌, ◌<ℤ◌, List}
 use Rattle.std.specs.Prelude.{All}
-use Rattle.std.proofs.lemmas.Int.{ints}
 use Rattle.integers.proofs.Order.{nonneg_from_one}
 use Rattle.bounds_model.specs.Space.{squared_length, dot}
 use Rattle.bounds_model.specs.Fractions.{IsAtMost}

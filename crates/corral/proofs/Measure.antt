@@ -1,12 +1,12 @@
 -- The measure of exchanges.
-use Rattle.std.proofs.Common.{sym, subst, inl, inr, ℕ, ◌*◌, ◌/◌, ◌<◌, ℤ, pos, negsuc, ◌+ℤ◌, ◌-ℤ◌, ◌*ℤ◌, ◌≤ℤ◌, ◌<ℤ◌, List, nat_abs, arith, [], ◌∷◌}
+use Rattle.std.proofs.Common.{sym, subst, inl, inr, ℕ, ◌*◌, ◌/◌, ◌<◌, ℤ, pos, ◌+ℤ◌, ◌-ℤ◌, ◌*ℤ◌, ◌≤ℤ◌, ◌<ℤ◌, List, arith, [], ◌∷◌}
 use Rattle.std.specs.Prelude.{All}
 use Rattle.std.proofs.lemmas.Int.{ints}
 use Rattle.integers.proofs.Identities.{den-ring, read, polys, lits}
-use Rattle.integers.proofs.Order.{nonneg_add, nonneg_mul, le_from_lt, positive_difference, nonneg_difference, positive_mul, square_nonneg, mul_le_both, le_by, lt_by, nonneg_from_one}
+use Rattle.integers.proofs.Order.{nonneg_add, nonneg_mul, le_from_lt, nonneg_difference, positive_mul, square_nonneg, mul_le_both, le_by, nonneg_from_one}
 use Rattle.integers.proofs.Sums.{total_weighted_le}
 use Rattle.std.proofs.lemmas.List.Elements.{All-weaker}
-use Rattle.integers.proofs.LeastDifferences.{floor_rises, floor_rises_ℤ, rest_falls}
+use Rattle.integers.proofs.LeastDifferences.{floor_rises_ℤ, rest_falls}
 use Rattle.integers.specs.Size.{Size}
 use Rattle.integers.proofs.Sizes.{size_mul}
 use Rattle.bounds_model.specs.Space.{SpacePoint, squared_length}

@@ -1,12 +1,10 @@
 -- Bounds that two points give, and numbers within a checker's limits, which are within the ranges of an answer's numbers.
-use Rattle.std.proofs.Common.{◌≡◌, sym, ◌∙◌, ap, subst, ℕ, ℤ, ◌-ℤ◌, List, All, T, leb, leb→le, arith}
+use Rattle.std.proofs.Common.{◌≡◌, sym, ◌∙◌, ap, subst, ℕ, ℤ, ◌-ℤ◌, List, All, leb→le}
 use Rattle.std.specs.Prelude.{slice_index_or}
-use Rattle.std.proofs.lemmas.Int.{ints}
-use Rattle.bounds_model.specs.Numbers.{IsWithin}
 use Rattle.bounds_model.specs.Plane.{PlanePoint, point_at, dot}
 use Rattle.bounds_model.specs.Strip.{Span, IsInSpan, extent}
-use Rattle.bounds_model.specs.Ranges.{IsDirection, IsSpan}
-use Rattle.bounds_model.specs.Fans.{AreExtreme, IsShort, reach}
+use Rattle.bounds_model.specs.Ranges.{IsSpan}
+use Rattle.bounds_model.specs.Fans.{AreExtreme, reach}
 use Rattle.bounds_model.specs.StripAnswer.{IsShortSpan}
 use Rattle.directions.proofs.Reading.{reach_parts}
 use Rattle.bounded_coords.proofs.Ranges.{within_more}

@@ -1,5 +1,5 @@
 -- Pairs that name points, and pairs whose weights are not within the limits.
-use Rattle.std.proofs.Common.{◌≡◌, sym, subst, ◌∙◌, ap, ap₂, ℕ, ◌+◌, ◌<◌, ◌≤◌, ◌^◌, ◌⊎◌, inl, inr, ℤ, pos, ◌+ℤ◌, ◌<ℤ◌, ◌≤ℤ◌, List, length, map, take, get_or, arith}
+use Rattle.std.proofs.Common.{◌≡◌, subst, ◌∙◌, ap, ℕ, ◌+◌, ◌<◌, ◌≤◌, ◌^◌, ◌⊎◌, inl, inr, ℤ, pos, ◌+ℤ◌, ◌<ℤ◌, ◌≤ℤ◌, List, length, map, take, get_or, arith}
 use Rattle.std.specs.Prelude.{All, slice_get, Some}
 use Rattle.std.proofs.lemmas.Int.{ints, by_lt_z}
 use Rattle.std.proofs.lemmas.List.{map_more, take-map, length-map}
@@ -7,7 +7,6 @@ use Rattle.std.proofs.lemmas.List.Elements.{All-weaker}
 use Rattle.std.proofs.lemmas.Option.{get_or_from_slice_get}
 use Rattle.integers.proofs.Sums.{total-one_more}
 use Rattle.bounds_model.specs.Space.{SpacePoint, point_at, origin}
-use Rattle.bounds_model.specs.Fractions.{Fraction}
 use Rattle.bounds_model.specs.AnnulusAnswer as model
 use Rattle.bounds_model.specs.AnnulusAnswer.{pair_sum}
 use Rattle.answers.specs.declared.pairs.WeightedPair.{WeightedPair}

@@ -9,7 +9,7 @@ use Rattle.empty_rectangle.specs.declared.obstacles.Obstacle.{Obstacle}
 use Rattle.empty_rectangle.specs.declared.obstacles.Extent.{Extent}
 use Rattle.empty_rectangle.specs.declared.rectangles.Rectangle.{Rectangle}
 use Rattle.empty_rectangle.specs.declared.sweep.Seed.{Seed}
-use Rattle.empty_rectangle.specs.Rectangles.{IsInExtent, IsExtent, IsFree, IsRestricted, IsSeed, IsThrough, Covers}
+use Rattle.empty_rectangle.specs.Rectangles.{IsInExtent, IsFree, IsRestricted, IsSeed, IsThrough, Covers}
 use Rattle.empty_rectangle.specs.Seeds.{corner, above, beside, IsGap, NoneExceeds}
 use Rattle.empty_rectangle.proofs.Sweeping.{by_order}
 

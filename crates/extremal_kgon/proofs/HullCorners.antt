@@ -4,8 +4,7 @@ use Rattle.std.specs.Prelude.{AllPairs}
 use mathlib.Core.Logic.{inr}
 use Rattle.std.proofs.lemmas.Int.{ints}
 use Rattle.std.proofs.lemmas.List.Elements.{All-weaker, All-cons, All-nil}
-use Rattle.integers.proofs.Identities.{den-ring, read, polys}
-use Rattle.bounds_model.specs.Plane.{PlanePoint, vector, cross, turn, IsBefore}
+use Rattle.bounds_model.specs.Plane.{PlanePoint, IsBefore}
 use Rattle.bounds_model.specs.Hull.{around, AreCorners}
 use Rattle.bounds_model.specs.CornerTest.{CornersPass, FirstIsOnce}
 use Rattle.kernel_laws.proofs.PlaneTurns.{turn_along}

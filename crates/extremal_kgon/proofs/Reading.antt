@@ -1,8 +1,7 @@
 -- Numbers and points at indices of lists.
 use Rattle.std.proofs.Common.{◌≡◌, refl, sym, subst, ap, ℕ, zero, suc, ◌+◌, ◌<◌, ◌⊎◌, inl, inr, arith, List, [], ◌∷◌, ◌++◌, length, map}
 use Rattle.std.specs.Prelude.{slice_index_or}
-use Rattle.std.proofs.Common.{◌^◌, ℤ, to_z, of_z, to_z-of_z, w64}
-use lib.Signed.{mag}
+use Rattle.std.proofs.Common.{◌^◌, ℤ}
 use Rattle.std.proofs.Common.{ap₂, ◌∙◌, take}
 use Rattle.std.proofs.lemmas.List.{get_or_append_left, get_or_push, length_push, map-append, take_more}
 use Rattle.integers.proofs.Lists.{below_or_at}

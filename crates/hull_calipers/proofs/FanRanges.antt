@@ -2,10 +2,8 @@
 use Rattle.std.proofs.Common.{◌≡◌, inl, inr, ◌+◌, ◌≤◌, ℤ, List, length, sym, ap, ◌∙◌, arith}
 use Rattle.std.proofs.lemmas.Int.{ints}
 use Rattle.std.proofs.lemmas.Bool.{cases_order}
-use Rattle.bounds_model.specs.Numbers.{IsWithin}
 use Rattle.bounds_model.specs.Plane.{PlanePoint}
-use Rattle.bounds_model.specs.Ranges.{IsDirection, number_limit}
-use Rattle.bounds_model.specs.Fans.{HalfFan, HalfRanges, QuarterFan, QuarterRanges, half_directions, quarter_directions, IsShort, direction_limit, east, west, north}
+use Rattle.bounds_model.specs.Fans.{HalfFan, HalfRanges, QuarterFan, QuarterRanges, half_directions, quarter_directions, east, west, north}
 use Rattle.hull_calipers.specs.Fans.{IsPath, IsHalfPath, IsExtremeHalfCone, IsHalfDirection, IsQuarterPath, IsExtremeQuarterCone, IsQuarterDirection}
 use Rattle.hull_calipers.proofs.Paths.{length_path, path_last}
 use Rattle.bounded_coords.proofs.Ranges.{direction_of_short}

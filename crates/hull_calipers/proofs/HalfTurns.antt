@@ -18,7 +18,7 @@ use Rattle.hull_calipers.specs.CaliperMoves.{IsLimited, ArePair, PairFollows}
 use Rattle.hull_calipers.specs.Fans.{path, IsHalfPath, IsExtremeHalfCone, IsHalfDirection}
 use Rattle.hull_calipers.proofs.Paths.{path_more, path_push}
 use Rattle.hull_calipers.proofs.AntipodalPairs.{IsTurningPair, IsNextOfPair, left_of, pair_start, pair_after, pair_extremes, pair_no_more, pair_less, next_turns}
-use Rattle.hull_calipers.proofs.FanDirections.{half_direction, pair_normal, up_is_north}
+use Rattle.hull_calipers.proofs.FanDirections.{half_direction, pair_normal}
 
 pub record IsHalfTurning (points corners : List PlanePoint) (side : Side) (high_at low_at : ℕ) (d : Direction) (pair : AntipodalPair) (cones : List HalfCone) (count steps steps0 : ℕ) : Type 0 where
   pub calipers : IsTurningPair points corners side high_at low_at d pair

@@ -18,7 +18,7 @@ use Rattle.hull_calipers.specs.CaliperMoves.{IsLimited, ArePair, PairFollows}
 use Rattle.hull_calipers.specs.Fans.{IsQuarterPath, IsExtremeQuarterCone, IsQuarterDirection}
 use Rattle.hull_calipers.proofs.Paths.{path_none, path_more}
 use Rattle.hull_calipers.proofs.AntipodalPairs.{IsTurningPair, IsNextOfPairs, left_of, pair_start, pair_after, pair_extremes, pair_no_more, pair_less, next_turns}
-use Rattle.hull_calipers.proofs.FanDirections.{quarter_direction, quarter_direction_east, pair_normal_or_parallel, up_is_north}
+use Rattle.hull_calipers.proofs.FanDirections.{quarter_direction, quarter_direction_east, pair_normal_or_parallel}
 
 -- where the calipers start
 pub record Starts : Type 0 where

@@ -5,7 +5,7 @@ use Rattle.std.proofs.Math.IntN.{zero-*ℤ}
 use Rattle.integers.specs.Size.{Size}
 use Rattle.integers.proofs.Sizes.{below_size, above_size}
 use Rattle.integers.proofs.Identities.{den-ring, read, polys, lits, below_lits}
-use Rattle.integers.proofs.Order.{combine1, combine2, nonneg_mul, nonneg_add, nonneg_of_mul, positive_mul, square_nonneg, le_antisymm_ℤ, zero_of_square, le_from_lt}
+use Rattle.integers.proofs.Order.{combine1, combine2, nonneg_mul, nonneg_add, nonneg_of_mul, square_nonneg, le_antisymm_ℤ, zero_of_square, le_from_lt}
 use Rattle.integers.proofs.Sizes.{size_add, size_mul, size_more}
 use Rattle.bounds_model.specs.Plane.{PlanePoint, point_at, squared_length}
 use Rattle.bounds_model.specs.AnnulusAnswer.{pair_sum, weighted_differences}

@@ -1,11 +1,11 @@
 -- The target's lift rises at each exchange, and the measure falls.
-use Rattle.std.proofs.Common.{◌≡◌, refl, sym, ◌∙◌, subst, ℕ, ◌^◌, ◌*◌, ◌/◌, ◌<◌, ℤ, pos, negsuc, ◌+ℤ◌, ◌-ℤ◌, ◌*ℤ◌, neg_ℤ, ◌≤ℤ◌, ◌<ℤ◌, nat_abs, arith, [], ◌∷◌}
+use Rattle.std.proofs.Common.{◌≡◌, refl, sym, ◌∙◌, subst, ℕ, ◌^◌, ◌*◌, ◌/◌, ◌<◌, ℤ, pos, ◌+ℤ◌, ◌-ℤ◌, ◌*ℤ◌, neg_ℤ, ◌≤ℤ◌, ◌<ℤ◌, arith, [], ◌∷◌}
 use Rattle.std.proofs.lemmas.Int.{ints}
 use Rattle.integers.specs.Size.{Size}
 use Rattle.integers.proofs.Sizes.{size_sub, size_mul, size_more, below_size}
 use Rattle.integers.proofs.Identities.{den-ring, read, polys, lits}
 use Rattle.integers.proofs.Order.{nonneg_mul, nonneg_add, nonneg_difference, positive_difference, positive_mul, le_from_lt, lt_by, le_by, combine1}
-use Rattle.integers.proofs.LeastDifferences.{floor_rises, floor_rises_ℤ, rest_falls}
+use Rattle.integers.proofs.LeastDifferences.{floor_rises_ℤ, rest_falls}
 use Rattle.min_annulus.specs.declared.difference_vectors.DifferenceVector.{DifferenceVector}
 use Rattle.min_annulus.specs.LinearForms.{rise, form_through}
 use Rattle.min_annulus.specs.DifferenceVectors.{IsDifference, IsAround, side, scale, area, lift_over, lift_under, lift_limit}

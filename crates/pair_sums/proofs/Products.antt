@@ -1,15 +1,13 @@
 -- Products with the pull, and what they say of the differences.
-use Rattle.std.proofs.Common.{◌≡◌, refl, sym, ◌∙◌, ap, ap₂, subst, ◌≤◌, ℤ, pos, ◌+ℤ◌, ◌-ℤ◌, ◌*ℤ◌, ◌≤ℤ◌, List, [], ◌∷◌, length, get_or, arith}
+use Rattle.std.proofs.Common.{◌≡◌, sym, ◌∙◌, ap, ap₂, subst, ◌≤◌, ℤ, pos, ◌+ℤ◌, ◌-ℤ◌, ◌*ℤ◌, ◌≤ℤ◌, List, [], ◌∷◌, length, get_or, arith}
 use Rattle.std.specs.Prelude.{All}
-use Rattle.std.proofs.lemmas.List.Elements.{All-head, All-tail}
-use Rattle.integers.specs.Total.{total}
-use Rattle.integers.proofs.Identities.{den-ring, read, polys, lits}
-use Rattle.integers.proofs.Order.{nonneg_add, nonneg_of_mul, positive_from_one, square_nonneg, combine1, combine2}
-use Rattle.bounds_model.specs.Space.{SpacePoint, point_at, vector, dot, squared_length, weighted_sum}
+use Rattle.integers.proofs.Identities.{den-ring, read, polys}
+use Rattle.integers.proofs.Order.{nonneg_of_mul, positive_from_one}
+use Rattle.bounds_model.specs.Space.{SpacePoint, point_at, vector, dot, weighted_sum}
 use Rattle.bounds_model.specs.AnnulusAnswer.{WeightedPair, pair_sum}
 use Rattle.bounds_model.specs.DistanceAnswer.{difference, pull, first_product}
 use Rattle.kernel_laws.specs.Vectors.{sum_of}
-use Rattle.kernel_laws.proofs.Points.{same_point, squared_length_nonneg}
+use Rattle.kernel_laws.proofs.Points.{squared_length_nonneg}
 use Rattle.pair_sums.specs.declared.sums.PairSums.{PairSums}
 use Rattle.pair_sums.specs.Sums.{AreSums, pull_of}
 use Rattle.pair_sums.specs.Means.{product_ratio}

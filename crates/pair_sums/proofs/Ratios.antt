@@ -1,8 +1,7 @@
 -- The entries of a weighted mean, as the machine has them.
-use Rattle.std.proofs.Common.{◌≡◌, ◌∙◌, ap₂, ℕ, ◌≤◌, ◌^◌, ℤ, pos, to_z, arith}
+use Rattle.std.proofs.Common.{◌≡◌, ◌∙◌, ℕ, ◌≤◌, ◌^◌, ℤ, pos, to_z, arith}
 use Rattle.std.proofs.lemmas.Int.{to_z_pos}
 use mir.Syntax.{w128}
-use Rattle.bounds_model.specs.Space.{SpaceRatio}
 
 -- the denominator
 pub denominator : {t : ℕ} → t ≤ 2 ^ 66 → to_z w128 t ≡ pos t

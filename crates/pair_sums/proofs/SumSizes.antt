@@ -3,7 +3,7 @@ use Rattle.std.proofs.Common.{◌≡◌, sym, subst, ◌∙◌, ap, ℕ, ◌+◌
 use Rattle.std.proofs.lemmas.Int.{unsigned_abs-mul}
 use Rattle.std.proofs.Math.Nat.{pos_of_ne-zero}
 use Rattle.integers.specs.Size.{Size}
-use Rattle.integers.proofs.Sizes.{size_add, size_mul, size_unsigned, size_more_weight}
+use Rattle.integers.proofs.Sizes.{size_more_weight}
 use Rattle.bounds_model.specs.Space.{SpacePoint, plus, times}
 use Rattle.kernel_laws.specs.Limits.{IsVectorWithin}
 

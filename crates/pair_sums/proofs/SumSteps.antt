@@ -1,10 +1,8 @@
 -- Sums over pairs, one pair after another.
-use Rattle.std.proofs.Common.{◌≡◌, sym, ◌∙◌, ap, ap₂, ℕ, ℤ, pos, ◌+ℤ◌, List, [], ◌∷◌, ◌++◌, arith}
-use Rattle.std.proofs.lemmas.Int.{ints}
+use Rattle.std.proofs.Common.{◌≡◌, sym, ◌∙◌, ap, ap₂, ℕ, ℤ, pos, ◌+ℤ◌, List, [], ◌∷◌, ◌++◌}
 use Rattle.integers.proofs.Sums.{total-one_more}
-use Rattle.bounds_model.specs.Space.{SpacePoint, point_at, plus, times, weighted_sum}
+use Rattle.bounds_model.specs.Space.{SpacePoint, point_at, plus, times}
 use Rattle.bounds_model.specs.AnnulusAnswer.{WeightedPair}
-use Rattle.kernel_laws.proofs.Points.{same_point}
 use Rattle.kernel_laws.proofs.WeightedSums.{weighted_sum-one_more}
 use Rattle.pair_sums.specs.declared.sums.PairSums.{PairSums}
 use Rattle.pair_sums.specs.Sums.{Adds, AreSums}

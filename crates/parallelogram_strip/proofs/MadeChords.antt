@@ -7,7 +7,6 @@ use Rattle.integers.specs.Size.{Size}
 use Rattle.bounds_model.specs.Plane.{PlanePoint, point_at, vector, dot, turn, plus, times, quarter_turn}
 use Rattle.bounds_model.specs.ParallelogramAnswer.{IsAcross}
 use Rattle.parallelogram_strip.specs.Crossings.{IsChord}
-use Rattle.directions.proofs.Reading.{reach_parts}
 use Rattle.parallelogram_strip.proofs.Crossings.{chord_across}
 use Rattle.directions.proofs.Reading.{point_is}
 use Rattle.directions.proofs.Reaches.{dot_vector}

@@ -1,7 +1,6 @@
 -- The greatest of a number and of sums, one after another.
 use Rattle.std.proofs.Common.{◌≡◌, sym, subst, ◌∙◌, ◌⊎◌, inl, inr, ℕ, ◌+◌, ◌<◌, arith, ℤ, ◌≤ℤ◌}
 use Rattle.std.specs.Int.{int_max}
-use Rattle.std.proofs.lemmas.Int.{ints}
 use Rattle.integers.proofs.MaxMin.{left-le-max, right-le-max, pick_max}
 use Rattle.integers.proofs.Lists.{below_or_at}
 use Rattle.integers.proofs.Order.{le_trans_ℤ}

@@ -4,9 +4,9 @@ use Rattle.std.specs.Prelude.{slice_index_or, All, Contains}
 use Rattle.std.proofs.Math.Nat.{mod-eq_of_lt}
 use Rattle.std.proofs.lemmas.List.{get_or-map, length-map}
 use Rattle.std.proofs.lemmas.List.Elements.{Contains-get_or}
-use Rattle.integers.proofs.Identities.{den-ring, read, polys}
+use Rattle.integers.proofs.Identities.{read}
 use Rattle.integers.proofs.Lists.{below_or_at}
-use Rattle.bounds_model.specs.Plane.{PlanePoint, point_at, origin, vector, cross, turn, IsBefore, IsLeastPoint}
+use Rattle.bounds_model.specs.Plane.{PlanePoint, point_at, origin, turn, IsBefore, IsLeastPoint}
 use Rattle.bounds_model.specs.Hull.{around}
 use Rattle.bounds_model.specs.CornerTest.{CornersPass, FirstIsOnce, SurroundAll}
 use Rattle.polygon_check.specs.HullTests.{IsEdgeAt}

@@ -1,10 +1,8 @@
 -- Clamped numbers lead to the same judgement as the numbers themselves.
-use Rattle.std.proofs.Common.{◌≡◌, ◌∙◌, refl, sym, ap, ℕ, suc, ◌+◌, ◌*◌, min, ℤ, pos, negsuc, neg_ℤ, nat_abs, Bool, true, false, ◌&&◌, List, ◌∷◌, Option, Some, None, arith}
+use Rattle.std.proofs.Common.{◌≡◌, ◌∙◌, refl, sym, ap, ℕ, ◌+◌, ◌*◌, ℤ, nat_abs, Bool, true, false, ◌&&◌, List, ◌∷◌, Some, arith}
 use Rattle.std.specs.Prelude.{nat_le, ◌==◌}
 use Rattle.std.specs.List.{before_first, after_first}
 use Rattle.std.specs.Option.{option_map}
-use Rattle.std.proofs.lemmas.Int.{ints}
-use Rattle.std.proofs.lemmas.Bool.Decides.{nat_tests}
 use Rattle.bounds_model.specs.Ranges.{number_limit}
 use Rattle.bounds_model.specs.AnswerText.Numerals.{whole_number}
 use Rattle.bounds_model.specs.AnswerText.Fields.{number, fraction, plane_ratio, space_ratio, is_in_range}

@@ -1,5 +1,5 @@
 -- How a field is judged whose numbers are within the limit.
-use Rattle.std.proofs.Common.{◌≡◌, ◌∙◌, refl, sym, ap, ℕ, ◌≤◌, ◌^◌, ℤ, pos, negsuc, ◌≤ℤ◌, nat_abs, Bool, true, false, Ok, Err, arith, FitsSigned, to_z, of_z}
+use Rattle.std.proofs.Common.{◌≡◌, ◌∙◌, refl, sym, ap, ℕ, ◌≤◌, ◌^◌, ℤ, pos, ◌≤ℤ◌, nat_abs, Bool, true, false, Ok, Err, arith, FitsSigned, to_z, of_z}
 use Rattle.std.specs.Prelude.{nat_le}
 use Rattle.std.proofs.lemmas.Bool.{le-leb}
 use Rattle.std.specs.Int.{w128}

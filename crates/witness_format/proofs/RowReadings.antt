@@ -1,17 +1,17 @@
 -- Rows of potentials: their widths, how they are read number by number, and how they are printed.
-use Rattle.std.proofs.Common.{◌≡◌, ◌∙◌, refl, sym, ap, subst, ℕ, zero, suc, ◌+◌, ◌-◌, ◌*◌, ◌<◌, ◌≤◌, ℤ, pos, nat_abs, Bool, true, false, ◌&&◌, List, [], ◌∷◌, ◌++◌, length, map, replicate, append_assoc, Option, Some, None, Result, Ok, Err, arith}
+use Rattle.std.proofs.Common.{◌≡◌, ◌∙◌, refl, sym, ap, subst, ℕ, zero, suc, ◌+◌, ◌-◌, ◌*◌, ◌<◌, ◌≤◌, ℤ, pos, nat_abs, Bool, true, false, ◌&&◌, List, [], ◌∷◌, ◌++◌, length, append_assoc, Option, Some, None, Result, Ok, Err, arith}
 use Rattle.std.specs.Prelude.{nat_le, int_le}
 use Rattle.std.specs.List.{list_all}
 use Rattle.std.specs.Option.{option_map}
 use Rattle.std.proofs.Math.Nat.{mul-le-mul}
 use Rattle.std.proofs.lemmas.Bool.{le-leb, eq-eqb}
-use Rattle.std.proofs.lemmas.List.{append-nil, map-append}
+use Rattle.std.proofs.lemmas.List.{append-nil}
 use Rattle.bounds_model.specs.Ranges.{number_limit}
 use Rattle.bounds_model.specs.AnswerText.Numerals as steps
 use Rattle.bounds_model.specs.AnswerText.Numerals.{natural_number}
 use Rattle.bounds_model.specs.AnswerText.Fields.{natural, naturals, naturals_of, is_in_range}
 use Rattle.bounds_model.specs.AnswerText.LineFormats.{Values, values_of}
-use Rattle.bounds_model.specs.AnswerText.Formats.{Refusal, bad_answer, big_number, ◌>>=◌, Unread, line_at, rows_at}
+use Rattle.bounds_model.specs.AnswerText.Formats.{Refusal, ◌>>=◌, Unread, line_at, rows_at}
 use Rattle.bounds_model.specs.AnswerText.Kinds.{triangle}
 use Rattle.bounds_model.specs.AnswerText.Written.{row_format}
 use Rattle.text_laws.proofs.AnswerTexts.FormLaws.{read_is}
@@ -20,12 +20,11 @@ use Rattle.text_laws.proofs.AnswerTexts.RangeLaws.{two_true}
 use Rattle.text_laws.proofs.AnswerTexts.KgonKind.{sum_replicate}
 use Rattle.witness_format.specs.declared.fault.ReadFault.{ReadFault}
 use Rattle.witness_format.specs.declared.fault.ReadFault.TheVariants.{BadAnswer, BigNumber, OutOfMemory}
-use Rattle.witness_format.specs.declared.judging.Flaw.{Flaw}
 use Rattle.witness_format.specs.declared.judging.Flaw.TheVariants.{PastLimit, OutOfRange}
 use Rattle.witness_format.specs.Judging.{Judged, judged_by, seen, judged_field, field_at, fields_at}
 use Rattle.witness_format.specs.Lines.{decided, next_words}
-use Rattle.witness_format.specs.Outcomes.{Finds, RefusesOr, ReadsOr, Reads}
-use Rattle.witness_format.specs.Rows.{rows_from, row_behind, rows_behind, put_behind, worse_of, naturals_behind}
+use Rattle.witness_format.specs.Outcomes.{Finds, ReadsOr, Reads}
+use Rattle.witness_format.specs.Rows.{rows_from, row_behind, rows_behind, put_behind, naturals_behind}
 use Rattle.witness_format.proofs.LineReadings.{fields_judged, judged_values, line_by_words, finds_is, decided_seen, reads_then}
 
 -- ---- widths

@@ -1,5 +1,5 @@
 use Rattle.std.proofs.Common.{◌≡◌, ◌+◌, ◌-◌, ◌≤◌, subst, ap, Bool, false, ℤ, pos, ◌≤ℤ◌, ◌<ℤ◌, IsTrue, length, arith}
-use Rattle.std.proofs.lemmas.Int.{ints, by_lt_z}
+use Rattle.std.proofs.lemmas.Int.{by_lt_z}
 use Rattle.integers.proofs.Order.{le_from_lt}
 use Rattle.bounds_model.specs.Fans as fans
 use Rattle.bounded_coords.specs.Clouds.{points_of}

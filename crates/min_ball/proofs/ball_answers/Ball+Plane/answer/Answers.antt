@@ -1,4 +1,4 @@
-use Rattle.std.proofs.Common.{subst, sym, map, arith}
+use Rattle.std.proofs.Common.{subst, sym, arith}
 use Rattle.std.proofs.lemmas.List.{length-map}
 use Rattle.bounds_model.specs.Space.{SamePlace, flat, flat_ratio}
 use Rattle.bounds_model.specs.BallAnswer.{PassesCircle}

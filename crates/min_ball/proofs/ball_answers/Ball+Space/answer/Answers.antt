@@ -1,7 +1,7 @@
 use Rattle.std.proofs.Common.{◌≡◌, map, subst, sym, arith}
 use Rattle.std.proofs.lemmas.List.{length-map, map-id}
 use Rattle.bounds_model.specs.Space.{SpacePoint, SamePlace}
-use Rattle.bounds_model.specs.BallAnswer.{Weighted, PassesSphere}
+use Rattle.bounds_model.specs.BallAnswer.{PassesSphere}
 use Rattle.ball_sums.proofs.BallPassing.{sphere_passes}
 use Rattle.ball_sums.proofs.Means.{space_mean_is}
 use Rattle.corral.specs.Items.{first_points}
