@@ -1,5 +1,5 @@
 //! Indices in a text, and what stands before and after them.
-ghost use Rattle.std.specs.Prelude.{◌≡◌, ◌≢◌, ℕ, Bool, ◌+◌, ◌<◌, ◌==◌, None, length, drop, slice_index_or, IfSome};
+ghost use Rattle.std.specs.Prelude.{◌≡◌, ◌≢◌, ℕ, Bool, ◌+◌, ◌<◌, ◌==◌, [], None, length, take, drop, slice_index_or, IfSome, MatchOption};
 ghost use Rattle.std.specs.List.{All, before_first, after_first, position_from};
 
 use memchr::{memchr, memrchr};
@@ -25,6 +25,8 @@ pub fn last_index_of(text: &[u8], byte: u8) -> Option<usize>
 /// What stands before this index and what stands after it, or all and nothing without an index.
 pub fn parted(text: &[u8], index: Option<usize>) -> (&[u8], &[u8])
     requires { IfSome index (λ i. i < length text.now) }
+    ensures parts { MatchOption index ((result.0.now ≡ text.now) × (result.1.now ≡ []))
+        (λ i. (result.0.now ≡ take i text.now) × (result.1.now ≡ drop (i + 1) text.now)) }
     ensures before { (p : ℕ → Bool) → index ≡ position_from p 0 text.now → result.0.now ≡ before_first p text.now }
     ensures after { (p : ℕ → Bool) → index ≡ position_from p 0 text.now → result.1.now ≡ after_first p text.now }
 {

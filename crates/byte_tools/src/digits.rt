@@ -1,5 +1,5 @@
 //! The number that the digits at the start of a text write.
-ghost use Rattle.std.specs.Prelude.{◌≡◌, ◌+◌, ◌*◌, ◌<◌, ◌≤◌, ◌^◌, length, take, true};
+ghost use Rattle.std.specs.Prelude.{◌≡◌, ◌+◌, ◌*◌, ◌<◌, ◌≤◌, ◌^◌, length, take, slice_index_or, true, false};
 ghost use Rattle.std.specs.Char.{IsAsciiDigit, is_ascii_digit, digit_value};
 ghost use Rattle.std.specs.List.{list_all};
 ghost use Rattle.std.specs.Str.Parse.{digits_value};
@@ -30,11 +30,13 @@ pub fn cut_digits(limit: u32, size: u32, text: &[u8]) -> (u32, &[u8])
 /// As many digits are a number that fits 64 bits, also with one more digit behind them.
 const FEW: usize = 18;
 
-/// The number that the first digits of a text write, and how many they are. At most 18 are read.
+/// The number that the first digits of a text write, and how many they are: all that it begins with, or the first 18 of them.
 pub fn leading_number(text: &[u8]) -> (u64, usize)
     ensures number { result.0 ≡ digits_value 10 (take result.1 text.now) }
     ensures digits { list_all is_ascii_digit (take result.1 text.now) ≡ true }
     ensures within { result.1 ≤ length text.now }
+    ensures few { result.1 ≤ 18 }
+    ensures all { result.1 < 18 → result.1 < length text.now → is_ascii_digit (slice_index_or text.now result.1 0) ≡ false }
     ensures limited { result.0 < 10 ^ 18 }
 {
     let most = text.len().min(FEW);
