@@ -3,11 +3,12 @@
 These functions follow the definitions of docs/DEFINITIONS.md and nothing of the program: they try every object of a finite
 list that holds a best one, in whole numbers and fractions, and keep the best that fits. They are slow and short on purpose.
 Points of the plane are pairs, points of space are triples, of Python's whole numbers. Each function gives the printed size as a
-`Fraction`.
+`Fraction`, and those named `first_..` or `only_..` the first of the best objects, or the only one.
 """
 
 from fractions import Fraction
 from itertools import combinations, product
+from math import gcd, lcm
 
 
 def minus(a, b):
@@ -36,6 +37,47 @@ def extent(direction, points):
 def edges(points):
     """The vectors between two different points. Those along the edges of the hull are among them."""
     return {minus(b, a) for a in points for b in points if a != b}
+
+
+def lowest(d):
+    """The vector without the common factor of its entries."""
+    factor = gcd(*d)
+    return (d[0] // factor, d[1] // factor)
+
+
+def bounds(direction, points):
+    """The least and the greatest product of a point with the direction."""
+    products = [dot(direction, p) for p in points]
+    return min(products), max(products)
+
+
+def first_in_turn(directions):
+    """The first of some directions from the east on, within half a turn."""
+    first = directions[0]
+    for d in directions:
+        if cross(d, first) > 0:
+            first = d
+    return first
+
+
+def first_strip(points):
+    """The normal and the bounds of the first of the thinnest strips: of the normals from the east on, before the west, across the
+    vectors between points. Equal points have a strip with each normal, and the east comes first."""
+    normals = {lowest(n) for n in map(turned, edges(points)) if n[1] > 0 or n[1] == 0 and n[0] > 0} or {(1, 0)}
+    least = strip(points)
+    best = [n for n in normals if Fraction(extent(n, points) ** 2, dot(n, n)) == least]
+    normal = first_in_turn(best)
+    return normal, bounds(normal, points)
+
+
+def first_rectangle(points):
+    """The direction and both bounds of the first of the smallest rectangles: of the directions from the east on, before the north,
+    along the vectors between points or across them."""
+    directions = {lowest(d) for e in edges(points) for d in (e, turned(e)) if d[0] > 0 and d[1] >= 0} or {(1, 0)}
+    least = rectangle(points)
+    best = [d for d in directions if Fraction(extent(d, points) * extent(turned(d), points), dot(d, d)) == least]
+    direction = first_in_turn(best)
+    return direction, bounds(direction, points), bounds(turned(direction), points)
 
 
 def strip(points):
@@ -120,15 +162,26 @@ def hull_corners(points):
     return corners
 
 
+def twice_area(corners):
+    """Twice the area of a polygon."""
+    return sum(cross(corners[i - 1], corners[i]) for i in range(len(corners)))
+
+
 def kgon(points, k):
     """The greatest area of a polygon whose corners are at most k corners of the hull: each choice of corners is tried."""
     corners = hull_corners(points)
     best = 0
     for count in range(1, min(k, len(corners)) + 1):
-        for chosen in combinations(corners, count):
-            twice = sum(cross(chosen[i - 1], chosen[i]) for i in range(count))
-            best = max(best, twice)
+        best = max(best, max(twice_area(chosen) for chosen in combinations(corners, count)))
     return Fraction(best, 2)
+
+
+def first_kgon(points, k):
+    """The positions of the first of the largest polygons on at most k corners of the hull, in the order of lists."""
+    corners = hull_corners(points)
+    lists = [chosen for count in range(1, min(k, len(corners)) + 1) for chosen in combinations(range(len(corners)), count)]
+    greatest = kgon(points, k)
+    return min(chosen for chosen in lists if Fraction(twice_area([corners[i] for i in chosen]), 2) == greatest)
 
 
 def centres(points, p):
@@ -144,6 +197,46 @@ def centres(points, p):
         if best is None or side < best:
             best = side
     return Fraction(best, 2)
+
+
+def four_centres(points):
+    """Half the least side of four squares that cover the points. Where squares of a side cover them, each can be moved right and up
+    until its left side and its lower side meet points that it covers. So the squares with such a corner are tried, for each side that
+    is a difference of two coordinates; of those that cover the same points one is enough."""
+    points = sorted(set(points))
+    everything = 2 ** len(points) - 1
+    sides = {0} | {abs(p[axis] - q[axis]) for p, q in combinations(points, 2) for axis in (0, 1)}
+    for side in sorted(sides):
+        covered = set()
+        for left, bottom in product({x for x, _ in points}, {y for _, y in points}):
+            inside = [left <= x <= left + side and bottom <= y <= bottom + side for x, y in points]
+            covered.add(sum(2 ** i for i, is_inside in enumerate(inside) if is_inside))
+        greatest = [c for c in covered if not any(c != d and c & d == c for d in covered)]
+        for chosen in combinations(greatest, min(4, len(greatest))):
+            union = 0
+            for one in chosen:
+                union |= one
+            if union == everything:
+                return Fraction(side, 2)
+    return None
+
+
+def furthest_distance(points):
+    """The greatest squared distance of two points."""
+    return Fraction(max(dot(minus(p, q), minus(p, q)) for p, q in product(points, points)))
+
+
+def furthest_corners(points):
+    """The corners of the hull, and for each of them the position of the corner that is furthest from it, of several the first going
+    around from it: all are compared."""
+    corners = hull_corners(points)
+    count = len(corners)
+    positions = []
+    for i, corner in enumerate(corners):
+        others = [(i + step) % count for step in range(1, count)] or [0]
+        squares = [dot(minus(corners[j], corner), minus(corners[j], corner)) for j in others]
+        positions.append(others[squares.index(max(squares))])
+    return corners, positions
 
 
 def solved(rows, right):
@@ -215,3 +308,71 @@ def distance(first, second):
     """The least squared distance of the convex hulls."""
     way = shortest_way(first, second)
     return Fraction(dot(way, way))
+
+
+def open_axes(points):
+    """The axes of space that are left where each coordinate is struck that those before it determine at all points: where an axis adds
+    nothing to the rank of the vectors between points, seen along the axes before it."""
+    vectors = [minus(p, points[0]) for p in points]
+    kept = []
+    for axis in range(3):
+        if rank([[v[k] for k in kept + [axis]] for v in vectors]) > len(kept):
+            kept.append(axis)
+    return kept
+
+
+def rank(rows):
+    """How many of the rows are independent, by elimination."""
+    rows, count = [[Fraction(x) for x in row] for row in rows], 0
+    for column in range(len(rows[0])):
+        pivot = next((r for r in range(count, len(rows)) if rows[r][column] != 0), None)
+        if pivot is None:
+            continue
+        rows[count], rows[pivot] = rows[pivot], rows[count]
+        for r in range(count + 1, len(rows)):
+            factor = rows[r][column] / rows[count][column]
+            rows[r] = [x - factor * y for x, y in zip(rows[r], rows[count])]
+        count += 1
+    return count
+
+
+def shells(points):
+    """The least difference of the squared radii of two spheres of one centre, and the centres that have it. For the centre c a point
+    has the height |p|² - 2 c.p, and the difference is the greatest height less the least. It is a linear program in the centre and the
+    two heights, so one of its vertices is best, and there three pairs of points have equal heights: the centre is where the planes
+    between three pairs of points meet. Where all points lie in one plane, on one line or in one place, the difference does not depend on
+    the coordinates that others determine: these are 0, and there are fewer pairs."""
+    points = sorted(set(points))
+    axes = open_axes(points)
+    pairs = [(minus(q, p), dot(q, q) - dot(p, p)) for p, q in combinations(points, 2)]
+    best, centres = None, []
+    for chosen in combinations(pairs, len(axes)):
+        # The heights of p and q are equal at c where 2 c.(q - p) = |q|² - |p|².
+        found = solved([[2 * vector[axis] for axis in axes] for vector, _ in chosen], [square for _, square in chosen])
+        if found is None:
+            continue
+        centre = tuple(found[axes.index(axis)] if axis in axes else Fraction(0) for axis in range(3))
+        heights = [dot(p, p) - 2 * dot(centre, p) for p in points]
+        difference = max(heights) - min(heights)
+        if best is None or difference < best:
+            best, centres = Fraction(difference), []
+        if difference == best and centre not in centres:
+            centres.append(centre)
+    return best, centres
+
+
+def shell(points):
+    """The least difference of the squared radii of two spheres of one centre around the points."""
+    return shells(points)[0]
+
+
+def only_shell(points):
+    """The centre of the best shell over its least denominator, and the least and the greatest level of a point for it; None where
+    several centres are best. Coordinates that others determine are 0."""
+    centres = shells(points)[1]
+    if len(centres) > 1:
+        return None
+    height = lcm(*(x.denominator for x in centres[0]))
+    centre = tuple(int(x * height) for x in centres[0])
+    levels = [height * dot(p, p) - 2 * dot(centre, p) for p in points]
+    return (*centre, height), (min(levels), max(levels))

@@ -1,6 +1,6 @@
 """Small sets of points with the best sizes that trying everything finds: as rows for crates/rows, or put to a built program.
 
-    python3 bench/small_sets.py rows                  writes the table small of crates/rows/data
+    python3 bench/small_sets.py rows                  writes the tables small and ties of crates/rows/data
     python3 bench/small_sets.py run --rounds 20       puts 20 times 25 other sets of each kind to the program
     python3 bench/small_sets.py self --rounds 20      puts other directions to the brute force itself
 
@@ -21,7 +21,7 @@ TOP = os.path.join(os.path.dirname(os.path.abspath(__file__)), '..')
 TABLES = os.path.join(TOP, 'crates', 'rows', 'data')
 PROGRAM = os.path.join(TOP, 'crates', 'bounds', 'out', 'bounds')
 PLANE_KINDS = ['circle', 'rectangle', 'parallelogram', 'strip', 'annulus', 'empty', 'centres', 'kgon']
-KINDS = PLANE_KINDS + ['sphere', 'distance']
+KINDS = PLANE_KINDS + ['sphere', 'distance', 'furthest', 'centres4', 'shell']
 SETS = 25
 # The greatest coordinates of the plane and of space.
 PLANE, SPACE = 200000, 8000
@@ -117,6 +117,18 @@ def set_and_copy(rng):
     return points, moved(points, draw(rng, 3, 1, 5)[0])
 
 
+# Sets that four squares don't cover so easily, of at most twelve points. Those of the plane follow them.
+FOUR_SHAPES = [
+    ('twelve points of a grid of 25', lambda rng: draw(rng, 2, 12, 2)),
+    ('twelve points within nine', lambda rng: draw(rng, 2, 12, 9)),
+    ('four clusters', lambda rng: [p for _ in range(4) for p in moved(draw(rng, 2, 3, 2), draw(rng, 2, 1, 30)[0])]),
+    ('five clusters', lambda rng: [p for _ in range(5) for p in moved(draw(rng, 2, 2, 2), draw(rng, 2, 1, 30)[0])]),
+    ('twelve points of two columns', lambda rng: [(rng.randint(0, 1), rng.randint(-12, 12)) for _ in range(12)]),
+    ('twelve points of a falling line', lambda rng: [(x, rng.randint(-1, 1) - x) for x in rng.sample(range(-20, 20), 12)]),
+    ('twelve points of the whole range', lambda rng: draw(rng, 2, 12, PLANE)),
+    ('a turned cross', lambda rng: around(draw(rng, 2, 3, 12))),
+]
+
 # Each shape gives two sets of points of space, of at most five points each.
 PAIR_SHAPES = [
     ('one point each', lambda rng: (draw(rng, 3, 1, 9), draw(rng, 3, 1, 9))),
@@ -148,7 +160,13 @@ BEST_SIZE = {
     'parallelogram': brute_force.parallelogram,
     'strip': brute_force.strip,
     'annulus': brute_force.annulus,
+    'furthest': brute_force.furthest_distance,
+    'centres4': brute_force.four_centres,
+    'shell': brute_force.shell,
 }
+
+# The shapes of the sets of a kind, where they aren't those of the plane.
+SHAPES = {'sphere': SPACE_SHAPES, 'shell': SPACE_SHAPES, 'centres4': FOUR_SHAPES + PLANE_SHAPES}
 
 
 class Case:
@@ -161,10 +179,16 @@ class Case:
             shape, self.sets = self.chosen(PAIR_SHAPES, rng, number)
             self.size = brute_force.distance(*self.sets)
         else:
-            shape, points = self.chosen(SPACE_SHAPES if kind == 'sphere' else PLANE_SHAPES, rng, number)
+            shape, points = self.chosen(SHAPES.get(kind, PLANE_SHAPES), rng, number)
             self.sets = (points,)
             self.size = self.size_of_one(points, rng)
-        self.name = f'{kind} of {shape}, set {number + 1}'
+        self.name = f'{self.what()} of {shape}, set {number + 1}'
+
+    def what(self):
+        return {'centres4': 'four squares', 'furthest': 'furthest corners'}.get(self.kind, self.kind)
+
+    def command(self):
+        return 'centres' if self.kind == 'centres4' else self.kind
 
     @staticmethod
     def chosen(shapes, rng, number):
@@ -187,13 +211,90 @@ class Case:
             k = rng.randint(3, 6)
             self.options = ['--k', str(k)]
             return brute_force.kgon(points, k)
+        if self.kind == 'centres4':
+            self.options = ['--p', '4']
         return BEST_SIZE[self.kind](points)
 
     def text(self):
         return '---\n'.join(''.join(' '.join(map(str, p)) + '\n' for p in points) for points in self.sets)
 
     def beginning(self):
-        return f'answer 1 {self.kind}\nsize {self.size.numerator}/{self.size.denominator}\n'
+        """The first lines of the answer: up to the witness where the definition fixes the object, else up to the size."""
+        size = f'answer 1 {self.kind}\nsize {self.size.numerator}/{self.size.denominator}\n'
+        if self.kind == 'strip':
+            return size + 'direction %d %d\nbounds %d %d\n' % flat(brute_force.first_strip(*self.sets))
+        if self.kind == 'rectangle':
+            return size + 'direction %d %d\nalong %d %d\nacross %d %d\n' % flat(brute_force.first_rectangle(*self.sets))
+        if self.kind == 'kgon':
+            return size + polygon_lines(self.sets[0], int(self.options[1]))
+        if self.kind == 'centres4':
+            return size + 'squares 4\n'
+        if self.kind == 'furthest':
+            return size + furthest_lines(self.sets[0])
+        if self.kind == 'shell' and (only := brute_force.only_shell(*self.sets)):
+            return size + 'center %d %d %d %d\nlevels %d %d\n' % flat(only)
+        return size
+
+
+def flat(pairs):
+    return tuple(x for pair in pairs for x in pair)
+
+
+def polygon_lines(points, k):
+    """The corners and the chosen positions. Where points are equal, how many corners there are."""
+    corners = brute_force.hull_corners(points)
+    if len(set(points)) < len(points):
+        return f'corners {len(corners)}\n'
+    chosen = brute_force.first_kgon(points, k)
+    numbers = [points.index(c) for c in corners]
+    return ''.join(f'{line}\n' for line in [f'corners {len(corners)}', *numbers, f'chosen {len(chosen)}', *chosen])
+
+
+def furthest_lines(points):
+    """The rest of the answer: of equal points the first has the number of their corner."""
+    corners, positions = brute_force.furthest_corners(points)
+    lines = [f'{points.index(corner)} {position}' for corner, position in zip(corners, positions)]
+    return ''.join(f'{line}\n' for line in [f'corners {len(corners)}', *lines, 'end'])
+
+
+def around(directions):
+    """Each of these vectors, turned by each number of right angles, in an order that is not that of the hull."""
+    turned = brute_force.turned
+    return [p for d in directions for p in (turned(turned(d)), d, turned(turned(turned(d))), turned(d))]
+
+
+# Sets with many best objects.
+TIES = [
+    ('a square', [(0, 0), (1, 0), (1, 1), (0, 1)]),
+    ('a square and its middle', [(3, 3), (0, 0), (0, 6), (6, 6), (6, 0)]),
+    ('a tilted square', [(0, 1), (1, 0), (2, 1), (1, 2)]),
+    ('a square with points on its sides', [(x, y) for x in range(4) for y in range(4)]),
+    ('two crossed squares', around([(2, 2), (3, 0)])),
+    ('an octagon', around([(2, 1), (1, 2)])),
+    ('a turned octagon', around([(3, 1), (1, 2)])),
+    ('twelve points of a circle', around([(5, 0), (4, 3), (3, 4)])),
+    ('a hexagon', [(2, 0), (1, 1), (-1, 1), (-2, 0), (-1, -1), (1, -1)]),
+    ('a long hexagon', [(0, 0), (4, 0), (6, 3), (6, 7), (2, 7), (0, 4)]),
+    ('two crossed rectangles', around([(4, 1)]) + around([(1, 4)])),
+    ('a star of equal rectangles', [(10, 5), (10, -5), (-10, 5), (-10, -5), (5, 10), (5, -10), (-5, 10), (-5, -10), (11, 2), (-11, -2), (2, -11), (-2, 11)]),
+    ('a triangle of equal heights', [(0, 0), (4, 0), (2, 3), (2, -3)]),
+    ('two points far apart', [(PLANE, -PLANE), (-PLANE, PLANE)]),
+    ('the corners of the plane', [(PLANE, PLANE), (-PLANE, PLANE), (PLANE, -PLANE), (-PLANE, -PLANE)]),
+]
+
+
+class Tie(Case):
+    """A set with many best objects, which is the same at each run."""
+
+    def __init__(self, kind, name, points, options=()):
+        self.kind, self.options, self.sets = kind, list(options), (points,)
+        self.size = brute_force.kgon(points, int(self.options[1])) if kind == 'kgon' else BEST_SIZE[kind](points)
+        self.name = ' '.join([kind, 'of', name] + (['with', *options] if options else []))
+
+
+def ties():
+    asks = [('strip', ()), ('rectangle', ()), ('kgon', ('--k', '3')), ('kgon', ('--k', '4')), ('kgon', ('--k', '5'))]
+    return [Tie(kind, name, points, options) for kind, options in asks for name, points in TIES]
 
 
 def random_frame(points, rng):
@@ -214,22 +315,26 @@ def cases(kind, seed):
     return [Case(kind, rng, number) for number in range(SETS)]
 
 
+TIES_HEAD = '''# Sets with many best strips, rectangles or polygons, of which the answer has the first. Made by bench/small_sets.py; the objects come
+# from bench/brute_force.py, which tries every one, and not from the program.
+
+'''
+
 HEAD = '''# Small sets of points with the best size that trying every object of the definition finds. Made by bench/small_sets.py, which says
 # how; the sizes come from bench/brute_force.py and not from the program.
 
 '''
 
 
-def write_table(name, kinds):
-    lines = [HEAD]
-    for kind in kinds:
-        for case in cases(kind, 0):
-            lines.append(f'row {case.name}\n')
-            lines.append(' '.join(['words', kind, 'a'] + case.options) + '\n')
-            lines.append('pieces 4096\n')
-            lines.append('file a ' + case.text().replace('\n', '\\n') + '\n')
-            lines.append('begins ' + case.beginning().replace('\n', '\\n') + '\n')
-            lines.append('checked\n\n')
+def write_table(name, head, rows):
+    lines = [head]
+    for case in rows:
+        lines.append(f'row {case.name}\n')
+        lines.append(' '.join(['words', case.command(), 'a'] + case.options) + '\n')
+        lines.append('pieces 4096\n')
+        lines.append('file a ' + case.text().replace('\n', '\\n') + '\n')
+        lines.append('begins ' + case.beginning().replace('\n', '\\n') + '\n')
+        lines.append('checked\n\n')
     with open(os.path.join(TABLES, name), 'w') as file:
         file.write(''.join(lines).rstrip('\n') + '\n')
 
@@ -249,10 +354,10 @@ def try_program(program, kinds, rounds, first):
                 for case in cases(kind, seed):
                     with open(points, 'w') as file:
                         file.write(case.text())
-                    status, out, err = run([program, kind, points] + case.options)
+                    status, out, err = run([program, case.command(), points] + case.options)
                     with open(answer, 'w') as file:
                         file.write(out)
-                    verdict = run([program, 'check', points, answer, '--kind', kind] + case.options)
+                    verdict = run([program, 'check', points, answer, '--kind', case.command()] + case.options)
                     tried += 1
                     if status != 0 or not out.startswith(case.beginning()) or verdict != (0, 'yes\n', ''):
                         wrong += 1
@@ -262,9 +367,10 @@ def try_program(program, kinds, rounds, first):
 
 
 def try_brute_force(rounds):
-    """Puts to the brute force strips, rectangles and parallelograms of other directions and annuli around other places: none is smaller.
-    And two hulls are not nearer than the shortest way between them: as seen along it, each point of one set is at least as far from
-    each of the other."""
+    """Puts to the brute force strips, rectangles and parallelograms of other directions, annuli and shells around other places, and four
+    squares over each way to share six points out to them: none is smaller. No two points are farther apart than a corner and its
+    furthest one. And two hulls are not nearer than the shortest way between them: as seen along it, each point of one set is at least
+    as far from each of the other."""
     normals = [(x, y) for x in range(-7, 8) for y in range(-7, 8) if (x, y) > (0, 0)]
     better = 0
     for seed in range(rounds):
@@ -289,12 +395,26 @@ def try_brute_force(rounds):
             better += rectangles < brute_force.rectangle(points)
             better += parallelograms < brute_force.parallelogram(points)
             better += annuli < brute_force.annulus(points)
+            better += brute_force.centres(points[:6], 4) < brute_force.four_centres(points[:6])
+            better += brute_force.furthest_distance(points) > farthest_corners(points)
+        for _, make in SPACE_SHAPES:
+            points = make(rng)
+            places = [(x, y, z) for x in range(-5, 6) for y in range(-5, 6) for z in range(-5, 6)]
+            heights = [[brute_force.dot(p, p) - brute_force.dot(c, p) for p in set(points)] for c in places]
+            better += min(max(h) - min(h) for h in heights) < brute_force.shell(points)
         for _, make in PAIR_SHAPES:
             first, second = make(rng)
             way = brute_force.shortest_way(first, second)
             along = min(brute_force.dot(way, brute_force.minus(p, q)) for p in first for q in second)
             better += along < brute_force.dot(way, way)
-    print(f'{rounds * (len(PLANE_SHAPES) + len(PAIR_SHAPES))} sets, {better} with something better')
+    print(f'{rounds * (len(PLANE_SHAPES) + len(SPACE_SHAPES) + len(PAIR_SHAPES))} sets, {better} with something better')
+
+
+def farthest_corners(points):
+    """The greatest squared distance of a corner of the hull from the one that is named for it."""
+    corners, positions = brute_force.furthest_corners(points)
+    ways = [brute_force.minus(corner, corners[position]) for corner, position in zip(corners, positions)]
+    return max(brute_force.dot(way, way) for way in ways)
 
 
 def main():
@@ -306,7 +426,8 @@ def main():
     parser.add_argument('--first', type=int, default=1, help='the seed of the first round; the rows have 0')
     words = parser.parse_args()
     if words.what == 'rows':
-        write_table('small', KINDS)
+        write_table('small', HEAD, [case for kind in KINDS for case in cases(kind, 0)])
+        write_table('ties', TIES_HEAD, ties())
     elif words.what == 'run':
         try_program(words.program, words.kinds, words.rounds, words.first)
     else:

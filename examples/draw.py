@@ -1,18 +1,19 @@
-"""Draws points, an answer's object and its witness as an SVG.
+"""Draws points, an answer's object and its witness as an SVG, for all thirteen kinds and both formats of answers.
 
     python3 examples/draw.py examples/sites.txt answer.txt > answer.svg
     python3 examples/draw.py examples/masts.txt answer.txt --box=0,0,1000,700 > answer.svg
 
 Points are dark, the object is blue, and red are the points that hold the object in place, or that are too far apart for smaller
-squares. Answers in space are seen from the side and a little from above. The frame of an empty rectangle isn't written in its answer,
-so `--box` gives it.
+squares, or furthest apart. Answers in space are seen from the side and a little from above. The frame of an empty rectangle isn't written
+in its answer, so `--box` gives it, in units of the file.
 """
 
 import argparse
 import math
-from fractions import Fraction
 
-from read_answer import place, read_answer, read_points
+from formats import cross, dot, place, square_of_way, squared_radii, turned
+from read_answer import add_files, read_both
+from why_no import frame
 
 WIDTH, HEIGHT, MARGIN = 320, 240, 16
 INK, OBJECT, WITNESS, HULL = '#333333', '#1f6feb', '#d1242f', '#8c959f'
@@ -98,7 +99,7 @@ class Picture:
 
 def corner(u, a, v, b):
     """The point whose product with u is a, and with v is b."""
-    determinant = u[0] * v[1] - u[1] * v[0]
+    determinant = cross(u, v)
     return (a * v[1] - b * u[1]) / determinant, (b * u[0] - a * v[0]) / determinant
 
 
@@ -108,29 +109,25 @@ def between(picture, u, u_bounds, v, v_bounds, points, line=OBJECT):
     corners = [corner(u, u_bounds[i], v, v_bounds[j]) for i, j in order]
     picture.polygon(corners, line, OBJECT)
     for p in points:
-        if any(p[0] * n[0] + p[1] * n[1] in bounds for n, bounds in ((u, u_bounds), (v, v_bounds))):
+        if any(dot(p, n) in bounds for n, bounds in ((u, u_bounds), (v, v_bounds))):
             picture.dot(p, WITNESS, 3.5)
     return corners
 
 
-def numbers(words):
-    return tuple(map(int, words))
-
-
-def draw_ball(picture, parts, sets):
-    center, radius = seen(place(parts['center'])), math.sqrt(Fraction(parts['size'][0]))
+def draw_ball(picture, answer, sets):
+    center, radius = seen(place(answer.parts['center'][0])), math.sqrt(answer.own_size)
     picture.circle(center, radius, OBJECT, OBJECT)
     picture.dot(center, OBJECT)
-    for support, _ in parts['supports lines']:
-        p = seen(sets[0][int(support)])
+    for support, _ in answer.parts['supports']:
+        p = seen(sets[0][support])
         picture.line(center, p, WITNESS, dash='dashed')
         picture.dot(p, WITNESS, 3.5)
 
 
-def draw_strip(picture, parts, sets):
-    u, bounds = numbers(parts['direction']), numbers(parts['bounds'])
-    along = (-u[1], u[0])
-    products = [p[0] * along[0] + p[1] * along[1] for p in sets[0]]
+def draw_strip(picture, answer, sets):
+    u, bounds = answer.parts['direction'], answer.parts['bounds']
+    along = turned(u)
+    products = [dot(p, along) for p in sets[0]]
     length = max(products) - min(products) or 1
     ends = [min(products) - length / 12, max(products) + length / 12]
     low_start, high_start, high_end, low_end = between(picture, u, bounds, along, ends, sets[0], 'none')
@@ -138,50 +135,75 @@ def draw_strip(picture, parts, sets):
     picture.line(high_start, high_end, OBJECT)
 
 
-def draw_rectangle(picture, parts, sets):
-    u = numbers(parts['direction'])
-    between(picture, u, numbers(parts['along']), (-u[1], u[0]), numbers(parts['across']), sets[0])
+def draw_rectangle(picture, answer, sets):
+    u = answer.parts['direction']
+    between(picture, u, answer.parts['along'], turned(u), answer.parts['across'], sets[0])
 
 
-def draw_parallelogram(picture, parts, sets):
-    first, second = numbers(parts['first']), numbers(parts['second'])
+def draw_parallelogram(picture, answer, sets):
+    first, second = answer.parts['first'], answer.parts['second']
     between(picture, first[:2], first[2:], second[:2], second[2:], sets[0])
 
 
-def draw_annulus(picture, parts, sets):
-    center = seen(place(parts['center']))
-    for word in ('outer', 'inner'):
-        picture.circle(center, math.sqrt(Fraction(parts[word][0])), OBJECT, OBJECT if word == 'outer' else 'white')
+def draw_ring(picture, answer, sets):
+    """An annulus, or a shell seen from the side, with the outer sphere's equator."""
+    parts = answer.parts
+    middle = place(parts['center'][0])
+    center = seen(middle)
+    inner, outer = squared_radii(parts) if answer.kind == 'shell' else (parts['inner'][0], parts['outer'][0])
+    picture.circle(center, math.sqrt(outer), OBJECT, OBJECT)
+    picture.circle(center, math.sqrt(inner), OBJECT, 'white')
+    if answer.kind == 'shell':
+        radius, turns = math.sqrt(outer), [math.tau * i / 72 for i in range(72)]
+        equator = [(middle[0] + radius * math.cos(turn), middle[1] + radius * math.sin(turn), middle[2]) for turn in turns]
+        picture.polygon([seen(p) for p in equator], HULL, dash='dashed')
     picture.dot(center, OBJECT)
-    for outer, inner, _ in parts['pairs lines']:
-        picture.line(sets[0][int(outer)], sets[0][int(inner)], WITNESS, dash='dashed')
-        picture.dot(sets[0][int(outer)], WITNESS, 3.5)
-        picture.dot(sets[0][int(inner)], WITNESS, 3.5)
+    for outer_point, inner_point, _ in parts['pairs']:
+        a, b = seen(sets[0][outer_point]), seen(sets[0][inner_point])
+        picture.line(a, b, WITNESS, dash='dashed')
+        picture.dot(a, WITNESS, 3.5)
+        picture.dot(b, WITNESS, 3.5)
 
 
-def draw_empty(picture, parts, sets):
-    left, bottom, right, top = numbers(parts['rectangle'])
+def draw_empty(picture, answer, sets):
+    left, bottom, right, top = answer.parts['rectangle']
     picture.polygon([(left, bottom), (right, bottom), (right, top), (left, top)], OBJECT, OBJECT)
     for side in ('left', 'bottom', 'right', 'top'):
-        if parts[side][0] != 'box':
-            picture.dot(sets[0][int(parts[side][0])], WITNESS, 3.5)
+        (rests,) = answer.parts[side]
+        if rests != 'box':
+            picture.dot(sets[0][rests], WITNESS, 3.5)
 
 
-def draw_kgon(picture, parts, sets):
-    corners = [sets[0][int(line[0])] for line in parts['corners lines']]
+def draw_kgon(picture, answer, sets):
+    corners = [sets[0][number] for (number,) in answer.parts['corners']]
     picture.polygon(corners, HULL, dash='dashed')
-    chosen = [corners[int(line[0])] for line in parts['chosen lines']]
+    chosen = [corners[position] for (position,) in answer.parts['chosen']]
     picture.polygon(chosen, OBJECT, OBJECT)
     for p in chosen:
         picture.dot(p, WITNESS, 3.5)
 
 
-def draw_distance(picture, parts, sets):
+def draw_furthest(picture, answer, sets):
+    """The hull, and a line from each corner to the one furthest from it; the longest of these are red."""
+    corners = [sets[0][number] for number, _ in answer.parts['corners']]
+    picture.polygon(corners, HULL, dash='dashed')
+    lines = [(corner, corners[far]) for corner, (_, far) in zip(corners, answer.parts['corners'])]
+    for a, b in lines:
+        picture.line(a, b, OBJECT)
+    for a, b in lines:
+        if square_of_way(a, b) == answer.own_size:
+            picture.line(a, b, WITNESS)
+            picture.dot(a, WITNESS, 3.5)
+            picture.dot(b, WITNESS, 3.5)
+
+
+def draw_distance(picture, answer, sets):
+    parts = answer.parts
     for points in sets:
         picture.polygon(hull([seen(p) for p in points]), HULL, HULL)
-    start, end = seen(place(parts['from'])), seen(place(parts['to']))
+    start, end = seen(place(parts['from'][0])), seen(place(parts['to'][0]))
     for side in (0, 1):
-        named = [seen(sets[side][int(line[side])]) for line in parts['pairs lines']]
+        named = [seen(sets[side][pair[side]]) for pair in parts['pairs']]
         picture.polygon(hull(named), WITNESS, dash='dashed')
         for p in named:
             picture.dot(p, WITNESS, 3.5)
@@ -190,13 +212,14 @@ def draw_distance(picture, parts, sets):
     picture.dot(end, OBJECT, 3)
 
 
-def draw_centres(picture, parts, sets):
-    radius = float(Fraction(parts['size'][0]))
-    for line in parts['squares lines']:
-        x, y = seen(place(line))
+def draw_centres(picture, answer, sets):
+    """The squares, and the two points of each leaf once."""
+    radius = float(answer.own_size)
+    for (centre,) in answer.parts['squares']:
+        x, y = seen(place(centre))
         picture.polygon([(x + i * radius, y + j * radius) for i, j in ((-1, -1), (1, -1), (1, 1), (-1, 1))], OBJECT, OBJECT)
-    for line in parts.get('leaves lines', []):
-        a, b = (sets[0][int(number)] for number in line)
+    for leaf in dict.fromkeys(map(tuple, answer.parts['leaves'])):
+        a, b = (sets[0][number] for number in leaf)
         picture.line(a, b, WITNESS, dash='dashed')
         picture.dot(a, WITNESS, 3.5)
         picture.dot(b, WITNESS, 3.5)
@@ -208,28 +231,28 @@ DRAWN = {
     'strip': draw_strip,
     'rectangle': draw_rectangle,
     'parallelogram': draw_parallelogram,
-    'annulus': draw_annulus,
+    'annulus': draw_ring,
     'empty': draw_empty,
     'kgon': draw_kgon,
     'distance': draw_distance,
     'centres': draw_centres,
+    'furthest': draw_furthest,
+    'shell': draw_ring,
 }
 
 
 def main():
     parser = argparse.ArgumentParser(description='Draws an answer as an SVG.')
-    parser.add_argument('points', help='a point file')
-    parser.add_argument('answer', help='an answer file')
-    parser.add_argument('--box', help='the frame of an empty rectangle: left, bottom, right, top')
+    add_files(parser)
+    parser.add_argument('--box', type=frame, metavar='L,B,R,T', help='the frame of an empty rectangle, in units of the file, written --box=L,B,R,T')
     words = parser.parse_args()
-    sets = read_points(words.points)
-    kind, parts = read_answer(words.answer)
+    answer, file = read_both(words)
     picture = Picture()
     if words.box:
-        left, bottom, right, top = numbers(words.box.split(','))
+        left, bottom, right, top = words.box
         picture.polygon([(left, bottom), (right, bottom), (right, top), (left, top)], HULL, dash='dashed')
-    DRAWN[kind](picture, parts, sets)
-    for points in sets:
+    DRAWN[answer.kind](picture, answer, file.sets)
+    for points in file.sets:
         for p in points:
             picture.dot(seen(p), INK)
     print(picture.svg(), end='')

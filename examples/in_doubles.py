@@ -6,11 +6,12 @@ Each of the three point files beside this script is small, and each result is ju
 written here as textbooks have them; no library is run.
 """
 
+import argparse
 import math
 import os
 from fractions import Fraction
 
-from read_answer import read_points, square_of_way
+from formats import read_points, square_of_way
 
 
 def extents(points, ux, uy):
@@ -91,6 +92,7 @@ def example(name):
 
 
 def main():
+    argparse.ArgumentParser(description='Runs three textbook algorithms in doubles on files beside this script.').parse_args()
     points = example('needle.txt')
     area, u = smallest_rectangle(points)
     print(f'needle.txt: the rectangle along {u} has the area {area!r} in doubles, and {rectangle_of(points, u)} in fractions')

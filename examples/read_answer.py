@@ -2,50 +2,15 @@
 
     python3 examples/read_answer.py examples/sites.txt answer.txt
 
-It says whether the object fits the points and has the printed size. That nothing is better is what the witness shows, which
-`bounds check` tests and this does not.
+It says whether the object fits the points and has the printed size, for all thirteen kinds and both formats. That nothing is better is what
+the witness shows, which `bounds check` and `why_no.py` test and this does not.
 """
 
+import argparse
 import sys
 from fractions import Fraction
 
-
-def read_points(path):
-    """The sets of points of a file, each a list of tuples."""
-    sets = [[]]
-    for line in open(path, 'rb').read().decode('latin-1').split('\n'):
-        fields = line.split('#')[0].split()
-        if fields == ['---']:
-            sets.append([])
-        elif fields:
-            sets[-1].append(tuple(map(int, fields)))
-    return sets
-
-
-def dot(a, b):
-    return sum(x * y for x, y in zip(a, b))
-
-
-def square_of_way(a, b):
-    return sum((x - y) ** 2 for x, y in zip(a, b))
-
-
-def place(words):
-    """The point x/w, y/w of `x y w`, or that of space of `x y z w`."""
-    *numbers, w = map(int, words)
-    return tuple(Fraction(n, w) for n in numbers)
-
-
-def read_answer(path):
-    """The kind, and for each word that begins a line what stands behind it there and in the lines below it."""
-    lines = [line.split() for line in open(path).read().splitlines()]
-    parts, current = {}, None
-    for words in lines[1:]:
-        if words[0][0].isalpha():
-            parts[words[0]], current = words[1:], words[0]
-        else:
-            parts.setdefault(current + ' lines', []).append(words)
-    return lines[0][2], parts
+from formats import Refused, cross, dot, minus, place, read_answer, read_point_file, square_of_way, squared_radii, turned
 
 
 def spans(normal, low, high, points):
@@ -53,60 +18,116 @@ def spans(normal, low, high, points):
     return high - low, all(low <= dot(normal, p) <= high for p in points)
 
 
-def recomputed(kind, parts, sets):
-    """The size of the object that an answer names, and whether the object fits the points."""
-    points = sets[0]
+def surrounded(corners, points):
+    """Whether all points are to the left of each edge of a polygon, or on it."""
+    edges = list(zip(corners, corners[1:] + corners[:1]))
+    return all(cross(minus(b, a), minus(p, a)) >= 0 for a, b in edges for p in points)
+
+
+def recomputed(answer, sets):
+    """The size of the object that an answer names, in units of the file, and whether the object fits the points."""
+    kind, parts, size, points = answer.kind, answer.parts, answer.own_size, sets[0]
     if kind in ('circle', 'sphere'):
-        center, size = place(parts['center']), Fraction(parts['size'][0])
-        support = points[int(parts['supports lines'][0][0])]
-        return square_of_way(support, center), all(square_of_way(p, center) <= size for p in points)
+        center, (support, _) = place(parts['center'][0]), parts['supports'][0]
+        return square_of_way(points[support], center), all(square_of_way(p, center) <= size for p in points)
     if kind == 'strip':
-        u = tuple(map(int, parts['direction']))
-        width, fits = spans(u, *map(int, parts['bounds']), points)
-        return Fraction(width**2, dot(u, u)), fits
+        u = parts['direction']
+        width, fits = spans(u, *parts['bounds'], points)
+        return Fraction(width**2, dot(u, u) or 1), fits and any(u)
     if kind == 'rectangle':
-        u = tuple(map(int, parts['direction']))
-        along, fits_along = spans(u, *map(int, parts['along']), points)
-        across, fits_across = spans((-u[1], u[0]), *map(int, parts['across']), points)
-        return Fraction(along * across, dot(u, u)), fits_along and fits_across
+        u = parts['direction']
+        along, fits_along = spans(u, *parts['along'], points)
+        across, fits_across = spans(turned(u), *parts['across'], points)
+        return Fraction(along * across, dot(u, u) or 1), fits_along and fits_across and any(u)
     if kind == 'parallelogram':
-        (a, b, *first), (c, d, *second) = (map(int, parts[word]) for word in ('first', 'second'))
+        (a, b, *first), (c, d, *second) = parts['first'], parts['second']
         one, fits_one = spans((a, b), *first, points)
         other, fits_other = spans((c, d), *second, points)
-        return Fraction(one * other, abs(a * d - b * c)), fits_one and fits_other
-    if kind == 'annulus':
-        center, inner, outer = place(parts['center']), Fraction(parts['inner'][0]), Fraction(parts['outer'][0])
+        return Fraction(one * other, abs(a * d - b * c) or 1), fits_one and fits_other and a * d != b * c
+    if kind in ('annulus', 'shell'):
+        center = place(parts['center'][0])
+        inner, outer = squared_radii(parts) if kind == 'shell' else (parts['inner'][0], parts['outer'][0])
         return outer - inner, all(inner <= square_of_way(p, center) <= outer for p in points)
     if kind == 'empty':
-        left, bottom, right, top = map(int, parts['rectangle'])
+        left, bottom, right, top = parts['rectangle']
         inside = any(left < x < right and bottom < y < top for x, y in points)
         return Fraction((right - left) * (top - bottom)), not inside
     if kind == 'kgon':
-        corners = [points[int(line[0])] for line in parts['corners lines']]
-        chosen = [corners[int(line[0])] for line in parts['chosen lines']]
-        edges = zip(corners, corners[1:] + corners[:1])
-        around = all((b[0] - a[0]) * (y - a[1]) >= (b[1] - a[1]) * (x - a[0]) for a, b in edges for x, y in points)
-        return Fraction(sum(a[0] * b[1] - a[1] * b[0] for a, b in zip(chosen, chosen[1:] + chosen[:1])), 2), around
+        corners = [points[number] for (number,) in parts['corners']]
+        chosen = [corners[position] for (position,) in parts['chosen']]
+        area = Fraction(sum(cross(a, b) for a, b in zip(chosen, chosen[1:] + chosen[:1])), 2)
+        return area, surrounded(corners, points)
+    if kind == 'furthest':
+        corners = [points[number] for number, _ in parts['corners']]
+        ways = [square_of_way(corner, corners[far]) for corner, (_, far) in zip(corners, parts['corners'])]
+        furthest = all(square_of_way(corner, p) <= way for corner, way in zip(corners, ways) for p in points)
+        return Fraction(max(ways)), furthest and surrounded(corners, points)
     if kind == 'distance':
-        pairs = [tuple(map(int, line)) for line in parts['pairs lines']]
-        total = sum(weight for _, _, weight in pairs)
-        ends = []
+        pairs, ends = parts['pairs'], []
+        total = sum(weight for *_, weight in pairs) or 1
         for side in (0, 1):
-            chosen = [(sets[side][pair[side]], pair[2]) for pair in pairs]
-            ends.append(tuple(Fraction(sum(p[i] * weight for p, weight in chosen), total) for i in range(3)))
-        return square_of_way(*ends), ends == [place(parts['from']), place(parts['to'])]
-    squares, size = [place(line) for line in parts['squares lines']], Fraction(parts['size'][0])
+            ends.append(tuple(Fraction(sum(sets[side][pair[side]][i] * pair[2] for pair in pairs), total) for i in range(3)))
+        return square_of_way(*ends), ends == [place(parts['from'][0]), place(parts['to'][0])]
+    squares = [place(centre) for (centre,) in parts['squares']]
     reaches = [min(max(abs(x - a), abs(y - b)) for a, b in squares) for x, y in points]
-    return max(reaches), max(reaches) <= size
+    # Squares of one size are as large as the reach of the furthest point calls for.
+    return Fraction(max(reaches)), max(reaches) <= size
+
+
+def read_both(words):
+    """The answer and the point file that two words name; or a line that says why not, and an end with its status."""
+    try:
+        answer = read_answer(words.answer)
+        file = read_point_file(words.points, answer.kind, words.form)
+        if answer.scale != file.scale:
+            raise Refused(f'the answer is at the scale {answer.scale}, and the point file at {file.scale}', 1)
+        named = largest_numbers(answer)
+        for points, number in zip(file.sets, named):
+            if number >= len(points):
+                raise Refused(f'the answer names the point {number}, and there are {len(points)}', 1)
+        return answer, file
+    except Refused as refused:
+        print(f'{sys.argv[0].rpartition("/")[2]}: {refused.line}', file=sys.stderr)
+        sys.exit(refused.status)
+
+
+def largest_numbers(answer):
+    """The largest number of a point that an answer names, of each set; it is -1 where none is named. A position that is none of a corner
+    counts as a number that no point has."""
+    kind, parts = answer.kind, answer.parts
+    if kind in ('circle', 'sphere'):
+        return [max(number for number, _ in parts['supports'])]
+    if kind in ('strip', 'rectangle', 'parallelogram'):
+        columns = {'strip': (2, 4), 'rectangle': (2, 6), 'parallelogram': (2, 7)}[kind]
+        numbers = [number for line in parts['fan'] for number in line[slice(*columns)]]
+        return [max(numbers + (parts['last'][2:5] if kind == 'parallelogram' else []))]
+    if kind == 'distance':
+        return [max(pair[side] for pair in parts['pairs']) for side in (0, 1)]
+    if kind in ('annulus', 'shell'):
+        return [max(max(pair[:2]) for pair in parts['pairs'])]
+    if kind == 'empty':
+        return [max([parts[side][0] for side in ('left', 'bottom', 'right', 'top') if parts[side][0] != 'box'], default=-1)]
+    if kind == 'centres':
+        return [max([number for leaf in parts['leaves'] for number in leaf], default=-1)]
+    positions = [position for (position,) in parts['chosen']] if kind == 'kgon' else [far for _, far in parts['corners']]
+    return [max(line[0] for line in parts['corners']) if max(positions) < len(parts['corners']) else 10000]
+
+
+def add_files(parser):
+    parser.add_argument('points', help='a point file')
+    parser.add_argument('answer', help='an answer file: what `bounds KIND POINTS` printed, without --brief')
+    parser.add_argument('--form', choices=('text', 'csv'), default='text', help='how the point file is written')
 
 
 def main():
-    sets = read_points(sys.argv[1])
-    kind, parts = read_answer(sys.argv[2])
-    size, fits = recomputed(kind, parts, sets)
-    printed = Fraction(parts['size'][0])
-    print(f'{kind}: printed {printed}, recomputed {size}, {"fits" if fits else "does not fit"}')
-    sys.exit(0 if fits and size == printed else 1)
+    parser = argparse.ArgumentParser(description="Recomputes the size of an answer's object, and says whether it fits the points.")
+    add_files(parser)
+    words = parser.parse_args()
+    answer, file = read_both(words)
+    size, fits = recomputed(answer, file.sets)
+    size /= answer.scale ** (1 if answer.kind == 'centres' else 2)
+    print(f'{answer.kind}: printed {answer.size}, recomputed {size}, {"fits" if fits else "does not fit"}')
+    sys.exit(0 if fits and size == answer.size else 1)
 
 
 if __name__ == '__main__':

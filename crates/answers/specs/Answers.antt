@@ -9,11 +9,13 @@ use Rattle.bounds_model.specs.StripAnswer as strips
 use Rattle.bounds_model.specs.RectangleAnswer as rectangles
 use Rattle.bounds_model.specs.ParallelogramAnswer as parallelograms
 use Rattle.bounds_model.specs.AnnulusAnswer as annuli
+use Rattle.bounds_model.specs.ShellAnswer as shells
 use Rattle.bounds_model.specs.DistanceAnswer as distances
 use Rattle.bounds_model.specs.EmptyAnswer as empties
 use Rattle.bounds_model.specs.EmptyAnswer.Blocker.{side, point}
 use Rattle.bounds_model.specs.KgonAnswer as polygons
 use Rattle.bounds_model.specs.CentresAnswer as centres
+use Rattle.bounds_model.specs.FurthestAnswer as furthests
 use Rattle.bounds_model.specs.Answers as model
 use Rattle.answers.specs.declared.balls.Weighted.{Weighted}
 use Rattle.answers.specs.declared.balls.BallAnswer2.{BallAnswer2}
@@ -30,6 +32,7 @@ use Rattle.answers.specs.declared.parallelograms.Chord.{Chord}
 use Rattle.answers.specs.declared.parallelograms.ParaAnswer.{ParaAnswer}
 use Rattle.answers.specs.declared.pairs.WeightedPair.{WeightedPair}
 use Rattle.answers.specs.declared.pairs.AnnulusAnswer.{AnnulusAnswer}
+use Rattle.answers.specs.declared.pairs.ShellAnswer.{ShellAnswer}
 use Rattle.answers.specs.declared.pairs.Dir3.{Dir3}
 use Rattle.answers.specs.declared.pairs.DistanceAnswer.{DistanceAnswer}
 use Rattle.answers.specs.declared.empty_rectangles.Blocker.{Blocker}
@@ -38,8 +41,13 @@ use Rattle.answers.specs.declared.empty_rectangles.EmptyAnswer.{EmptyAnswer}
 use Rattle.answers.specs.declared.polygons.KgonAnswer.{KgonAnswer}
 use Rattle.answers.specs.declared.centres.Leaf.{Leaf}
 use Rattle.answers.specs.declared.centres.CentresAnswer.{CentresAnswer}
+use Rattle.answers.specs.declared.centres.FourAnswer.{FourAnswer}
+use Rattle.answers.specs.declared.furthests.Entry.{Entry}
+use Rattle.answers.specs.declared.furthests.FurthestAnswer.{FurthestAnswer}
+use Rattle.bounds_model.specs.Reports as reports
+use Rattle.answers.specs.declared.report.Report.{Report}
 use Rattle.answers.specs.declared.answer.Answer.{Answer}
-use Rattle.answers.specs.declared.answer.Answer.TheVariants.{Circle, Sphere, Rectangle, Parallelogram, Strip, Annulus, Empty, Kgon, Distance, Centres}
+use Rattle.answers.specs.declared.answer.Answer.TheVariants.{Circle, Sphere, Rectangle, Parallelogram, Strip, Annulus, Empty, Kgon, Distance, Centres, Furthest, Four, Shell}
 
 -- ---- circles and spheres
 
@@ -107,7 +115,7 @@ parallelogram_of a = record {
   chords = map chord_of a.chords;
 }
 
--- ---- annuli and distances
+-- ---- annuli, shells and distances
 
 -- the numbers of two points with a weight
 abbrev pub pair_of : WeightedPair → annuli.WeightedPair
@@ -116,6 +124,10 @@ pair_of p = record { first = p.first; second = p.second; weight = pos p.weight }
 -- an annulus, and weighted pairs of points
 abbrev pub annulus_of : AnnulusAnswer → annuli.AnnulusAnswer
 annulus_of a = record { size = a.size; centre = a.center; inner = a.inner; outer = a.outer; pairs = map pair_of a.pairs.items }
+
+-- a shell, and weighted pairs of points
+abbrev pub shell_of : ShellAnswer → shells.ShellAnswer
+shell_of a = record { size = a.size; centre = a.center; low = a.low; high = a.high; pairs = map pair_of a.pairs.items }
 
 -- a vector of space
 abbrev pub space_vector_of : Dir3 → SpacePoint
@@ -159,6 +171,20 @@ leaf_of leaf = record { first = leaf.first; second = leaf.second }
 abbrev pub centres_of : CentresAnswer → centres.CentresAnswer
 centres_of a = record { size = a.size; squares = a.squares.items; leaves = map leaf_of a.leaves.items }
 
+-- four squares of one size, and leaves
+abbrev pub four_of : FourAnswer → centres.CentresAnswer
+four_of a = record { size = a.size; squares = a.squares.items; leaves = map leaf_of a.leaves }
+
+-- ---- furthest corners
+
+-- the number of a corner's point, and the position of its furthest corner
+abbrev pub entry_of : Entry → furthests.Entry
+entry_of e = record { corner = e.corner; far = e.far }
+
+-- the hull's corners, each with its furthest one
+abbrev pub furthest_of : FurthestAnswer → furthests.FurthestAnswer
+furthest_of a = record { size = a.size; entries = map entry_of a.entries }
+
 -- ---- all kinds
 
 -- the answer
@@ -173,3 +199,10 @@ answer_of (Empty a) = model.empty (empty_of a)
 answer_of (Kgon a) = model.kgon (polygon_of a)
 answer_of (Distance a) = model.distance (distance_of a)
 answer_of (Centres a) = model.centres (centres_of a)
+answer_of (Furthest a) = model.furthest (furthest_of a)
+answer_of (Four a) = model.four (four_of a)
+answer_of (Shell a) = model.shell (shell_of a)
+
+-- the report
+abbrev pub report_of : Report → reports.Report
+report_of r = record { scale = r.scale; answer = answer_of r.answer }

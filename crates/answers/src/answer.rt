@@ -5,7 +5,7 @@ ghost use Rattle.answers.specs.Answers.{answer_of};
 
 use crate::{
     AnnulusAnswer, BallAnswer2, BallAnswer3, CentresAnswer, DistanceAnswer, EmptyAnswer,
-    KgonAnswer, ParaAnswer, RectAnswer, StripAnswer,
+    FourAnswer, FurthestAnswer, KgonAnswer, ParaAnswer, RectAnswer, ShellAnswer, StripAnswer,
 };
 use exact_fractions::Frac;
 
@@ -32,10 +32,16 @@ pub enum Answer {
     Distance(DistanceAnswer),
     /// The smallest squares, so many, that cover the points.
     Centres(CentresAnswer),
+    /// The hull's corners, each with the corner furthest from it.
+    Furthest(FurthestAnswer),
+    /// The smallest four squares that cover the points.
+    Four(FourAnswer),
+    /// The shell around the points with the least difference of squared radii.
+    Shell(ShellAnswer),
 }
 
-/// The size that the answer prints: squared units for circle, sphere, strip, annulus and distance, an area for rectangle,
-/// parallelogram, empty rectangle and polygon, a length for centres.
+/// The size that the answer prints: squared units for circle, sphere, strip, annulus, distance, furthest corners and shell, an
+/// area for rectangle, parallelogram, empty rectangle and polygon, a length for centres, also for four.
 pub fn size(answer: &Answer) -> Frac
     ensures { result ≡ size_of (answer_of answer.now) }
 {
@@ -50,5 +56,8 @@ pub fn size(answer: &Answer) -> Frac
         Answer::Kgon(a) => a.size,
         Answer::Distance(a) => a.size,
         Answer::Centres(a) => a.size,
+        Answer::Furthest(a) => a.size,
+        Answer::Four(a) => a.size,
+        Answer::Shell(a) => a.size,
     }
 }

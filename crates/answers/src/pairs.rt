@@ -5,9 +5,9 @@ use exact_fractions::{Frac, Homog2, Homog3};
 /// The numbers of two points, and the weight of their difference.
 #[derive(Clone, Copy, Debug, Default, PartialEq, Eq)]
 pub struct WeightedPair {
-    /// The number of the one point: on the outer circle, or of the first set.
+    /// The number of the one point: on the outer circle or sphere, or of the first set.
     pub first: u32,
-    /// The number of the other point: on the inner circle, or of the second set.
+    /// The number of the other point: on the inner circle or sphere, or of the second set.
     pub second: u32,
     /// The weight.
     pub weight: u128,
@@ -26,6 +26,22 @@ pub struct AnnulusAnswer {
     pub outer: Frac,
     /// The pairs, whose weighted differences sum to zero.
     pub pairs: ArrayVec<WeightedPair, 3>,
+}
+
+/// The shell around the points of space with the least difference of squared radii, and weighted pairs that show it.
+#[derive(Debug, Drop, PartialEq, Eq)]
+pub struct ShellAnswer {
+    /// The difference of the squared radii.
+    pub size: Frac,
+    /// The centre.
+    pub center: Homog3,
+    /// The level of the inner sphere: a point's level is the centre's denominator times its squared distance from the centre,
+    /// less a term that is the same for all points.
+    pub low: i128,
+    /// The level of the outer sphere.
+    pub high: i128,
+    /// The pairs, whose weighted differences sum to zero.
+    pub pairs: ArrayVec<WeightedPair, 4>,
 }
 
 /// A vector of space.

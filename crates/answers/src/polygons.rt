@@ -1,4 +1,7 @@
 //! Polygons on the corners of a hull, and bounds on what more corners add.
+ghost use Rattle.std.specs.Prelude.{◌≡◌, ◌*◌, ◌≤◌, length};
+ghost use Rattle.bounds_model.specs.KgonAnswer.{pairs_before};
+
 use crate::AnswerList;
 use arrayvec::ArrayVec;
 use exact_fractions::Frac;
@@ -22,4 +25,18 @@ pub struct KgonAnswer {
     pub layers: u32,
     /// For each first corner in turn its layers, and in each layer a potential for each later corner.
     pub potentials: Potentials,
+}
+
+impl KgonAnswer {
+    /// How many potentials stand before those of a first corner. For the number of corners: how many there are.
+    pub fn potentials_before(&self, first: usize) -> usize
+        requires some { 1 ≤ length self.now.corners }
+        requires few { length self.now.corners ≤ 128 }
+        requires layers { self.now.layers ≤ 10 }
+        requires first { first ≤ length self.now.corners }
+        ensures { result ≡ self.now.layers * pairs_before (length self.now.corners) first }
+    {
+        let count = self.corners.len() as usize;
+        self.layers as usize * (first * (2 * count - first - 1) / 2)
+    }
 }

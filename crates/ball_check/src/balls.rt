@@ -62,6 +62,7 @@ fn determined_ball<K: Kernel>(
         × AreSupportSums K.DIM (places_of K.place cloud.entry) (map weighted_of supports.now) h) }
 {
     let totals = sums(kernel, cloud, supports)?;
+    // What needs no pass over the points comes first.
     if !is_size(size, &totals) {
         return None;
     }

@@ -5,7 +5,5 @@
 #![tactic(auto)]
 
 mod balls;
-#[cfg(test)]
-mod tests;
 
 pub use balls::{check_circle, check_sphere};

@@ -6,7 +6,5 @@
 
 mod ball;
 mod sums;
-#[cfg(test)]
-mod tests;
 
 pub use sums::Sums;

@@ -1,12 +1,12 @@
 //! What is asked, and of which point sets.
-ghost use Rattle.std.specs.Prelude.{◌↔◌, IsTrue};
-ghost use Rattle.bounds_model.specs.Asks.{Suits};
-ghost use Rattle.bounded_coords.specs.Asked.{asked, lent};
+ghost use Rattle.std.specs.Prelude.{◌≡◌, ◌↔◌, IsTrue};
+ghost use Rattle.bounds_model.specs.Asks.{Suits, shape_of};
+ghost use Rattle.bounded_coords.specs.Asked.{asked, lent, shaped};
 
 use crate::{Cloud2, Cloud3, Frame};
 
-/// What is asked of point sets. A k-gon has 3 to 12 corners at most, and there are 1 to 3 centres: calls that take an ask
-/// require it.
+/// What is asked of point sets. A k-gon has 3 to 12 corners at most, and there are 1 to 3 centres beside the question of four:
+/// calls that take an ask require it.
 #[derive(Clone, Copy, Debug, PartialEq, Eq)]
 pub enum Ask {
     /// The smallest enclosing circle.
@@ -29,6 +29,40 @@ pub enum Ask {
     Distance,
     /// So many centres with the least greatest distance of a point to its nearest centre.
     Centres(u8),
+    /// For each corner of the hull the corner furthest from it.
+    Furthest,
+    /// Four centres with the least greatest distance of a point to its nearest centre.
+    Four,
+    /// The shell between two spheres of one centre with the least difference of squared radii.
+    Shell,
+}
+
+/// Which point sets are asked of.
+#[derive(Clone, Copy, Debug, PartialEq, Eq)]
+pub enum Shape {
+    /// One set of the plane.
+    OnePlane,
+    /// One set of the plane, which may have no points.
+    PlaneOrBare,
+    /// One set of space.
+    OneSpace,
+    /// Two sets of space.
+    TwoSpace,
+}
+
+impl Ask {
+    /// The sets that are asked of: the distance of two sets of space, sphere and shell of one, an empty rectangle of a set of the
+    /// plane with points or without, and every other kind of a set of the plane.
+    pub fn shape(&self) -> Shape
+        ensures { shaped result ≡ shape_of (asked self.now) }
+    {
+        match self {
+            Ask::Sphere | Ask::Shell => Shape::OneSpace,
+            Ask::Distance => Shape::TwoSpace,
+            Ask::Empty(_) => Shape::PlaneOrBare,
+            _ => Shape::OnePlane,
+        }
+    }
 }
 
 /// The point sets of a task, borrowed.
@@ -44,17 +78,15 @@ pub enum Sets<'a> {
     Bare,
 }
 
-/// Whether this is asked of such sets: the distance of two sets of space, the sphere of one, an empty rectangle of a set of
-/// the plane with points or without, and every other kind of a set of the plane with points.
+/// Whether this is asked of such sets.
 pub fn fit(ask: &Ask, sets: Sets<'_>) -> bool
     ensures { IsTrue result ↔ Suits (asked ask.now) (lent sets.entry) }
 {
-    match (ask, sets) {
-        (Ask::Sphere, Sets::Space(_)) => true,
-        (Ask::Distance, Sets::Two(_, _)) => true,
-        (Ask::Empty(_), Sets::Bare) => true,
-        (Ask::Sphere | Ask::Distance, _) => false,
-        (_, Sets::Plane(_)) => true,
+    match (ask.shape(), sets) {
+        (Shape::OnePlane | Shape::PlaneOrBare, Sets::Plane(_)) => true,
+        (Shape::PlaneOrBare, Sets::Bare) => true,
+        (Shape::OneSpace, Sets::Space(_)) => true,
+        (Shape::TwoSpace, Sets::Two(_, _)) => true,
         _ => false,
     }
 }

@@ -7,6 +7,7 @@
 //! - `steps`: the counter of accesses
 //! - `frame`: boxes for the empty rectangle
 //! - `ask`: what is asked, and of which point sets
+//! - `owned_sets`: the point sets of a file, owned
 //! - `laws`: the order of points
 //! - `memory`: want of memory, as every crate reports it
 #![tactic(auto)]
@@ -17,17 +18,17 @@ mod frame;
 pub mod laws;
 mod measure;
 mod memory;
+mod owned_sets;
 mod point;
 mod points;
 mod steps;
-#[cfg(test)]
-mod tests;
 
-pub use ask::{Ask, Sets, fit};
+pub use ask::{Ask, Sets, Shape, fit};
 pub use cloud::{Cloud, Counted};
 pub use frame::Frame;
 pub use measure::Measure;
 pub use memory::OutOfMemory;
+pub use owned_sets::OwnedSets;
 pub use point::{Point2, Point3};
 pub use points::{Points, Points2, Points3, PushFault};
 pub use steps::Steps;

@@ -1,5 +1,5 @@
 //! Lists of points.
-ghost use Rattle.std.specs.Prelude.{◌≡◌, ◌↔◌, [], ◌∷◌, ◌++◌, ◌≤◌, length, OnOk, OnErr, IsNone, IfSome, Err};
+ghost use Rattle.std.specs.Prelude.{◌≡◌, ◌↔◌, [], ◌∷◌, ◌++◌, ◌≤◌, length, OnOk, OnErr, IsNone, IfSome, IsTrue, Err};
 ghost use Rattle.bounded_coords.specs.Clouds.{points_of};
 ghost use Rattle.bounded_coords.specs.declared.points.PushFault.TheVariants.{Full};
 
@@ -80,6 +80,13 @@ impl<P: Copy> Points<P> {
             Ok(()) => Ok(()),
             Err(_) => Err(PushFault::OutOfMemory),
         }
+    }
+
+    /// Whether there are no points.
+    pub fn is_empty(&self) -> bool
+        ensures { IsTrue result ↔ (self.now ≡ []) }
+    {
+        self.points.is_empty()
     }
 
     /// The points as a cloud, or None where there are none.

@@ -20,8 +20,9 @@ impl<L: Ledger> Model for Steps<L> {
 }
 
 impl<L: Ledger> Steps<L> {
-    /// A counter at zero, from a ledger that was never opened.
-    pub fn new(blank: Blank) -> Steps<L>
+    /// A counter at zero, from a ledger that was never opened. It takes the runtime's token, which a program's `main` and tests alone are
+    /// given: so a library has no counter but the one that it is lent.
+    pub fn new(_rt: &HostRuntime, blank: Blank) -> Steps<L>
         requires name { blank.name ≡ L.name }
         requires parts { blank.parts ≡ L.parts }
         requires some { 0 < blank.parts }

@@ -77,11 +77,15 @@ IsLeftOver side (corner ∷ rest) points p = IsLeftOver side rest (outside (corn
 abbrev pub AreFar : ℕ → PlanePoint → PlanePoint → Type 0
 AreFar side p q = (side < nat_abs (q.x -ℤ p.x)) ⊎ (side < nat_abs (q.y -ℤ p.y))
 
--- after squares in the corners that the leaf's number names, its two points are left over and far apart
-pub record IsLeaf (side count : ℕ) (points : List PlanePoint) (number : ℕ) (leaf : Leaf) : Type 0 where
-  pub first : IsLeftOver side (digits (count - 1) number) points (point_at points leaf.first)
-  pub second : IsLeftOver side (digits (count - 1) number) points (point_at points leaf.second)
+-- of the points that are left when some squares are placed already: after so many more squares, in the corners that the leaf's number names, its two points are left over and far apart
+pub record IsLeafBelow (side count : ℕ) (points rest : List PlanePoint) (number : ℕ) (leaf : Leaf) : Type 0 where
+  pub first : IsLeftOver side (digits count number) rest (point_at points leaf.first)
+  pub second : IsLeftOver side (digits count number) rest (point_at points leaf.second)
   pub far : AreFar side (point_at points leaf.first) (point_at points leaf.second)
+
+-- a leaf of so many centres, where no square is placed before: one square less than centres shows it
+abbrev pub IsLeaf : ℕ → ℕ → List PlanePoint → ℕ → Leaf → Type 0
+IsLeaf side count points = IsLeafBelow side (count - 1) points points
 
 -- none where the side is 0, else one for each list of corners, with squares of a side less by 1
 abbrev pub AreLeaves : ℕ → ℕ → List PlanePoint → List Leaf → Type 0

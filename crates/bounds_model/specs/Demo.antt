@@ -2,7 +2,7 @@
 use Rattle.std.specs.Prelude.{ℕ, zero, suc, ◌+◌, ◌*◌, ◌/◌, ◌%◌, ◌^◌, ℤ, pos, ◌-ℤ◌, ◌+ℤ◌, List, [], ◌∷◌}
 use Rattle.bounds_model.specs.Plane.{PlanePoint}
 use Rattle.bounds_model.specs.Space.{SpacePoint}
-use Rattle.bounds_model.specs.Asks.{Ask, ask_sphere, ask_distance, Sets, plane, space, two}
+use Rattle.bounds_model.specs.Asks.{Sets, plane, space, two, Shape, one_space, two_space}
 
 -- the state after a state
 abbrev pub next_state : ℕ → ℕ
@@ -50,9 +50,9 @@ space_points x_coordinate s (suc count) =
     record { x = x_coordinate (state_after 1 s); y = space_coordinate (state_after 2 s); z = space_coordinate (state_after 3 s) }
     ∷ space_points x_coordinate (state_after 3 s) count
 
--- the points for what is asked, from a seed, so many in each set; those of a second set are drawn after the first
-abbrev pub demo_sets : Ask → ℕ → ℕ → Sets
-demo_sets ask_sphere seed count = space (space_points space_coordinate seed count)
-demo_sets ask_distance seed count =
+-- the points of sets of this shape, from a seed, so many in each set; those of a second set are drawn after the first
+abbrev pub demo_sets : Shape → ℕ → ℕ → Sets
+demo_sets one_space seed count = space (space_points space_coordinate seed count)
+demo_sets two_space seed count =
     two (space_points left_coordinate seed count) (space_points right_coordinate (state_after (3 * count) seed) count)
-demo_sets ask seed count = plane (plane_points seed count)
+demo_sets shape seed count = plane (plane_points seed count)

@@ -34,6 +34,7 @@ pub data Cause : Type 0 where
   no_points : ℕ → Cause
   wrong_sets : ℕ → Cause
   too_many_corners : ℕ → Cause
+  too_many_for_four : ℕ → Cause
   bad_answer : ℕ → Cause
   big_number : ℕ → Cause
   write_fault : Cause
@@ -72,6 +73,7 @@ cause_text (too_many_points n) = codes "points: line " ++ decimal n ++ codes " i
 cause_text (no_points n) = codes "points: set " ++ decimal n ++ codes " has no points"
 cause_text (wrong_sets n) = codes "points: found " ++ decimal n ++ codes " sets"
 cause_text (too_many_corners n) = codes "points: " ++ decimal n ++ codes " corners, at most 128 are taken"
+cause_text (too_many_for_four n) = codes "points: " ++ decimal n ++ codes " points, at most 1000 are taken for four centres"
 cause_text (bad_answer n) = codes "answer: line " ++ decimal n ++ codes " is not understood"
 cause_text (big_number n) = codes "answer: line " ++ decimal n ++ codes " has a number past the limit"
 cause_text write_fault = codes "output cannot be written"

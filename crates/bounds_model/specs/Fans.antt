@@ -1,7 +1,8 @@
 -- Directions in turning order, with points that are extreme for all directions between two neighbours.
-use Rattle.std.specs.Prelude.{◌≡◌, ℕ, ◌+◌, ◌-◌, ◌^◌, ◌<◌, ◌≤◌, ℤ, pos, negsuc, ◌≤ℤ◌, ◌<ℤ◌, List, [], ◌∷◌, ◌++◌, length, map, All}
+use Rattle.std.specs.Prelude.{◌≡◌, ℕ, ◌+◌, ◌-◌, ◌^◌, ◌<◌, ◌≤◌, ℤ, pos, negsuc, ◌≤ℤ◌, ◌<ℤ◌, List, [], ◌∷◌, ◌++◌, length, map, All, SomeIndex}
 use Rattle.bounds_model.specs.Numbers.{AllNumbered, EachBelow, IsWithin, HasCount}
 use Rattle.bounds_model.specs.Plane.{PlanePoint, point_at, vector, dot, cross, quarter_turn}
+use Rattle.bounds_model.specs.Fractions.{HaveNoCommonFactor}
 use Rattle.bounds_model.specs.Ranges.{IsDirection, fan_limit, point_limit}
 
 -- from a direction to the next, with the numbers of a highest and a lowest point
@@ -94,6 +95,21 @@ pub record HoldsQuarter (points : List PlanePoint) (fan : QuarterFan) : Type 0 w
   pub numbers : NamesAllPoints points fan
   pub directions : TurnLeft east north (quarter_directions fan)
   pub extremes : AtBothEnds (quarter_directions fan) (IsQuarterExtreme points) fan.cones
+
+-- u is v divided by the common factor of its entries
+pub record IsReduced (v u : PlanePoint) : Type 0 where
+  pub parallel : cross v u ≡ pos 0
+  pub ahead : pos 0 <ℤ dot v u
+  pub lowest : HaveNoCommonFactor (u.x ∷ u.y ∷ [])
+
+-- u is the reduced direction of this number, and P holds of each cone before with the direction that it begins at
+pub record IsFirstAt {Cone : Type 0} (directions : List PlanePoint) (P : PlanePoint → Cone → Type 0) (cones : List Cone) (u : PlanePoint) (number : ℕ) : Type 0 where
+  pub reduced : IsReduced (point_at directions number) u
+  pub before : AllNumbered (λ j cone. j < number → P (point_at directions j) cone) cones
+
+-- u is the reduced direction at which some cone begins, and P holds of each cone before
+abbrev pub IsFirst : {Cone : Type 0} → List PlanePoint → (PlanePoint → Cone → Type 0) → List Cone → PlanePoint → Type 0
+IsFirst directions P cones u = SomeIndex cones (λ i. IsFirstAt directions P cones u i)
 
 -- how large a coordinate of a direction may be
 abbrev pub direction_limit : ℕ

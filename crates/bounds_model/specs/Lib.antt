@@ -11,8 +11,11 @@ pub mod Annulus
 pub mod EmptyRectangle
 pub mod Hull
 pub mod Kgon
+pub mod Firsts
 pub mod Distance
 pub mod Centres
+pub mod Furthest
+pub mod Shell
 pub mod Ranges
 pub mod Slacks
 pub mod Fans
@@ -27,8 +30,13 @@ pub mod EmptyAnswer
 pub mod KgonAnswer
 pub mod DistanceAnswer
 pub mod CentresAnswer
+pub mod FurthestAnswer
+pub mod FourAnswer
+pub mod ShellAnswer
 pub mod Asks
 pub mod Answers
+pub mod Scaled
+pub mod Reports
 pub mod AnswerText
 pub mod PointText
 pub mod Demo

@@ -1,11 +1,11 @@
 -- The answers on rectangles, and what a checker asks of them.
-use Rattle.std.specs.Prelude.{◌≢◌, ℤ, pos, ◌*ℤ◌, ◌≤ℤ◌, List, All}
-use Rattle.bounds_model.specs.Plane.{PlanePoint, origin, dot, squared_length, quarter_turn}
+use Rattle.std.specs.Prelude.{◌≢◌, ℤ, pos, ◌*ℤ◌, ◌≤ℤ◌, ◌<ℤ◌, List, All}
+use Rattle.bounds_model.specs.Plane.{PlanePoint, origin, squared_length, quarter_turn}
 use Rattle.bounds_model.specs.Fractions.{Fraction, SameValue}
-use Rattle.bounds_model.specs.Strip.{Span, IsInSpan}
+use Rattle.bounds_model.specs.Strip.{Span, AreTight}
 use Rattle.bounds_model.specs.Rectangle.{Rectangle, rectangle_size}
 use Rattle.bounds_model.specs.Ranges.{IsFraction, IsDirection, IsSpan}
-use Rattle.bounds_model.specs.Fans.{QuarterFan, QuarterCone, quarter_directions, HoldsQuarter, QuarterRanges, AtBothEnds, reach, IsShort}
+use Rattle.bounds_model.specs.Fans.{QuarterFan, QuarterCone, quarter_directions, HoldsQuarter, QuarterRanges, AtBothEnds, IsFirst, reach, IsShort}
 use Rattle.bounds_model.specs.StripAnswer.{IsShortSpan}
 
 -- a rectangle, and a fan over a quarter turn
@@ -36,6 +36,10 @@ reached_area points d cone = reach points d cone.high cone.low *ℤ reach points
 abbrev pub IsNotSmaller : List PlanePoint → Fraction → PlanePoint → QuarterCone → Type 0
 IsNotSmaller points size d cone = (size.n *ℤ squared_length d) ≤ℤ (reached_area points d cone *ℤ size.d)
 
+-- that rectangle is larger than the size
+abbrev pub IsLarger : List PlanePoint → Fraction → PlanePoint → QuarterCone → Type 0
+IsLarger points size d cone = (size.n *ℤ squared_length d) <ℤ (reached_area points d cone *ℤ size.d)
+
 -- what a checker asks of a rectangle
 pub record PassesRectangle (points : List PlanePoint) (a : RectangleAnswer) : Type 0 where
   pub ranges : RectangleRanges a
@@ -46,6 +50,7 @@ pub record PassesRectangle (points : List PlanePoint) (a : RectangleAnswer) : Ty
   pub normal : a.direction ≢ origin
   pub fan : HoldsQuarter points a.fan
   pub not_smaller : AtBothEnds (quarter_directions a.fan) (IsNotSmaller points a.size) a.fan.cones
-  pub inside_along : All (λ p. IsInSpan a.along (dot a.direction p)) points
-  pub inside_across : All (λ p. IsInSpan a.across (dot (quarter_turn a.direction) p)) points
+  pub first : IsFirst (quarter_directions a.fan) (IsLarger points a.size) a.fan.cones a.direction
+  pub tight_along : AreTight points a.direction a.along
+  pub tight_across : AreTight points (quarter_turn a.direction) a.across
   pub size : SameValue a.size (rectangle_size (rectangle_of a))

@@ -1,5 +1,5 @@
 -- Strips between two parallel lines.
-use Rattle.std.specs.Prelude.{◌≢◌, ℤ, pos, ◌-ℤ◌, ◌*ℤ◌, ◌≤ℤ◌, List, All}
+use Rattle.std.specs.Prelude.{◌≡◌, ◌≢◌, ℤ, pos, ◌-ℤ◌, ◌*ℤ◌, ◌≤ℤ◌, List, All, Any}
 use Rattle.bounds_model.specs.Plane.{PlanePoint, origin, dot, squared_length}
 use Rattle.bounds_model.specs.Fractions.{Fraction}
 
@@ -16,6 +16,12 @@ extent span = span.high -ℤ span.low
 pub record IsInSpan (span : Span) (z : ℤ) : Type 0 where
   pub above : span.low ≤ℤ z
   pub below : z ≤ℤ span.high
+
+-- the bounds are the least and the greatest product of the vector with a point
+pub record AreTight (points : List PlanePoint) (u : PlanePoint) (bounds : Span) : Type 0 where
+  pub inside : All (λ p. IsInSpan bounds (dot u p)) points
+  pub low : Any (λ p. dot u p ≡ bounds.low) points
+  pub high : Any (λ p. dot u p ≡ bounds.high) points
 
 -- a normal, and bounds over w for the products of the normal with points
 pub record Strip : Type 0 where

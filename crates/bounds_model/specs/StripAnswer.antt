@@ -1,11 +1,11 @@
 -- The answers on strips, and what a checker asks of them.
-use Rattle.std.specs.Prelude.{◌≢◌, pos, ◌*ℤ◌, ◌≤ℤ◌, List, All}
+use Rattle.std.specs.Prelude.{◌≢◌, pos, ◌*ℤ◌, ◌≤ℤ◌, ◌<ℤ◌, List, All}
 use Rattle.bounds_model.specs.Numbers.{IsWithin}
-use Rattle.bounds_model.specs.Plane.{PlanePoint, origin, dot, squared_length}
+use Rattle.bounds_model.specs.Plane.{PlanePoint, origin, squared_length}
 use Rattle.bounds_model.specs.Fractions.{Fraction, SameValue}
-use Rattle.bounds_model.specs.Strip.{Span, Strip, IsInSpan, strip_size}
+use Rattle.bounds_model.specs.Strip.{Span, Strip, AreTight, strip_size}
 use Rattle.bounds_model.specs.Ranges.{IsFraction, IsDirection, IsSpan}
-use Rattle.bounds_model.specs.Fans.{HalfFan, HalfCone, half_directions, HoldsHalf, HalfRanges, AtBothEnds, reach, IsShort, span_limit}
+use Rattle.bounds_model.specs.Fans.{HalfFan, HalfCone, half_directions, HoldsHalf, HalfRanges, AtBothEnds, IsFirst, reach, IsShort, span_limit}
 
 -- a strip, and a fan over half a turn
 pub record StripAnswer : Type 0 where
@@ -35,6 +35,11 @@ abbrev pub IsNotThinner : List PlanePoint → Fraction → PlanePoint → HalfCo
 IsNotThinner points size d cone =
     (size.n *ℤ squared_length d) ≤ℤ (reach points d cone.high cone.low *ℤ reach points d cone.high cone.low *ℤ size.d)
 
+-- that square is above the size
+abbrev pub IsThicker : List PlanePoint → Fraction → PlanePoint → HalfCone → Type 0
+IsThicker points size d cone =
+    (size.n *ℤ squared_length d) <ℤ (reach points d cone.high cone.low *ℤ reach points d cone.high cone.low *ℤ size.d)
+
 -- what a checker asks of a strip
 pub record PassesStrip (points : List PlanePoint) (a : StripAnswer) : Type 0 where
   pub ranges : StripRanges a
@@ -44,5 +49,6 @@ pub record PassesStrip (points : List PlanePoint) (a : StripAnswer) : Type 0 whe
   pub normal : a.direction ≢ origin
   pub fan : HoldsHalf points a.fan
   pub not_thinner : AtBothEnds (half_directions a.fan) (IsNotThinner points a.size) a.fan.cones
-  pub inside : All (λ p. IsInSpan a.bounds (dot a.direction p)) points
+  pub first : IsFirst (half_directions a.fan) (IsThicker points a.size) a.fan.cones a.direction
+  pub tight : AreTight points a.direction a.bounds
   pub size : SameValue a.size (strip_size (strip_of a))

@@ -1,8 +1,8 @@
 -- How a task ends that gives no output.
 use Rattle.std.proofs.Common.{◌≡◌, ◌∙◌, ◌⊎◌, inl, inr, refl, sym, ap, subst, is_ok, ℕ, Bool, true, false, List, Option, Some, None, Result, Ok, Err, IfSome, Contains, arith}
-use Rattle.bounds_model.specs.Asks.{Ask, Sets}
+use Rattle.bounds_model.specs.Asks.{Ask, Sets, PointFile, shape_of, unscaled}
 use Rattle.bounds_model.specs.Demo.{demo_sets}
-use Rattle.bounds_model.specs.ErrorLines.{Cause, points_file, answer_file, open_fault, read_fault, too_long, bad_line, out_of_range, too_many_points, no_points, wrong_sets, too_many_corners, bad_answer, big_number, out_of_memory}
+use Rattle.bounds_model.specs.ErrorLines.{Cause, points_file, answer_file, open_fault, read_fault, too_long, bad_line, out_of_range, too_many_points, no_points, wrong_sets, too_many_corners, too_many_for_four, bad_answer, big_number, out_of_memory}
 use Rattle.point_text.specs.declared.text.Form.{Form}
 use Rattle.bnd_io.specs.Files.{Folder, FilesState, bytes_of}
 use Rattle.command_line.specs.Words.{Task, solve_task, check_task, demo_task, task_of}
@@ -14,8 +14,8 @@ use Rattle.bounds_tool.specs.Outputs.{IsDone, IsMeantAs, IsOutput}
 use Rattle.bnd_io.specs.Sinks.{SinkState, Appended, AppendedPrefix}
 use Rattle.bounds_tool.specs.declared.output.Output.{Output}
 use Rattle.bounds_tool.specs.declared.output.Output.TheVariants.{Solution, Size, Verdict, Demonstration}
-use Rattle.bounds_tool.specs.Solving.{AreTooMany}
-use Rattle.bounds_tool.specs.Run.{MayEnd, IsTooMuch, IsOfCorners, CornersCause, OutputBy, IsRefusal, OpenFault, ReadFault, TaskFault, RefusesPoints, RefusesAnswer, PointsCause, AnswerCause, PointsAccepted, ComesOf, TaskCause, Wrote, WrotePrefix, files_of, cause_status}
+use Rattle.solving.specs.Solving.{AreTooMany}
+use Rattle.bounds_tool.specs.Run.{MayEnd, IsTooMuch, IsOfLimit, LimitCause, OutputBy, IsRefusal, OpenFault, ReadFault, TaskFault, RefusesPoints, RefusesAnswer, PointsCause, AnswerCause, PointsAccepted, ComesOf, TaskCause, Wrote, WrotePrefix, files_of, cause_status}
 
 -- ---- by its causes
 
@@ -23,7 +23,7 @@ use Rattle.bounds_tool.specs.Run.{MayEnd, IsTooMuch, IsOfCorners, CornersCause, 
 pub data Ending (last : Option ℕ) (task : Task) (old new : FilesState) (cause : Cause) : Type 0 where
   by_fault : (name : List ℕ) → Contains (files_of task) name → OpenFault last name old new ⊎ ReadFault last name old new → cause_status cause ≡ Read → Ending last task old new cause
   by_refusal : IfSome old.told (λ folder. work_of folder task ≡ Err cause) → cause_status cause ≡ Input → Ending last task old new cause
-  by_corners : IfSome old.told (λ folder. (work : Work) × (work_of folder task ≡ Ok work) × IsTooMuch work) → cause_status cause ≡ Input → Ending last task old new cause
+  by_limit : IfSome old.told (λ folder. (work : Work) × (work_of folder task ≡ Ok work) × IsTooMuch work) → cause_status cause ≡ Input → Ending last task old new cause
   by_memory : cause_status cause ≡ Memory → Ending last task old new cause
 
 -- a refusal of a file ends a run with its status
@@ -58,16 +58,16 @@ where_told (Some folder) f = f folder
 
 -- where the point file is refused, so is the task
 solve_refused : (ask : Ask) (form : Form) (brief : Bool) (file : List ℕ) (cause : Cause) (folder : Folder) → points_in form ask (bytes_of folder file) ≡ Err cause → work_of folder (solve_task ask form brief file) ≡ Err cause
-solve_refused ask form brief file cause folder h = ap (λ r. r >>= λ sets. Ok (wanted brief ask sets)) h
+solve_refused ask form brief file cause folder h = ap (λ r. r >>= λ points. Ok (wanted brief ask points)) h
 
 check_refused : (ask : Ask) (form : Form) (points answer : List ℕ) (cause : Cause) (folder : Folder) → points_in form ask (bytes_of folder points) ≡ Err cause → work_of folder (check_task ask form points answer) ≡ Err cause
-check_refused ask form points answer cause folder h = ap (λ r. r >>= λ sets. answer_in (bytes_of folder answer) >>= λ a. Ok (checking ask sets a)) h
+check_refused ask form points answer cause folder h = ap (λ r. r >>= λ whole. answer_in (bytes_of folder answer) >>= λ report. Ok (checking ask whole report)) h
 
 -- where the point file is accepted, a refusal of the answer file is one of the task
-answer_refused : (ask : Ask) (form : Form) (points answer : List ℕ) (cause : Cause) (folder : Folder) → (sets : Result Sets Cause) → points_in form ask (bytes_of folder points) ≡ sets → is_ok sets ≡ true → answer_in (bytes_of folder answer) ≡ Err cause
+answer_refused : (ask : Ask) (form : Form) (points answer : List ℕ) (cause : Cause) (folder : Folder) → (whole : Result PointFile Cause) → points_in form ask (bytes_of folder points) ≡ whole → is_ok whole ≡ true → answer_in (bytes_of folder answer) ≡ Err cause
     → work_of folder (check_task ask form points answer) ≡ Err cause
-answer_refused ask form points answer cause folder (Ok sets) is accepted h =
-    ap (λ r. r >>= λ sets. answer_in (bytes_of folder answer) >>= λ a. Ok (checking ask sets a)) is ∙ ap (λ r. r >>= λ a. Ok (checking ask sets a)) h
+answer_refused ask form points answer cause folder (Ok whole) is accepted h =
+    ap (λ r. r >>= λ whole. answer_in (bytes_of folder answer) >>= λ report. Ok (checking ask whole report)) is ∙ ap (λ r. r >>= λ report. Ok (checking ask whole report)) h
 answer_refused ask form points answer cause folder (Err other) is accepted h = absurd cc
 
 in_points : (last : Option ℕ) (task : Task) (form : Form) (ask : Ask) (name : List ℕ) (old new : FilesState) (cause : Cause) → Contains (files_of task) name
@@ -85,33 +85,36 @@ in_answer last ask form points answer old new out_of_memory accepted h = by_memo
 in_answer last ask form points answer old new cause accepted h =
     by_refusal (if_both_told old.told (λ folder ok refused. answer_refused ask form points answer cause folder (points_in form ask (bytes_of folder points)) refl ok refused) accepted h.1) (answer_status cause h.0)
 
--- too many corners end a run with the status of input
-corners_status : (cause : Cause) → IsOfCorners cause → cause_status cause ≡ Input
-corners_status (too_many_corners count) h = refl
-corners_status cause h = absurd h
+-- too many points or corners end a run with the status of input
+limit_status : (cause : Cause) → IsOfLimit cause → cause_status cause ≡ Input
+limit_status (too_many_corners count) h = refl
+limit_status (too_many_for_four count) h = refl
+limit_status cause h = absurd h
 
 -- they are too many, whatever their number is
-are_too_many : (ask : Ask) (sets : Sets) (cause : Cause) → CornersCause ask sets cause → AreTooMany ask sets
-are_too_many ask sets (too_many_corners count) h = (count, h)
+are_too_many : (ask : Ask) (sets : Sets) (cause : Cause) → LimitCause ask sets cause → AreTooMany ask sets
+are_too_many ask sets (too_many_corners count) h = inl (count, h)
+are_too_many ask sets (too_many_for_four count) h = inr (count, h)
 are_too_many ask sets cause h = absurd h
 
 -- the work on them is too much, whether the answer is wanted or its size alone
-too_much : (brief : Bool) (ask : Ask) (sets : Sets) → AreTooMany ask sets → IsTooMuch (wanted brief ask sets)
-too_much false ask sets h = h
-too_much true ask sets h = h
+too_much : (brief : Bool) (ask : Ask) (points : PointFile) → AreTooMany ask points.sets → IsTooMuch (wanted brief ask points)
+too_much false ask points h = h
+too_much true ask points h = h
 
-corners_work : (folder : Folder) (ask : Ask) (form : Form) (brief : Bool) (file : List ℕ) (cause : Cause) → (sets : Sets) × (points_in form ask (bytes_of folder file) ≡ Ok sets) × CornersCause ask sets cause
+limit_work : (folder : Folder) (ask : Ask) (form : Form) (brief : Bool) (file : List ℕ) (cause : Cause) → (points : PointFile) × (points_in form ask (bytes_of folder file) ≡ Ok points) × LimitCause ask points.sets cause
     → (work : Work) × (work_of folder (solve_task ask form brief file) ≡ Ok work) × IsTooMuch work
-corners_work folder ask form brief file cause h = (wanted brief ask h.0, ap (λ r. r >>= λ sets. Ok (wanted brief ask sets)) h.1, too_much brief ask h.0 (are_too_many ask h.0 cause h.2))
+limit_work folder ask form brief file cause h = (wanted brief ask h.0, ap (λ r. r >>= λ points. Ok (wanted brief ask points)) h.1, too_much brief ask h.0 (are_too_many ask h.0.sets cause h.2))
 
--- what is made of a seed may have too many corners as well
-in_demo : (last : Option ℕ) (ask : Ask) (seed count : ℕ) (old new : FilesState) (cause : Cause) → CornersCause ask (demo_sets ask seed count) cause → Ending last (demo_task ask seed count) old new cause
-in_demo last ask seed count old new (too_many_corners n) h = by_corners (where_told old.told (λ folder. (demonstrating ask count (demo_sets ask seed count), refl, (n, h)))) refl
+-- what is made of a seed may be too many, or have too many corners, as well
+in_demo : (last : Option ℕ) (ask : Ask) (seed count : ℕ) (old new : FilesState) (cause : Cause) → LimitCause ask (demo_sets (shape_of ask) seed count) cause → Ending last (demo_task ask seed count) old new cause
+in_demo last ask seed count old new (too_many_corners n) h = by_limit (where_told old.told (λ folder. (demonstrating ask count (unscaled (demo_sets (shape_of ask) seed count)), refl, inl (n, h)))) refl
+in_demo last ask seed count old new (too_many_for_four n) h = by_limit (where_told old.told (λ folder. (demonstrating ask count (unscaled (demo_sets (shape_of ask) seed count)), refl, inr (n, h)))) refl
 in_demo last ask seed count old new cause h = absurd h
 
 ending : (last : Option ℕ) (task : Task) (old new : FilesState) (cause : Cause) → ComesOf last task old new cause → Ending last task old new cause
 ending last (solve_task ask form brief file) old new cause (inl h) = in_points last (solve_task ask form brief file) form ask file old new cause (0, omega arith, refl) (solve_refused ask form brief file cause) h
-ending last (solve_task ask form brief file) old new cause (inr (inl h)) = by_corners (if_told old.told (λ folder c. corners_work folder ask form brief file cause c) h.1) (corners_status cause h.0)
+ending last (solve_task ask form brief file) old new cause (inr (inl h)) = by_limit (if_told old.told (λ folder c. limit_work folder ask form brief file cause c) h.1) (limit_status cause h.0)
 ending last (solve_task ask form brief file) old new cause (inr (inr h)) = by_memory (ap cause_status h.0)
 ending last (check_task ask form points answer) old new cause (inl h) = in_points last (check_task ask form points answer) form ask points old new cause (0, omega arith, refl) (check_refused ask form points answer cause) h
 ending last (check_task ask form points answer) old new cause (inr h) = in_answer last ask form points answer old new cause h.0 h.1
@@ -151,7 +154,7 @@ IsRefusal-cause last words old new cause h e = by_ending (run_ending last words 
     by_ending (by_want is) = absurd (other (sym e ∙ ap cause_status is))
     by_ending (by_task task is (by_fault name there fault f)) = absurd cc
     by_ending (by_task task is (by_refusal refused f)) = if_told old.told (λ folder r. subst IsRefusal (sym (judge-task words folder task is ∙ r)) e) refused
-    by_ending (by_task task is (by_corners many f)) = if_told old.told (λ folder r. subst IsRefusal (sym (judge-task words folder task is ∙ r.1)) r.2) many
+    by_ending (by_task task is (by_limit many f)) = if_told old.told (λ folder r. subst IsRefusal (sym (judge-task words folder task is ∙ r.1)) r.2) many
     by_ending (by_task task is (by_memory f)) = absurd cc
 
 -- the status of a read fault comes of a fault that was counted
@@ -169,25 +172,25 @@ TaskFault-cause last words old new cause h e = by_ending (run_ending last words 
     by_ending (by_want is) = absurd (no_memory (sym (ap cause_status is) ∙ e))
     by_ending (by_task task is (by_fault name there fault f)) = (task, name, is, there, fault)
     by_ending (by_task task is (by_refusal refused f)) = absurd cc
-    by_ending (by_task task is (by_corners many f)) = absurd cc
+    by_ending (by_task task is (by_limit many f)) = absurd cc
     by_ending (by_task task is (by_memory f)) = absurd cc
 
 -- ---- where no fault is counted
 
 -- memory may be wanting for any work
 MayEnd-memory : (judged : Result Work Cause) → MayEnd judged Memory
-MayEnd-memory (Ok (solving ask sets)) = inr (inr refl)
-MayEnd-memory (Ok (sizing ask sets)) = inr (inr refl)
-MayEnd-memory (Ok (checking ask sets answer)) = inr (inr refl)
-MayEnd-memory (Ok (demonstrating ask count sets)) = inr (inr refl)
+MayEnd-memory (Ok (solving ask points)) = inr (inr refl)
+MayEnd-memory (Ok (sizing ask points)) = inr (inr refl)
+MayEnd-memory (Ok (checking ask points report)) = inr (inr refl)
+MayEnd-memory (Ok (demonstrating ask count points)) = inr (inr refl)
 MayEnd-memory (Err cause) = inr refl
 
 -- work that is too much ends with the status of input
-MayEnd-corners : (work : Work) → IsTooMuch work → MayEnd (Ok work) Input
-MayEnd-corners (solving ask sets) many = inr (inl (many, refl))
-MayEnd-corners (sizing ask sets) many = inr (inl (many, refl))
-MayEnd-corners (checking ask sets answer) many = absurd many
-MayEnd-corners (demonstrating ask count sets) many = inr (inl (many, refl))
+MayEnd-limit : (work : Work) → IsTooMuch work → MayEnd (Ok work) Input
+MayEnd-limit (solving ask points) many = inr (inl (many, refl))
+MayEnd-limit (sizing ask points) many = inr (inl (many, refl))
+MayEnd-limit (checking ask points report) many = absurd many
+MayEnd-limit (demonstrating ask count points) many = inr (inl (many, refl))
 
 -- a run that ends with a cause
 pub MayEnd-cause : (P : Type 0) (last : Option ℕ) (words : List (List ℕ)) (old new : FilesState) (cause : Cause) (status : Status) → TaskCause last words old new cause → status ≡ cause_status cause
@@ -202,32 +205,32 @@ MayEnd-cause P last words old new cause status h e = by_ending (run_ending last 
     by_ending (by_want is) = wanting (e ∙ ap cause_status is)
     by_ending (by_task task is (by_fault name there fault f)) = where_told old.told (λ folder no_fault p. absurd (no_fault (task, name, is, there, fault)))
     by_ending (by_task task is (by_refusal refused f)) = if_told old.told (λ folder r no_fault p. subst (λ judged. MayEnd judged status) (sym (judge-task words folder task is ∙ r)) (inl e)) refused
-    by_ending (by_task task is (by_corners many f)) =
-        if_told old.told (λ folder r no_fault p. subst (MayEnd (judge words folder)) (sym (e ∙ f)) (subst (λ judged. MayEnd judged Input) (sym (judge-task words folder task is ∙ r.1)) (MayEnd-corners r.0 r.2))) many
+    by_ending (by_task task is (by_limit many f)) =
+        if_told old.told (λ folder r no_fault p. subst (MayEnd (judge words folder)) (sym (e ∙ f)) (subst (λ judged. MayEnd judged Input) (sym (judge-task words folder task is ∙ r.1)) (MayEnd-limit r.0 r.2))) many
     by_ending (by_task task is (by_memory f)) = wanting (e ∙ f)
 
 -- a run that ends with its output
 end_of_output : (output : Output) (work : Work) → IsMeantAs output work (outputs.bytes_of output) → MayEnd (Ok work) (outputs.status_of output)
-end_of_output (Solution text) (solving ask sets) h = inl (h.taken, refl)
-end_of_output (Solution text) (sizing ask sets) h = inl (h.taken, refl)
-end_of_output (Solution text) (checking ask sets answer) h = inl (h.passes, refl)
-end_of_output (Solution text) (demonstrating ask count sets) h = inl (h.taken, refl)
-end_of_output (Size text) (solving ask sets) h = inl (h.taken, refl)
-end_of_output (Size text) (sizing ask sets) h = inl (h.taken, refl)
-end_of_output (Size text) (checking ask sets answer) h = inl (h.passes, refl)
-end_of_output (Size text) (demonstrating ask count sets) h = inl (h.taken, refl)
-end_of_output (Verdict true) (solving ask sets) h = inl (h.taken, refl)
-end_of_output (Verdict true) (sizing ask sets) h = inl (h.taken, refl)
-end_of_output (Verdict true) (checking ask sets answer) h = inl (h.passes, refl)
-end_of_output (Verdict true) (demonstrating ask count sets) h = inl (h.taken, refl)
-end_of_output (Verdict false) (solving ask sets) h = absurd h
-end_of_output (Verdict false) (sizing ask sets) h = absurd h
-end_of_output (Verdict false) (checking ask sets answer) h = inr (inl (h.fails, refl))
-end_of_output (Verdict false) (demonstrating ask count sets) h = absurd h
-end_of_output (Demonstration text) (solving ask sets) h = inl (h.taken, refl)
-end_of_output (Demonstration text) (sizing ask sets) h = inl (h.taken, refl)
-end_of_output (Demonstration text) (checking ask sets answer) h = inl (h.passes, refl)
-end_of_output (Demonstration text) (demonstrating ask count sets) h = inl (h.taken, refl)
+end_of_output (Solution text) (solving ask points) h = inl (h.taken, refl)
+end_of_output (Solution text) (sizing ask points) h = inl (h.taken, refl)
+end_of_output (Solution text) (checking ask points report) h = inl (h.passes, refl)
+end_of_output (Solution text) (demonstrating ask count points) h = inl (h.taken, refl)
+end_of_output (Size text) (solving ask points) h = inl (h.taken, refl)
+end_of_output (Size text) (sizing ask points) h = inl (h.taken, refl)
+end_of_output (Size text) (checking ask points report) h = inl (h.passes, refl)
+end_of_output (Size text) (demonstrating ask count points) h = inl (h.taken, refl)
+end_of_output (Verdict true) (solving ask points) h = inl (h.taken, refl)
+end_of_output (Verdict true) (sizing ask points) h = inl (h.taken, refl)
+end_of_output (Verdict true) (checking ask points report) h = inl (h.passes, refl)
+end_of_output (Verdict true) (demonstrating ask count points) h = inl (h.taken, refl)
+end_of_output (Verdict false) (solving ask points) h = absurd h
+end_of_output (Verdict false) (sizing ask points) h = absurd h
+end_of_output (Verdict false) (checking ask points report) h = inr (inl (h.fails, refl))
+end_of_output (Verdict false) (demonstrating ask count points) h = absurd h
+end_of_output (Demonstration text) (solving ask points) h = inl (h.taken, refl)
+end_of_output (Demonstration text) (sizing ask points) h = inl (h.taken, refl)
+end_of_output (Demonstration text) (checking ask points report) h = inl (h.passes, refl)
+end_of_output (Demonstration text) (demonstrating ask count points) h = inl (h.taken, refl)
 
 pub MayEnd-output : (P Q : Type 0) (words : List (List ℕ)) (old : FilesState) (output : Output) (status : Status) → OutputBy (IsMeantAs output) words old (outputs.bytes_of output) → status ≡ outputs.status_of output
     → IfSome old.told (λ folder. P → Q → MayEnd (judge words folder) status)

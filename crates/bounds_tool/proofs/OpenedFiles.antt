@@ -1,29 +1,20 @@
 -- What is opened and read.
-use Rattle.std.proofs.Common.{◌≡◌, inl, inr, refl, sym, subst, ◌∙◌, ℕ, ◌+◌, ◌≤◌, cond, List, [], ◌∷◌, Option, Some, None, Result, Ok, Err, IfSome, arith, le_trans}
+use Rattle.std.proofs.Common.{◌≡◌, inl, inr, refl, sym, subst, ℕ, ◌+◌, ◌≤◌, cond, List, [], ◌∷◌, Option, Some, None, Result, Ok, Err, IfSome, arith}
 use Rattle.std.specs.Prelude.{IsOk}
 use Rattle.bounds_model.specs.ErrorLines.{Cause}
 use Rattle.std.specs.Str.{bytes_eq}
-use Rattle.bnd_io.specs.Files.{Folder, FilesState, Continues, NoFault}
+use Rattle.bnd_io.specs.Files.{Folder, FilesState, Continues}
 use Rattle.command_line.specs.Words.{Task, solve_task, check_task, demo_task}
+use Rattle.pouring.proofs.Counts.{continues_on}
 use Rattle.bounds_tool.specs.Run.{ReadsOnly, ReadsOfTask}
 
 -- ---- counts
-
-pub continues_on : (a b c : FilesState) → Continues a b → Continues b c → Continues a c
-continues_on a b c h k = record {
-  open_faults = λ name. le_trans (h.open_faults name) (k.open_faults name);
-  read_faults = λ name. le_trans (h.read_faults name) (k.read_faults name);
-  told = k.told ∙ h.told;
-}
 
 pub continues_same : (a : FilesState) → Continues a a
 continues_same a = record { open_faults = λ name. same (a.open_faults name); read_faults = λ name. same (a.read_faults name); told = refl }
   where
     same : (n : ℕ) → n ≤ n
     same n = omega arith
-
-pub no_fault_on : (a b c : FilesState) → NoFault a b → NoFault b c → NoFault a c
-no_fault_on a b c h k = record { open_faults = λ name. k.open_faults name ∙ h.open_faults name; read_faults = λ name. k.read_faults name ∙ h.read_faults name }
 
 -- ---- opens
 

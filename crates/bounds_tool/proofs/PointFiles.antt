@@ -2,7 +2,7 @@
 use Rattle.std.proofs.Common.{◌≡◌, refl, sym, ◌∙◌, ap, subst, ℕ, ◌<◌, ◌≤◌, true, false, cond, List, length, nat_le, Option, Some, None, Result, Ok, Err, IfSome, arith}
 use Rattle.std.specs.Prelude.{IfErr, IsErrAnd}
 use Rattle.std.proofs.lemmas.Bool.Decides.{nat_tests}
-use Rattle.bounds_model.specs.Asks.{Ask, Sets}
+use Rattle.bounds_model.specs.Asks.{Ask, PointFile, Shape, shape_of}
 use Rattle.bounds_model.specs.PointText.{Refusal}
 use Rattle.bounds_model.specs.ErrorLines.{Cause, points_file, answer_file, open_fault, read_fault, too_long, out_of_memory}
 use Rattle.bnd_io.specs.Files.{Folder, FilesState, bytes_of}
@@ -10,7 +10,7 @@ use Rattle.point_text.specs.declared.text.Form.{Form}
 use Rattle.point_text.specs.declared.text.Form.TheVariants.{Text}
 use Rattle.point_text.specs.declared.text.TextFault.{TextFault}
 use Rattle.point_text.specs.declared.text.TextFault.TheVariants.{BadLine, OutOfRange, TooMany, NoPoints, WrongSets, OutOfMemory}
-use Rattle.point_text.specs.Files.{sets_of_file}
+use Rattle.point_text.specs.Files.{file_of_bytes}
 use Rattle.point_text.specs.Keeping.{KeepsPoint, MayWantMemory}
 use Rattle.point_text.specs.Refusals.{refusal_of}
 use Rattle.bounds_tool.specs.declared.cause.Cause as code
@@ -23,18 +23,18 @@ pub short : (n limit : ℕ) → n ≤ limit → nat_le n limit ≡ true
 short n limit h = grind (arith, nat_tests)
 
 -- a file within its limit reads as its text does
-points_in-text : (form : Form) (ask : Ask) (bytes : List ℕ) → length bytes ≤ limit_of points_file → points_in form ask bytes ≡ read_points (sets_of_file form ask bytes)
-points_in-text form ask bytes h = ap (λ t. cond t (Ok bytes) (Err (too_long points_file)) >>= λ whole. read_points (sets_of_file form ask whole)) (short (length bytes) (limit_of points_file) h)
+points_in-text : (form : Form) (ask : Ask) (bytes : List ℕ) → length bytes ≤ limit_of points_file → points_in form ask bytes ≡ read_points (file_of_bytes form (shape_of ask) bytes)
+points_in-text form ask bytes h = ap (λ t. cond t (Ok bytes) (Err (too_long points_file)) >>= λ whole. read_points (file_of_bytes form (shape_of ask) whole)) (short (length bytes) (limit_of points_file) h)
 
 -- the same of a file that is told
-pub points_in-told : (form : Form) (ask : Ask) (told : Option Folder) (name bytes : List ℕ) (judged : Result Sets Refusal) → IfSome told (λ folder. bytes_of folder name ≡ bytes) → length bytes ≤ limit_of points_file
-    → sets_of_file form ask bytes ≡ judged → IfSome told (λ folder. points_in form ask (bytes_of folder name) ≡ read_points judged)
+pub points_in-told : (form : Form) (ask : Ask) (told : Option Folder) (name bytes : List ℕ) (judged : Result PointFile Refusal) → IfSome told (λ folder. bytes_of folder name ≡ bytes) → length bytes ≤ limit_of points_file
+    → file_of_bytes form (shape_of ask) bytes ≡ judged → IfSome told (λ folder. points_in form ask (bytes_of folder name) ≡ read_points judged)
 points_in-told form ask None name bytes judged is h reads = tt
 points_in-told form ask (Some folder) name bytes judged is h reads = ap (points_in form ask) is ∙ (points_in-text form ask bytes h ∙ ap read_points reads)
 
 -- a text without its sets
 pub points_refused : (last : Option ℕ) (form : Form) (ask : Ask) (name bytes : List ℕ) (old new : FilesState) (fault : TextFault) → IfSome old.told (λ folder. bytes_of folder name ≡ bytes) → length bytes ≤ limit_of points_file
-    → IfSome (refusal_of fault) (λ refusal. sets_of_file form ask bytes ≡ Err refusal) → (fault ≡ OutOfMemory → MayWantMemory form ask bytes)
+    → IfSome (refusal_of fault) (λ refusal. file_of_bytes form (shape_of ask) bytes ≡ Err refusal) → (fault ≡ OutOfMemory → MayWantMemory form (shape_of ask) bytes)
     → PointsCause last form ask name old new (without_sets (refusal_of fault))
 points_refused last form ask name bytes old new (BadLine line) is h reads wants = (tt, points_in-told form ask old.told name bytes _ is h reads)
 points_refused last form ask name bytes old new (OutOfRange line) is h reads wants = (tt, points_in-told form ask old.told name bytes _ is h reads)
@@ -43,20 +43,20 @@ points_refused last form ask name bytes old new (NoPoints set) is h reads wants 
 points_refused last form ask name bytes old new (WrongSets count) is h reads wants = (tt, points_in-told form ask old.told name bytes _ is h reads)
 points_refused last form ask name bytes old new OutOfMemory is h reads wants = told old.told is
   where
-    told : (told : Option Folder) → IfSome told (λ folder. bytes_of folder name ≡ bytes) → IfSome told (λ folder. MayWantMemory form ask (bytes_of folder name))
+    told : (told : Option Folder) → IfSome told (λ folder. bytes_of folder name ≡ bytes) → IfSome told (λ folder. MayWantMemory form (shape_of ask) (bytes_of folder name))
     told None is = tt
-    told (Some folder) is = subst (MayWantMemory form ask) (sym is) (wants refl)
+    told (Some folder) is = subst (MayWantMemory form (shape_of ask)) (sym is) (wants refl)
 
 -- a file that is too long is refused for it
 too_long_in : (form : Form) (ask : Ask) (bytes : List ℕ) → limit_of points_file < length bytes → points_in form ask bytes ≡ Err (too_long points_file)
-too_long_in form ask bytes h = ap (λ t. cond t (Ok bytes) (Err (too_long points_file)) >>= λ whole. read_points (sets_of_file form ask whole)) (long (length bytes) (limit_of points_file) h)
+too_long_in form ask bytes h = ap (λ t. cond t (Ok bytes) (Err (too_long points_file)) >>= λ whole. read_points (file_of_bytes form (shape_of ask) whole)) (long (length bytes) (limit_of points_file) h)
   where
     long : (n limit : ℕ) → limit < n → nat_le n limit ≡ false
     long n limit h = grind (arith, nat_tests)
 
 -- a text that was not read to its end
 pub points_unread : (last : Option ℕ) (ask : Ask) (name : List ℕ) (old new : FilesState) (cause : Cause) → FileCause last points_file name old new cause
-    → (cause ≡ out_of_memory → IfSome old.told (λ folder. KeepsPoint ask (bytes_of folder name))) → PointsCause last Text ask name old new cause
+    → (cause ≡ out_of_memory → IfSome old.told (λ folder. KeepsPoint (shape_of ask) (bytes_of folder name))) → PointsCause last Text ask name old new cause
 points_unread last ask name old new (open_fault points_file) h wants = h.1
 points_unread last ask name old new (open_fault answer_file) h wants = absurd (let e = h.0 in cc)
 points_unread last ask name old new (read_fault points_file) h wants = h.1

@@ -4,17 +4,36 @@ use Rattle.std.specs.declared.option.Option.TheVariants.{Some, None}
 use Rattle.bounds_model.specs.PointText.{Refusal}
 use Rattle.bounds_model.specs.ErrorLines as model
 use Rattle.command_line.specs.Faults.{meant_fault}
-use Rattle.extremal_kgon.specs.declared.polygon.KgonFault as kgon
+use Rattle.point_text.specs.Refusals.{refusal_of}
+use Rattle.solving.specs.declared.fault.SolveFault as solving
+use Rattle.answer_lines.specs.declared.fault.ReadFault as answer
 use Rattle.bounds_tool.specs.declared.cause.InputFile.{InputFile}
-use Rattle.bounds_tool.specs.declared.cause.InputFile.TheVariants.{Points, Answer}
+use Rattle.bounds_tool.specs.declared.cause.InputFile.TheVariants as input
 use Rattle.bounds_tool.specs.Judging.{points_cause}
 use Rattle.bounds_tool.specs.declared.cause.Cause.{Cause}
-use Rattle.bounds_tool.specs.declared.cause.Cause.TheVariants.{Usage, NotOpened, NotRead, TooLong, BadLine, OutOfRange, TooMany, NoPoints, WrongSets, TooManyCorners, BadAnswer, BigNumber, OutputNotWritten, OutOfMemory}
+use Rattle.bounds_tool.specs.declared.cause.Cause.TheVariants.{Usage, NotOpened, NotRead, TooLong, Points, Answer, Solving, OutputNotWritten, OutOfMemory}
 
 -- the file
 abbrev pub meant_file : InputFile → model.InputFile
-meant_file Points = model.points_file
-meant_file Answer = model.answer_file
+meant_file input.Points = model.points_file
+meant_file input.Answer = model.answer_file
+
+-- the cause of a text of points without its sets: it is refused, or else memory is wanting
+abbrev pub without_sets : Option Refusal → model.Cause
+without_sets (Some refusal) = points_cause refusal
+without_sets None = model.out_of_memory
+
+-- the cause of a text without its answer
+abbrev pub unread : answer.ReadFault → model.Cause
+unread (answer.TheVariants.BadAnswer line) = model.bad_answer line
+unread (answer.TheVariants.BigNumber line) = model.big_number line
+unread answer.TheVariants.OutOfMemory = model.out_of_memory
+
+-- the cause of a question without an answer
+abbrev pub unsolved : solving.SolveFault → model.Cause
+unsolved (solving.TheVariants.TooManyCorners count) = model.too_many_corners count
+unsolved (solving.TheVariants.TooManyPoints count) = model.too_many_for_four count
+unsolved solving.TheVariants.OutOfMemory = model.out_of_memory
 
 -- the cause
 abbrev pub meant : Cause → model.Cause
@@ -22,23 +41,8 @@ meant (Usage fault) = meant_fault fault
 meant (NotOpened file) = model.open_fault (meant_file file)
 meant (NotRead file) = model.read_fault (meant_file file)
 meant (TooLong file) = model.too_long (meant_file file)
-meant (BadLine line) = model.bad_line line
-meant (OutOfRange line) = model.out_of_range line
-meant (TooMany line) = model.too_many_points line
-meant (NoPoints set) = model.no_points set
-meant (WrongSets count) = model.wrong_sets count
-meant (TooManyCorners count) = model.too_many_corners count
-meant (BadAnswer line) = model.bad_answer line
-meant (BigNumber line) = model.big_number line
+meant (Points fault) = without_sets (refusal_of fault)
+meant (Answer fault) = unread fault
+meant (Solving fault) = unsolved fault
 meant OutputNotWritten = model.write_fault
 meant OutOfMemory = model.out_of_memory
-
--- the cause of a question without an answer
-abbrev pub unsolved : kgon.KgonFault → Cause
-unsolved (kgon.TheVariants.TooManyCorners count) = TooManyCorners count
-unsolved kgon.TheVariants.OutOfMemory = OutOfMemory
-
--- the cause of a text of points without its sets: it is refused, or else memory is wanting
-abbrev pub without_sets : Option Refusal → model.Cause
-without_sets (Some refusal) = points_cause refusal
-without_sets None = model.out_of_memory

@@ -1,64 +1,69 @@
 -- What a run may write.
 use Rattle.std.specs.Prelude.{◌≡◌, ◌⊎◌, ℕ, true, false, List, ◌++◌, codes, decimal}
 use Rattle.bounds_model.specs.Fractions.{Fraction}
-use Rattle.bounds_model.specs.Asks.{Ask, Sets}
-use Rattle.bounds_model.specs.Answers.{Answer, Passes, IsBest, IsOptimum}
-use Rattle.bounds_model.specs.AnswerText.SpelledParts.{size_line}
-use Rattle.bounds_model.specs.AnswerText.Spelling.{Spells}
-use Rattle.bounds_tool.specs.Solving.{AreTooMany}
+use Rattle.bounds_model.specs.Asks.{Ask, PointFile}
+use Rattle.bounds_model.specs.Answers.{IsFirstOfBest}
+use Rattle.bounds_model.specs.Reports.{Report, PassesAt, IsBestAt, IsOptimumAt}
+use Rattle.bounds_model.specs.AnswerText.Written.{size_line}
+use Rattle.bounds_model.specs.AnswerText.Spelling.{SpellsReport}
+use Rattle.solving.specs.Solving.{AreTooMany}
 use Rattle.bounds_tool.specs.Judging.{Work, solving, sizing, checking, demonstrating}
 use Rattle.bounds_tool.specs.declared.output.Output.{Output}
 use Rattle.bounds_tool.specs.declared.output.Output.TheVariants.{Solution, Size, Verdict, Demonstration}
 use Rattle.bounds_tool.specs.declared.status.Status.{Status}
 use Rattle.bounds_tool.specs.declared.status.Status.TheVariants.{Done, No}
 
--- the bytes spell an answer that passes the checker, no object of the kind that fits the points is better, and a polygon is asked of a hull of at most 128 corners
-pub record IsSolution (ask : Ask) (sets : Sets) (bytes : List ℕ) : Type 0 where
-  pub answer : Answer
-  pub spells : Spells bytes answer
-  pub passes : Passes ask sets answer
-  pub best : IsBest ask sets answer
-  pub taken : ¬ AreTooMany ask sets
+-- the bytes spell a report that passes the checker at the scale of the points, no object of the kind that fits the true points is better, of all best strips,
+-- rectangles and polygons its object is the first, and the points are not too many for what is asked
+pub record IsSolution (ask : Ask) (points : PointFile) (bytes : List ℕ) : Type 0 where
+  pub report : Report
+  pub spells : SpellsReport bytes report
+  pub passes : PassesAt ask points report
+  pub best : IsBestAt ask points report
+  pub first : IsFirstOfBest ask points.sets report.answer
+  pub taken : ¬ AreTooMany ask points.sets
 
--- the line of the size of a best answer in lowest terms, for a hull that is taken
-pub record IsSize (ask : Ask) (sets : Sets) (bytes : List ℕ) : Type 0 where
+-- the line of the size of a best report in lowest terms, for points that are not too many
+pub record IsSize (ask : Ask) (points : PointFile) (bytes : List ℕ) : Type 0 where
   pub size : Fraction
-  pub optimum : IsOptimum ask sets size
-  pub taken : ¬ AreTooMany ask sets
+  pub optimum : IsOptimumAt ask points size
+  pub taken : ¬ AreTooMany ask points.sets
   pub line : bytes ≡ size_line size
 
--- the answer passes the checker, and no object of the kind that fits the points is better than its object
-pub record IsYes (ask : Ask) (sets : Sets) (answer : Answer) (bytes : List ℕ) : Type 0 where
-  pub passes : Passes ask sets answer
-  pub best : IsBest ask sets answer
+-- the report passes the checker at the scale of the points, no object of the kind that fits the true points is better than its object, and of all best strips,
+-- rectangles and polygons it is the first
+pub record IsYes (ask : Ask) (points : PointFile) (report : Report) (bytes : List ℕ) : Type 0 where
+  pub passes : PassesAt ask points report
+  pub best : IsBestAt ask points report
+  pub first : IsFirstOfBest ask points.sets report.answer
   pub yes : bytes ≡ codes "yes\n"
 
--- the answer does not pass the checker
-pub record IsNo (ask : Ask) (sets : Sets) (answer : Answer) (bytes : List ℕ) : Type 0 where
-  pub fails : ¬ Passes ask sets answer
+-- the report does not pass the checker
+pub record IsNo (ask : Ask) (points : PointFile) (report : Report) (bytes : List ℕ) : Type 0 where
+  pub fails : ¬ PassesAt ask points report
   pub no : bytes ≡ codes "no\n"
 
 -- the line of how many points were made in each set
 abbrev pub made_line : ℕ → List ℕ
 made_line count = codes "made " ++ (decimal count ++ codes "\n")
 
--- that line, and the size of a best answer in lowest terms, for a hull that is taken
-pub record IsDemonstration (ask : Ask) (count : ℕ) (sets : Sets) (bytes : List ℕ) : Type 0 where
+-- that line, and the size of a best report in lowest terms, for points that are not too many
+pub record IsDemonstration (ask : Ask) (count : ℕ) (points : PointFile) (bytes : List ℕ) : Type 0 where
   pub size : Fraction
-  pub optimum : IsOptimum ask sets size
-  pub taken : ¬ AreTooMany ask sets
+  pub optimum : IsOptimumAt ask points size
+  pub taken : ¬ AreTooMany ask points.sets
   pub lines : bytes ≡ made_line count ++ size_line size
 
 -- what is written where the work is done and an answer that was to be judged passes
 abbrev pub IsDone : Work → List ℕ → Type 0
-IsDone (solving ask sets) bytes = IsSolution ask sets bytes
-IsDone (sizing ask sets) bytes = IsSize ask sets bytes
-IsDone (checking ask sets answer) bytes = IsYes ask sets answer bytes
-IsDone (demonstrating ask count sets) bytes = IsDemonstration ask count sets bytes
+IsDone (solving ask points) bytes = IsSolution ask points bytes
+IsDone (sizing ask points) bytes = IsSize ask points bytes
+IsDone (checking ask points report) bytes = IsYes ask points report bytes
+IsDone (demonstrating ask count points) bytes = IsDemonstration ask count points bytes
 
 -- what is written where an answer that was to be judged does not pass
 abbrev pub IsRejection : Work → List ℕ → Type 0
-IsRejection (checking ask sets answer) bytes = IsNo ask sets answer bytes
+IsRejection (checking ask points report) bytes = IsNo ask points report bytes
 IsRejection work bytes = ⊥
 
 -- either of them

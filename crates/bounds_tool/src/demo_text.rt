@@ -1,6 +1,6 @@
 //! What a demonstration tells, and the size alone.
 ghost use Rattle.std.specs.Prelude.{◌≡◌, ◌++◌, IfOk, OnOk};
-ghost use Rattle.bounds_model.specs.AnswerText.SpelledParts.{size_line};
+ghost use Rattle.bounds_model.specs.AnswerText.Written.{size_line};
 ghost use Rattle.bounds_tool.specs.Outputs.{made_line};
 
 use exact_fractions::Frac;

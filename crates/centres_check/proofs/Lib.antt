@@ -1,2 +1,5 @@
 pub mod CentresPassing
-pub mod Leaves
+pub mod CornerLeaves
+pub mod BoxesBeside
+pub mod Lowest
+pub mod Walk

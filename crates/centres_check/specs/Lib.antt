@@ -1,1 +1,3 @@
 pub mod CentresLimits
+pub mod Heights
+pub mod CornerBoxes

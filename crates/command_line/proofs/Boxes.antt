@@ -1,6 +1,6 @@
 -- Numbers with commas between them, as a box.
-use Rattle.std.proofs.Common.{◌≡◌, ◌∙◌, refl, ap, cond, ℕ, ◌+◌, ◌<◌, Bool, true, false, List, [], ◌∷◌, Option, Some, None, ℤ, ◌<ℤ◌, rules}
-use Rattle.std.specs.Prelude.{if◌then◌else◌, ◌==◌, int_lt, ◌&&◌, ◌↔◌, IsSome, IfSome}
+use Rattle.std.proofs.Common.{◌≡◌, refl, ap, cond, ℕ, Bool, true, false, List, Option, Some, None, ℤ, rules}
+use Rattle.std.specs.Prelude.{int_lt, ◌&&◌, ◌↔◌, IsSome, IfSome}
 use Rattle.bounds_model.specs.AnswerText.Numerals.{◌>>=◌}
 use Rattle.bounds_model.specs.EmptyRectangle.{Box, IsFrame}
 use Rattle.bounds_model.specs.Numbers.{IsWithin}

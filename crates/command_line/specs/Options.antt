@@ -52,7 +52,7 @@ usage brief_option command asked = unused
 abbrev pub takes : OptionName → List ℕ → Bool
 takes kind_option word = is_some (kind_named word)
 takes form_option word = is_some (form_named word)
-takes p_option word = is_some (number_within 1 3 word)
+takes p_option word = is_some (number_within 1 4 word)
 takes k_option word = is_some (number_within 3 12 word)
 takes box_option word = is_some (frame_written word)
 takes seed_option word = is_some (number_within 0 2147483647 word)

@@ -5,13 +5,13 @@ use Rattle.std.specs.declared.option.Option.{Option}
 use Rattle.std.specs.declared.option.Option.TheVariants.{Some, None}
 use Rattle.std.specs.declared.result.Result.{Result}
 use Rattle.std.specs.declared.result.Result.TheVariants.{Ok, Err}
-use Rattle.bounds_model.specs.Asks.{Ask, ask_circle, ask_sphere, ask_rectangle, ask_parallelogram, ask_strip, ask_annulus, ask_empty, ask_kgon, ask_distance, ask_centres}
+use Rattle.bounds_model.specs.Asks.{Ask, ask_circle, ask_sphere, ask_rectangle, ask_parallelogram, ask_strip, ask_annulus, ask_empty, ask_kgon, ask_distance, ask_centres, ask_furthest, ask_four, ask_shell}
 use Rattle.bounds_model.specs.ErrorLines.{OptionName, kind_option, form_option, p_option, k_option, box_option, seed_option, count_option, brief_option, Cause, words_not_understood, unknown_command, wrong_file_count}
 use Rattle.bounds_model.specs.AnswerText.Numerals.{◌>>=◌}
 use Rattle.point_text.specs.declared.text.Form.{Form}
 use Rattle.point_text.specs.declared.text.Form.TheVariants.{Text}
 use Rattle.command_line.specs.declared.kind.Kind.{Kind}
-use Rattle.command_line.specs.declared.kind.Kind.TheVariants.{Circle, Sphere, Rectangle, Parallelogram, Strip, Annulus, Empty, Kgon, Distance, Centres}
+use Rattle.command_line.specs.declared.kind.Kind.TheVariants.{Circle, Sphere, Rectangle, Parallelogram, Strip, Annulus, Empty, Kgon, Distance, Centres, Furthest, Shell}
 use Rattle.command_line.specs.Kinds.{kind_named}
 use Rattle.command_line.specs.Values.{number_within, frame_written, form_named}
 use Rattle.command_line.specs.Options.{Command, solving, checking, demonstrating, usage, option_fault, first_cause}
@@ -87,6 +87,10 @@ form_by (Some word) = form_named word
 abbrev pub number_by : ℕ → ℕ → Option (List ℕ) → Option ℕ
 number_by low high value = option_and_then (number_within low high) value
 
+-- the question of so many squares: four are a question of their own
+abbrev pub ask_squares : ℕ → Ask
+ask_squares p = if p == 4 then ask_four else ask_centres p
+
 -- the question of a kind with its options
 abbrev pub ask_by : Kind → Given → Option Ask
 ask_by Circle given = Some ask_circle
@@ -98,7 +102,9 @@ ask_by Annulus given = Some ask_annulus
 ask_by Empty given = option_map ask_empty (option_and_then frame_written given.box)
 ask_by Kgon given = option_map ask_kgon (number_by 3 12 given.k)
 ask_by Distance given = Some ask_distance
-ask_by Centres given = option_map ask_centres (number_by 1 3 given.p)
+ask_by Centres given = option_map ask_squares (number_by 1 4 given.p)
+ask_by Furthest given = Some ask_furthest
+ask_by Shell given = Some ask_shell
 
 -- the question of a command
 abbrev pub question : Command → Given → Option Ask

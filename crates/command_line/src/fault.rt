@@ -1,5 +1,6 @@
 //! Why words are no task.
 
+use error_texts::{ErrorText, joined, plain};
 use std::alloc::AllocError;
 use std::error::Error;
 use std::fmt;
@@ -26,13 +27,14 @@ pub enum Opt {
 }
 
 impl Opt {
-    ghost use Rattle.std.specs.Prelude.{◌≡◌};
+    ghost use Rattle.std.specs.Prelude.{◌≡◌, ◌≤◌, length};
     ghost use Rattle.bounds_model.specs.ErrorLines.{option_name};
     ghost use Rattle.command_line.specs.Faults.{meant_option};
 
     /// The option's word without its dashes.
     pub fn name(self) -> &'static str
-        ensures { result.now ≡ option_name (meant_option self) }
+        ensures text { result.now ≡ option_name (meant_option self) }
+        ensures short { length result.now ≤ 5 }
     {
         match self {
             Opt::Kind => "kind",
@@ -67,6 +69,29 @@ pub enum UsageFault {
     OutOfMemory,
 }
 
+impl UsageFault {
+    ghost use Rattle.std.specs.Prelude.{◌≡◌, ◌≤◌, length};
+    ghost use Rattle.command_line.specs.Messages.{usage_message};
+
+    /// What is said of the fault.
+    pub fn message(self) -> ErrorText
+        ensures text { result.bytes ≡ usage_message self }
+        ensures short { length result.bytes ≤ 60 }
+    {
+        match self {
+            UsageFault::Words => plain("words are not understood"),
+            UsageFault::UnknownCommand => plain("unknown command"),
+            UsageFault::FileCount => plain("wrong number of files"),
+            UsageFault::MissingOption(option) => joined("option --", option.name(), " is missing"),
+            UsageFault::UnneededOption(option) => {
+                joined("option --", option.name(), " is not used here")
+            }
+            UsageFault::BadValue(option) => joined("option --", option.name(), " has a bad value"),
+            UsageFault::OutOfMemory => plain("out of memory"),
+        }
+    }
+}
+
 impl fmt::Display for UsageFault {
     ghost use Rattle.std.specs.Prelude.{Some};
     ghost use Rattle.command_line.specs.Messages.{usage_message};
@@ -74,24 +99,7 @@ impl fmt::Display for UsageFault {
     ghost output = { λ fault. Some (usage_message fault) };
 
     fn fmt<W: fmt::Write>(&self, f: &mut fmt::Formatter<W>) -> fmt::Result {
-        match *self {
-            UsageFault::Words => f.write_str("words are not understood"),
-            UsageFault::UnknownCommand => f.write_str("unknown command"),
-            UsageFault::FileCount => f.write_str("wrong number of files"),
-            UsageFault::MissingOption(option) => {
-                let name = option.name();
-                write!(f, "option --{name} is missing")
-            }
-            UsageFault::UnneededOption(option) => {
-                let name = option.name();
-                write!(f, "option --{name} is not used here")
-            }
-            UsageFault::BadValue(option) => {
-                let name = option.name();
-                write!(f, "option --{name} has a bad value")
-            }
-            UsageFault::OutOfMemory => f.write_str("out of memory"),
-        }
+        f.write_str(self.message().as_str())
     }
 }
 

@@ -15,6 +15,8 @@ pub(crate) enum Kind {
     Kgon,
     Distance,
     Centres,
+    Furthest,
+    Shell,
 }
 
 /// The kind that the word names.
@@ -33,6 +35,8 @@ pub(crate) fn kind_named(word: &str) -> Option<Kind>
         "kgon" => Some(Kind::Kgon),
         "distance" => Some(Kind::Distance),
         "centres" => Some(Kind::Centres),
+        "furthest" => Some(Kind::Furthest),
+        "shell" => Some(Kind::Shell),
         _ => None,
     }
 }

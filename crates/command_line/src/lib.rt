@@ -13,8 +13,6 @@ mod kind;
 mod options;
 mod parsing;
 mod task;
-#[cfg(test)]
-mod tests;
 mod values;
 mod words;
 

@@ -8,7 +8,7 @@ ghost use Rattle.command_line.specs.Given.{meant_given, text_within};
 ghost use Rattle.command_line.specs.Kinds.{kind_named};
 ghost use Rattle.command_line.specs.Values as model;
 ghost use Rattle.command_line.specs.Options.{needed, unused, allowed, fault_by, option_fault};
-ghost use Rattle.command_line.specs.Words.{ask_by, form_by, flag_value};
+ghost use Rattle.command_line.specs.Words.{ask_squares, ask_by, form_by, flag_value};
 ghost use Rattle.command_line.specs.Parts.{kind_fault, plain_fault};
 
 use crate::kind::{Kind, kind_named};
@@ -26,10 +26,10 @@ pub(crate) fn ask(kind: Kind, given: &Given<'_, '_>) -> Result<Ask, UsageFault>
 {
     match kind {
         Kind::Centres => {
-            let p = number(Opt::P, 1, 3, given.p)?;
+            let p = number(Opt::P, 1, 4, given.p)?;
             unneeded(Opt::K, given.k)?;
             unneeded(Opt::Frame, given.frame)?;
-            Ok(Ask::Centres(p as u8))
+            Ok(squares(p))
         }
         Kind::Kgon => {
             unneeded(Opt::P, given.p)?;
@@ -49,6 +49,22 @@ pub(crate) fn ask(kind: Kind, given: &Given<'_, '_>) -> Result<Ask, UsageFault>
         Kind::Strip => plain(Ask::Strip, given),
         Kind::Annulus => plain(Ask::Annulus, given),
         Kind::Distance => plain(Ask::Distance, given),
+        Kind::Furthest => plain(Ask::Furthest, given),
+        Kind::Shell => plain(Ask::Shell, given),
+    }
+}
+
+// What so many squares ask: one to three, or four, whose answers have a witness of their own.
+fn squares(p: u32) -> Ask
+    requires some { 1 ≤ p }
+    requires few { p ≤ 4 }
+    ensures ask { asked result ≡ ask_squares p }
+    ensures valid { IsValid (asked result) }
+{
+    if p == 4 {
+        Ask::Four
+    } else {
+        Ask::Centres(p as u8)
     }
 }
 

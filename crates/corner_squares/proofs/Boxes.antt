@@ -1,22 +1,19 @@
 -- How the bounding box of points grows point by point, and what it says of all points that are left over.
-use Rattle.std.proofs.Common.{◌≡◌, ◌⊎◌, inl, inr, refl, sym, subst, ap, ap₂, ◌∙◌, ℕ, ◌+◌, ◌%◌, ◌/◌, ◌<◌, ◌≤◌, ℤ, pos, ◌-ℤ◌, ◌≤ℤ◌, ◌<ℤ◌, List, [], ◌∷◌, ◌++◌, length, get_or, All, Contains, arith}
-use Rattle.std.specs.Prelude.{slice_get, Option, Some, None, if◌then◌else◌, ◌==◌}
+use Rattle.std.proofs.Common.{◌≡◌, ◌⊎◌, inl, inr, refl, sym, subst, ap, ◌∙◌, ℕ, ◌+◌, ◌<◌, ◌≤◌, ℤ, ◌≤ℤ◌, ◌<ℤ◌, List, [], ◌∷◌, length, All, Contains, arith}
+use Rattle.std.specs.Prelude.{slice_get, Option, Some, None}
 use Rattle.std.proofs.lemmas.Int.{ints}
 use Rattle.std.proofs.lemmas.Option.{slice_get_within, get_or_from_slice_get}
 use Rattle.std.proofs.lemmas.List.{get_or_default}
 use Rattle.std.proofs.lemmas.List.Elements.{Contains-get_or}
-use Rattle.integers.specs.Extremes.{greatest, least}
-use Rattle.integers.proofs.Extremes.{greatest_is, least_is}
 use Rattle.integers.proofs.Lists.{below_or_at}
 use Rattle.bounds_model.specs.Numbers.{IsWithin}
 use Rattle.bounds_model.specs.Plane.{PlanePoint, point_at, origin, plane_limit, IsInPlane}
-use Rattle.bounds_model.specs.CentresAnswer as model
 use Rattle.corner_squares.specs.declared.square.Square.{Square}
 use Rattle.corner_squares.specs.declared.extent.Extent.{Extent}
 use Rattle.corner_squares.specs.declared.bounds.Bounds.{Bounds}
-use Rattle.corner_squares.specs.Squares.{square_of, IsCovered, left_over}
-use Rattle.corner_squares.specs.Extents.{Sees, HasAt, IsExtent, IsBox, Adds, IsFound}
-use Rattle.corner_squares.proofs.LeftOver.{Contains-left_over, All-left_over, left_over-push}
+use Rattle.corner_squares.specs.Squares.{IsCovered, left_over}
+use Rattle.corner_squares.specs.Extents.{Sees, HasAt, IsSpan, IsRestBox, IsExtent, IsBox, Adds, IsFound}
+use Rattle.corner_squares.proofs.LeftOver.{Contains-left_over, All-left_over}
 
 -- ---- one point more
 
@@ -189,46 +186,15 @@ nothing_free points squares i all h =
 pub end_left : {of : PlanePoint → ℤ} {number : ℕ} {value : ℤ} (points : List PlanePoint) (squares : List Square) → HasAt of points squares number value → Contains (left_over squares points) (point_at points number)
 end_left {of} {number} points squares at = Contains-left_over squares points (point_at points number) (Contains-get_or points number origin at.below) at.free
 
-inside_all : (of : PlanePoint → ℤ) (points : List PlanePoint) (squares : List Square) (i : ℕ) (e : Extent) → length points ≤ i → IsExtent of points squares i e
-    → All (λ p. (e.low ≤ℤ of p) × (of p ≤ℤ e.high)) (left_over squares points)
-inside_all of points squares i e all h =
-    All-left_over (λ p. (e.low ≤ℤ of p) × (of p ≤ℤ e.high)) squares points
-    (λ p m free. let is : point_at points m.0 ≡ p = get_or_default points m.0 origin p m.1 ∙ m.2 in elim (h.inside m.0 (seen m.1)) [
-      | inl covered ↦ absurd (free (subst (IsCovered squares) is covered))
-      | inr inside ↦ subst (λ p. (e.low ≤ℤ of p) × (of p ≤ℤ e.high)) is inside
-    ])
+span_of_extent : (of : PlanePoint → ℤ) (points : List PlanePoint) (squares : List Square) (i : ℕ) (e : Extent) → length points ≤ i → IsExtent of points squares i e → IsSpan of points squares e
+span_of_extent of points squares i e all h = record { inside = λ k below. h.inside k (seen below); low_at = h.low_at; high_at = h.high_at; plane = h.plane }
   where
     seen : {k : ℕ} → k < length points → k < i
     seen l = omega arith
 
--- the low end is the least coordinate of what is left over
-low_is_least : (of : PlanePoint → ℤ) (points : List PlanePoint) (squares : List Square) (i : ℕ) (e : Extent) → length points ≤ i → IsExtent of points squares i e → e.low ≡ least of (left_over squares points)
-low_is_least of points squares i e all h =
-    sym (least_is of (left_over squares points) (point_at points e.low_at) (end_left points squares h.low_at)
-    (λ k d below. subst (λ v. v ≤ℤ of (get_or (left_over squares points) k d)) (sym h.low_at.has) (inside_all of points squares i e all h k d below).0) ∙ h.low_at.has)
-
--- and the high end the greatest
-high_is_greatest : (of : PlanePoint → ℤ) (points : List PlanePoint) (squares : List Square) (i : ℕ) (e : Extent) → length points ≤ i → IsExtent of points squares i e → e.high ≡ greatest of (left_over squares points)
-high_is_greatest of points squares i e all h =
-    sym (greatest_is of (left_over squares points) (point_at points e.high_at) (end_left points squares h.high_at)
-    (λ k d below. subst (λ v. of (get_or (left_over squares points) k d) ≤ℤ v) (sym h.high_at.has) (inside_all of points squares i e all h k d below).1) ∙ h.high_at.has)
-
--- the square in a corner of the box is the model's
-pub corner_is : (points : List PlanePoint) (squares : List Square) (i : ℕ) (b : Bounds) (s : Square) (corner side : ℕ) → length points ≤ i → IsBox points squares i b
-    → s.left ≡ (if corner % 2 == 0 then b.across.low else (b.across.high -ℤ pos side)) → s.bottom ≡ (if corner / 2 == 0 then b.up.low else (b.up.high -ℤ pos side)) → s.side ≡ side
-    → square_of s ≡ model.corner_square side corner (left_over squares points)
-corner_is points squares i b s corner side all h is_left is_bottom is_side =
-    square_parts _ _ _ _ _ _
-    (is_left ∙ ap₂ (λ low high. if corner % 2 == 0 then low else (high -ℤ pos side)) (low_is_least (λ p. p.x) points squares i b.across all h.across) (high_is_greatest (λ p. p.x) points squares i b.across all h.across))
-    (is_bottom ∙ ap₂ (λ low high. if corner / 2 == 0 then low else (high -ℤ pos side)) (low_is_least (λ p. p.y) points squares i b.up all h.up) (high_is_greatest (λ p. p.y) points squares i b.up all h.up))
-    is_side
-  where
-    square_parts : (a b c d : ℤ) (m n : ℕ) → a ≡ b → c ≡ d → m ≡ n → ◌≡◌ {A = model.Square} (record { left = a; bottom = c; side = m }) (record { left = b; bottom = d; side = n })
-    square_parts a b c d m n e f g = cc
-
--- with that square placed too, what is outside of it is left over
-pub left_over-corner : (points : List PlanePoint) (squares pushed : List Square) (i : ℕ) (b : Bounds) (s : Square) (corner side : ℕ) → length points ≤ i → IsBox points squares i b
-    → s.left ≡ (if corner % 2 == 0 then b.across.low else (b.across.high -ℤ pos side)) → s.bottom ≡ (if corner / 2 == 0 then b.up.low else (b.up.high -ℤ pos side)) → s.side ≡ side → pushed ≡ squares ++ s ∷ []
-    → left_over pushed points ≡ model.outside (model.corner_square side corner (left_over squares points)) (left_over squares points)
-left_over-corner points squares pushed i b s corner side all h left bottom wide is =
-    ap (λ ss. left_over ss points) is ∙ left_over-push squares s points ∙ ap (λ q. model.outside q (left_over squares points)) (corner_is points squares i b s corner side all h left bottom wide)
+-- the box of all points is that of what the squares leave over
+pub rest_box : (points : List PlanePoint) (squares : List Square) (i : ℕ) (b : Bounds) → length points ≤ i → IsBox points squares i b → IsRestBox points squares b
+rest_box points squares i b all h = record {
+  across = span_of_extent (λ p. p.x) points squares i b.across all h.across;
+  up = span_of_extent (λ p. p.y) points squares i b.up all h.up;
+}

@@ -1,4 +1,11 @@
-pub mod Covering
 pub mod LeftOver
+pub mod Covering
 pub mod Boxes
+pub mod RestBoxes
 pub mod Trees
+pub mod Placing
+pub mod Halves
+pub mod Ranges
+pub mod Filling
+pub mod SoundSquares
+pub mod LeastPlaces

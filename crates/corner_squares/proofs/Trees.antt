@@ -1,5 +1,5 @@
 -- The leaves of a tree of corners, from those below each corner and back.
-use Rattle.std.proofs.Common.{◌≡◌, ◌⊎◌, inl, inr, refl, sym, subst, ap, ap₂, ◌∙◌, ℕ, zero, suc, ◌+◌, ◌-◌, ◌*◌, ◌/◌, ◌%◌, ◌^◌, ◌<◌, ◌≤◌, List, [], ◌∷◌, ◌++◌, length, get_or, take, drop, Contains, arith}
+use Rattle.std.proofs.Common.{◌≡◌, inl, inr, refl, sym, subst, ap, ap₂, ◌∙◌, ℕ, zero, suc, ◌+◌, ◌-◌, ◌*◌, ◌/◌, ◌%◌, ◌^◌, ◌<◌, ◌≤◌, List, [], ◌∷◌, ◌++◌, length, get_or, take, drop, Contains, arith}
 use Rattle.std.proofs.lemmas.List.{length-append, get_or_append_left, get_or-append_right, get_or-take, get_or-drop, length-take-le, length-drop}
 use Rattle.integers.proofs.Lists.{before_or_after}
 use Rattle.bounds_model.specs.Numbers.{AllNumbered}
@@ -31,9 +31,11 @@ leaf_up side depth corner j points rest leaf few four below h =
     let same = digits_below depth corner j few four below in
     record {
       names = h.names;
-      first = subst (λ ds. IsLeftOver side ds rest (point_at points leaf.first)) (sym same) h.first;
-      second = subst (λ ds. IsLeftOver side ds rest (point_at points leaf.second)) (sym same) h.second;
-      far = h.far;
+      below = record {
+        first = subst (λ ds. IsLeftOver side ds rest (point_at points leaf.first)) (sym same) h.below.first;
+        second = subst (λ ds. IsLeftOver side ds rest (point_at points leaf.second)) (sym same) h.below.second;
+        far = h.below.far;
+      };
     }
 
 -- and back
@@ -43,9 +45,11 @@ leaf_down side depth corner j points rest leaf few four below h =
     let same = digits_below depth corner j few four below in
     record {
       names = h.names;
-      first = subst (λ ds. IsLeftOver side ds rest (point_at points leaf.first)) same h.first;
-      second = subst (λ ds. IsLeftOver side ds rest (point_at points leaf.second)) same h.second;
-      far = h.far;
+      below = record {
+        first = subst (λ ds. IsLeftOver side ds rest (point_at points leaf.first)) same h.below.first;
+        second = subst (λ ds. IsLeftOver side ds rest (point_at points leaf.second)) same h.below.second;
+        far = h.below.far;
+      };
     }
 
 -- ---- one leaf
@@ -58,7 +62,7 @@ only P x h (suc k) d below = absurd (omega arith)
 -- the leaf of a node without corners
 pub one_leaf : (side : ℕ) (points rest : List PlanePoint) (leaf : Leaf) → NamesPoints points leaf → Contains rest (point_at points leaf.first) → Contains rest (point_at points leaf.second)
     → AreFar side (point_at points leaf.first) (point_at points leaf.second) → AreLeavesAt side 0 points rest (leaf ∷ [])
-one_leaf side points rest leaf names first second far = record { as_many = refl; each = only (IsLeafAt side 0 points rest) leaf (record { names = names; first = first; second = second; far = far }) }
+one_leaf side points rest leaf names first second far = record { as_many = refl; each = only (IsLeafAt side 0 points rest) leaf (record { names = names; below = record { first = first; second = second; far = far } }) }
 
 -- ---- corner by corner
 
@@ -143,10 +147,10 @@ some_leaf (suc depth) = let l = some_leaf depth in let e : 4 ^ suc depth ≡ 4 *
 -- where no point is left over, there are no leaves
 pub no_leaves : (side depth : ℕ) (points : List PlanePoint) (leaves : List Leaf) → ¬ AreLeavesAt side depth points [] leaves
 no_leaves side depth points leaves h =
-    nothing_left side (digits depth 0) _ (h.each 0 (record { first = 0; second = 0 }) (subst (λ n. 0 < n) (sym h.as_many) (some_leaf depth))).first
+    nothing_left side (digits depth 0) _ (h.each 0 (record { first = 0; second = 0 }) (subst (λ n. 0 < n) (sym h.as_many) (some_leaf depth))).below.first
 
 -- ---- the whole tree
 
 -- the leaves of the tree over all points are what a checker asks
 pub tree_leaves : (side count : ℕ) (points : List PlanePoint) (leaves : List Leaf) → AreLeavesAt side (count - 1) points points leaves → AreLeaves (suc side) count points leaves
-tree_leaves side count points leaves h = (h.as_many, λ k d below. let leaf = h.each k d below in record { first = leaf.first; second = leaf.second; far = leaf.far })
+tree_leaves side count points leaves h = (h.as_many, λ k d below. (h.each k d below).below)

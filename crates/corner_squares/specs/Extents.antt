@@ -1,5 +1,5 @@
 -- The least and the greatest coordinate of the points seen so far that no square contains.
-use Rattle.std.specs.Prelude.{◌≡◌, ◌⊎◌, ℕ, ◌<◌, List, length, Option, Some, None, ℤ, ◌≤ℤ◌, ◌<ℤ◌}
+use Rattle.std.specs.Prelude.{◌≡◌, ◌⊎◌, ℕ, ◌<◌, List, length, Option, Some, None, ℤ, pos, ◌+ℤ◌, ◌≤ℤ◌, ◌<ℤ◌}
 use Rattle.bounds_model.specs.Numbers.{IsWithin}
 use Rattle.bounds_model.specs.Plane.{PlanePoint, point_at, plane_limit}
 use Rattle.corner_squares.specs.declared.square.Square.{Square}
@@ -24,9 +24,34 @@ pub record HasAt (of : PlanePoint → ℤ) (points : List PlanePoint) (squares :
   pub free : ¬ IsCovered squares (point_at points number)
   pub has : of (point_at points number) ≡ value
 
+-- the value is between the ends
+abbrev pub IsInside : Extent → ℤ → Type 0
+IsInside e value = (e.low ≤ℤ value) × (value ≤ℤ e.high)
+
+-- the ends are at most so far apart
+abbrev pub IsShort : ℕ → Extent → Type 0
+IsShort limit e = e.high ≤ℤ (e.low +ℤ pos limit)
+
+-- the extent reaches from the least to the greatest coordinate of the points that no square contains
+pub record IsSpan (of : PlanePoint → ℤ) (points : List PlanePoint) (squares : List Square) (e : Extent) : Type 0 where
+  pub inside : (k : ℕ) → k < length points → IsCovered squares (point_at points k) ⊎ IsInside e (of (point_at points k))
+  pub low_at : HasAt of points squares e.low_at e.low
+  pub high_at : HasAt of points squares e.high_at e.high
+  pub plane : IsPlaneExtent e
+
+-- the box is the bounding box of the points that no square contains
+pub record IsRestBox (points : List PlanePoint) (squares : List Square) (b : Bounds) : Type 0 where
+  pub across : IsSpan (λ p. p.x) points squares b.across
+  pub up : IsSpan (λ p. p.y) points squares b.up
+
+-- the box is at most so long, in x and in y
+pub record IsNoLonger (limit : ℕ) (b : Bounds) : Type 0 where
+  pub in_x : IsShort limit b.across
+  pub in_y : IsShort limit b.up
+
 -- the extent reaches from the least to the greatest coordinate of the first i points, as far as no square contains them, and names the first of the points that have them
 pub record IsExtent (of : PlanePoint → ℤ) (points : List PlanePoint) (squares : List Square) (i : ℕ) (e : Extent) : Type 0 where
-  pub inside : (k : ℕ) → k < i → IsCovered squares (point_at points k) ⊎ ((e.low ≤ℤ of (point_at points k)) × (of (point_at points k) ≤ℤ e.high))
+  pub inside : (k : ℕ) → k < i → IsCovered squares (point_at points k) ⊎ IsInside e (of (point_at points k))
   pub low_at : HasAt of points squares e.low_at e.low
   pub high_at : HasAt of points squares e.high_at e.high
   pub low_seen : e.low_at < i

@@ -17,8 +17,6 @@ mod search;
 mod settling;
 mod sums;
 mod support;
-#[cfg(test)]
-mod tests;
 mod unsettled;
 
 pub use items::{Id, Items};

@@ -66,6 +66,7 @@ pub(crate) fn search<K: Kernel, T: Potential>(
     match rest {
         [] => settled::<K, T>(kernel, all, chosen.as_slice()),
         [next, rest @ ..] => {
+            // The new item stands first, and one of its parts always settles: so parts without it are not reached.
             chosen.push(*next);
             let with = search::<K, T>(kernel, all, chosen, rest);
             chosen.pop();
@@ -102,6 +103,7 @@ fn settled<K: Kernel, T: Potential>(
     }
     let moments = moments(weights, vectors);
     let level = moments.slack::<K, T>(kernel, vectors[0]);
+    // Positive weights are not enough: an item that was left out may be low under them.
     if !are_above::<K, T>(kernel, all, moments, level) {
         return None;
     }

@@ -30,6 +30,7 @@ pub fn settle<'a, K: Kernel, T: Potential>(kernel: K, items: Items<'a, K>) -> Su
         if !corral.is_low(id) {
             return corral.into_support();
         }
+        // Each exchange raises the value of the supports, and there are finitely many supports: so the loop ends.
         corral.exchange(id);
     }
 }

@@ -1,7 +1,7 @@
 //! Directions of the plane and points, in machine numbers: products that stay within 64 bits for directions with coordinates of
 //! at most 400000.
 //!
-//! - `products`: how far out points lie, triangles, and lengths
+//! - `products`: how far out points lie, triangles, lengths and distances
 //! - `spans`: the bounds of points along a direction
 #![tactic(auto)]
 
@@ -9,6 +9,7 @@ mod products;
 mod spans;
 
 pub use products::{
-    along, beyond, cross, cross_directions, quarter_turn, reach, squared_length, turn,
+    along, beyond, cross, cross_directions, quarter_turn, reach, squared_distance, squared_length,
+    turn,
 };
 pub use spans::span;

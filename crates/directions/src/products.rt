@@ -1,7 +1,7 @@
 //! Products of directions and points.
 ghost use Rattle.std.specs.Prelude.{◌≡◌, ◌<◌, ◌≤◌, ◌-ℤ◌, ◌≤ℤ◌, pos, length};
 ghost use Rattle.integers.specs.Size.{Size};
-ghost use Rattle.bounds_model.specs.Plane.{dot, vector, cross as cross_of, squared_length as squared_length_of, turn as turn_of, quarter_turn as quarter_turn_of};
+ghost use Rattle.bounds_model.specs.Plane.{dot, vector, cross as cross_of, squared_distance as squared_distance_of, squared_length as squared_length_of, turn as turn_of, quarter_turn as quarter_turn_of};
 ghost use Rattle.bounds_model.specs.Fans.{IsShort, reach as reach_of};
 ghost use Rattle.bounded_coords.specs.Clouds.{points_of};
 ghost use Rattle.answers.specs.Answers.{vector_of};
@@ -47,6 +47,16 @@ pub fn turn(a: &Point2, b: &Point2, c: &Point2) -> i64
 {
     let (x, y) = (a.x() as i64, a.y() as i64);
     (b.x() as i64 - x) * (c.y() as i64 - y) - (b.y() as i64 - y) * (c.x() as i64 - x)
+}
+
+/// The squared distance of two points.
+pub fn squared_distance(a: &Point2, b: &Point2) -> i64
+    ensures value { result ≡ squared_distance_of a.now b.now }
+    ensures size { Size 320000000000 result }
+{
+    let x = b.x() as i64 - a.x() as i64;
+    let y = b.y() as i64 - a.y() as i64;
+    x * x + y * y
 }
 
 /// The cross product of a direction and the vector from a to b.

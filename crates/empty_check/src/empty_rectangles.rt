@@ -1,5 +1,5 @@
 //! Empty rectangles: an axis-parallel rectangle in a frame with no point strictly inside it, than which none is larger.
-ghost use Rattle.std.specs.Prelude.{◌≡◌, ◌↔◌, ◌<◌, ◌^◌, pos, ◌-ℤ◌, ◌≤ℤ◌, ◌<ℤ◌, length, IsTrue, IfOk, MatchOption};
+ghost use Rattle.std.specs.Prelude.{◌≡◌, ◌↔◌, ◌<◌, ◌^◌, pos, ◌-ℤ◌, ◌≤ℤ◌, ◌<ℤ◌, length, IsTrue, IfOk, OnErr, MatchOption};
 ghost use Rattle.bounds_model.specs.Plane.{point_at};
 ghost use Rattle.bounds_model.specs.EmptyRectangle.{IsStrictlyInside, area};
 ghost use Rattle.bounds_model.specs.EmptyAnswer.{IsBlockerBelow, NamesBlockers, IsEmpty, BlocksVertical, BlocksLevel, AreBlocked};
@@ -7,7 +7,7 @@ ghost use Rattle.bounds_model.specs.Asks.{ask_empty};
 ghost use Rattle.bounds_model.specs.Answers.{Passes, IsBest, empty};
 ghost use Rattle.bounded_coords.specs.Clouds.{points_of};
 ghost use Rattle.answers.specs.Answers.{blocker_of, empty_of};
-ghost use Rattle.empty_rectangle.specs.Points.{points_in};
+ghost use Rattle.empty_rectangle.specs.Points.{points_in, HasPointInside};
 ghost use Rattle.empty_check.specs.RestrictedRectangles.{sets_of, LiesIn, IsRestricted, IsRestrictedTo, RestVertical, RestLevel};
 
 use answers::{Blocker, EmptyAnswer};
@@ -20,7 +20,7 @@ use std::alloc::Global;
 /// Whether the rectangle lies in the frame, has no point strictly inside it and the printed area, rests with each side on what
 /// the answer says, and no other one is larger (CGAL manual, Inscribed Areas, `Largest_empty_iso_rectangle_2`). The points show
 /// that: between every two heights no gap from one x to the next has more than the area. Memory is wanted for that test alone,
-/// and want of memory is the only error.
+/// where a point is strictly inside the frame, and want of memory is the only error.
 pub fn check_empty(
     alloc: Global,
     cloud: Option<Cloud2<'_>>,
@@ -29,6 +29,7 @@ pub fn check_empty(
 ) -> Result<bool, OutOfMemory>
     ensures passes { IfOk result (λ yes. IsTrue yes ↔ Passes (ask_empty frame) (sets_of cloud.entry) (empty (empty_of a.now))) }
     ensures best { IfOk result (λ yes. IsTrue yes → IsBest (ask_empty frame) (sets_of cloud.entry) (empty (empty_of a.now))) }
+    ensures memory { OnErr result (IsRestricted frame (points_in cloud.entry) (empty_of a.now) × HasPointInside frame (points_in cloud.entry)) }
 {
     passing_answers_are_best();
     match restricted_area(cloud, frame, a) {
@@ -48,6 +49,7 @@ fn restricted_area(cloud: Option<Cloud2<'_>>, frame: Frame, a: &EmptyAnswer) -> 
         return None;
     }
     let area = area_of(rectangle);
+    // Behind this the printed size is a number of 64 bits. The search for a larger one comes last, since it alone takes memory.
     if !is_area(&a.size, area) {
         return None;
     }
@@ -280,6 +282,3 @@ fn point<'a>(cloud: Option<Cloud2<'a>>, number: u32) -> &'a Point2
         None => unreachable!(),
     }
 }
-
-#[cfg(test)]
-mod tests;

@@ -12,7 +12,7 @@ use Rattle.bounds_model.specs.EmptyRectangle.{Box, IsStrictlyInside}
 use Rattle.empty_rectangle.specs.declared.obstacles.Obstacle.{Obstacle}
 use Rattle.empty_rectangle.specs.declared.obstacles.Extent.{Extent}
 use Rattle.empty_rectangle.specs.Rectangles.{IsInExtent}
-use Rattle.empty_rectangle.specs.Points.{IsExtentOf, IsObstacleAt, IsObstacleOf, AreObstacles}
+use Rattle.empty_rectangle.specs.Points.{HasPointInside, IsExtentOf, IsObstacleAt, IsObstacleOf, AreObstacles}
 
 -- an obstacle stays where the list grows
 any_kept : (P : Obstacle → Type 0) (obstacles : List Obstacle) (s : Obstacle) → Any P obstacles → Any P (obstacles ++ s ∷ [])
@@ -66,3 +66,7 @@ in_extent frame points extent of s is = record {
 
 pub all_in_extent : (frame : Box) (points : List PlanePoint) (extent : Extent) (obstacles : List Obstacle) → IsExtentOf frame extent → All (IsObstacleOf frame points) obstacles → All (IsInExtent extent) obstacles
 all_in_extent frame points extent obstacles of each = All-weaker (IsObstacleOf frame points) (IsInExtent extent) (in_extent frame points extent of) obstacles each
+
+-- a point that is strictly inside the frame is one of the list
+pub has_point_inside : (frame : Box) (points : List PlanePoint) (i : ℕ) (p : PlanePoint) → slice_get points i ≡ Some p → IsStrictlyInside frame p → HasPointInside frame points
+has_point_inside frame points i p is inside = (i, slice_get_within points i p is, subst (IsStrictlyInside frame) (sym (get_or_from_slice_get points i p origin is)) inside)

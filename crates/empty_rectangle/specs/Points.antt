@@ -1,5 +1,5 @@
 -- The points strictly inside a frame, as obstacles in its extent.
-use Rattle.std.specs.Prelude.{◌≡◌, ◌<◌, List, [], length, All, Any, Option, Some, None, pos, ◌+ℤ◌}
+use Rattle.std.specs.Prelude.{◌≡◌, ℕ, ◌<◌, List, [], length, All, Any, Option, Some, None, pos, ◌+ℤ◌}
 use Rattle.std.specs.List.Sorted.{IsNonDecreasingBy}
 use Rattle.bounds_model.specs.Plane.{PlanePoint, point_at}
 use Rattle.bounds_model.specs.EmptyRectangle.{Box, IsStrictlyInside}
@@ -12,6 +12,10 @@ use Rattle.empty_rectangle.specs.declared.obstacles.Extent.{Extent}
 abbrev pub points_in : Option (Cloud PlanePoint) → List PlanePoint
 points_in None = []
 points_in (Some cloud) = points_of cloud
+
+-- a point of the list is strictly inside the frame
+abbrev pub HasPointInside : Box → List PlanePoint → Type 0
+HasPointInside frame points = (i : ℕ) × (i < length points) × IsStrictlyInside frame (point_at points i)
 
 -- the extent is as wide and as high as the frame
 pub record IsExtentOf (frame : Box) (extent : Extent) : Type 0 where

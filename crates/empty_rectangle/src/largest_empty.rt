@@ -1,8 +1,8 @@
 //! The largest empty rectangle, and whether none is larger than an area.
-ghost use Rattle.std.specs.Prelude.{◌≡◌, ◌↔◌, IsTrue, IfOk, pos, ◌+ℤ◌};
+ghost use Rattle.std.specs.Prelude.{◌≡◌, ◌↔◌, IsTrue, IfOk, OnErr, pos, ◌+ℤ◌};
 ghost use Rattle.bounds_model.specs.EmptyAnswer.{PassesEmpty, NoneLarger};
 ghost use Rattle.answers.specs.Answers.{empty_of};
-ghost use Rattle.empty_rectangle.specs.Points.{points_in};
+ghost use Rattle.empty_rectangle.specs.Points.{points_in, HasPointInside};
 ghost use Rattle.empty_rectangle.specs.Answers.{answer_of};
 
 use crate::obstacles::{Extent, obstacles_in};
@@ -15,13 +15,15 @@ use std::alloc::Global;
 
 /// The rectangle of greatest area in the frame with no point strictly inside it, its area, and what each of its sides rests on (CGAL
 /// manual, Inscribed Areas, `Largest_empty_iso_rectangle_2`; Orlowski, A new algorithm for the largest empty rectangle problem,
-/// 1990). Points on the frame's border or outside it block nothing. The only error is that memory is wanting.
+/// 1990). Points on the frame's border or outside it block nothing. The only error is that memory is wanting, and it comes only where a
+/// point is strictly inside the frame.
 pub fn largest(
     alloc: Global,
     cloud: Option<Cloud2<'_>>,
     frame: Frame,
 ) -> Result<EmptyAnswer, OutOfMemory>
-    ensures { IfOk result (λ a. PassesEmpty frame (points_in cloud.entry) (empty_of a)) }
+    ensures passes { IfOk result (λ a. PassesEmpty frame (points_in cloud.entry) (empty_of a)) }
+    ensures memory { OnErr result (HasPointInside frame (points_in cloud.entry)) }
 {
     let obstacles = obstacles_in(alloc, cloud, frame)?;
     let none = Rectangle::of_area(0);
@@ -30,7 +32,7 @@ pub fn largest(
 }
 
 /// Whether no rectangle in the frame with no point strictly inside it has more than this area, in squared units. It ends soon after
-/// the first larger one is found. The only error is that memory is wanting.
+/// the first larger one is found. The only error is that memory is wanting, and it comes only where a point is strictly inside the frame.
 ///
 /// The clause asks what a checker asks: of rectangles between two heights, from one x in their band to the next.
 pub fn is_none_larger(
@@ -39,7 +41,8 @@ pub fn is_none_larger(
     frame: Frame,
     area: u64,
 ) -> Result<bool, OutOfMemory>
-    ensures { IfOk result (λ none. IsTrue none ↔ NoneLarger frame (points_in cloud.entry) (record { n = pos area; d = pos 1 })) }
+    ensures decides { IfOk result (λ none. IsTrue none ↔ NoneLarger frame (points_in cloud.entry) (record { n = pos area; d = pos 1 })) }
+    ensures memory { OnErr result (HasPointInside frame (points_in cloud.entry)) }
 {
     let obstacles = obstacles_in(alloc, cloud, frame)?;
     let none = Rectangle::of_area(area);

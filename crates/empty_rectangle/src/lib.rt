@@ -12,7 +12,5 @@ mod obstacles;
 mod rectangles;
 mod search;
 mod sweep;
-#[cfg(test)]
-mod tests;
 
 pub use largest_empty::{is_none_larger, largest};

@@ -1,9 +1,9 @@
 //! The points strictly inside the frame, in order of y.
-ghost use Rattle.std.specs.Prelude.{◌≡◌, ◌↔◌, [], IsSome, IfSome, IfOk, OnOk};
+ghost use Rattle.std.specs.Prelude.{◌≡◌, ◌↔◌, [], IsSome, IfSome, IfOk, OnOk, OnErr};
 ghost use Rattle.bounds_model.specs.EmptyRectangle.{IsFrame, IsStrictlyInside};
 ghost use Rattle.bounded_coords.specs.Clouds.{points_of};
 ghost use Rattle.empty_rectangle.specs.Rectangles.{vertical, level, IsExtent};
-ghost use Rattle.empty_rectangle.specs.Points.{points_in, IsExtentOf, IsObstacleAt, AreObstacles, ListsObstacles};
+ghost use Rattle.empty_rectangle.specs.Points.{points_in, HasPointInside, IsExtentOf, IsObstacleAt, AreObstacles, ListsObstacles};
 
 use crate::rectangles::RestingSide;
 use answers::Blocker;
@@ -80,14 +80,15 @@ fn placed(frame: Frame, p: &Point2, number: u32) -> Option<Obstacle>
     })
 }
 
-/// Adds the points of a cloud that are strictly inside the frame.
+/// Adds the points of a cloud that are strictly inside the frame. Memory is wanted only where there is one.
 fn add_points(
     obstacles: &mut Vec<Obstacle>,
     cloud: Cloud2<'_>,
     frame: Frame,
 ) -> Result<(), OutOfMemory>
     requires { obstacles.old.items ≡ [] }
-    ensures { OnOk result (AreObstacles frame (points_of cloud.entry) (points_of cloud.entry) obstacles.new.items) }
+    ensures added { OnOk result (AreObstacles frame (points_of cloud.entry) (points_of cloud.entry) obstacles.new.items) }
+    ensures wants { OnErr result (HasPointInside frame (points_of cloud.entry)) }
 {
     'points: for i in 0..cloud.len() {
         if let Some(s) = placed(frame, cloud.at(i), i) {
@@ -100,13 +101,14 @@ fn add_points(
     Ok(())
 }
 
-/// The points that are strictly inside the frame, from the lowest up.
+/// The points that are strictly inside the frame, from the lowest up. Memory is wanted only where there is one.
 pub(crate) fn obstacles_in(
     alloc: Global,
     cloud: Option<Cloud2<'_>>,
     frame: Frame,
 ) -> Result<Vec<Obstacle>, OutOfMemory>
-    ensures { IfOk result (λ obstacles. ListsObstacles frame (points_in cloud.entry) obstacles.items) }
+    ensures lists { IfOk result (λ obstacles. ListsObstacles frame (points_in cloud.entry) obstacles.items) }
+    ensures wants { OnErr result (HasPointInside frame (points_in cloud.entry)) }
 {
     let mut obstacles = Vec::new(alloc);
     if let Some(cloud) = cloud {

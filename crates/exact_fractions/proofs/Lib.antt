@@ -2,3 +2,5 @@ pub mod Halving
 pub mod Quotients
 pub mod LowestForms
 pub mod UniqueForms
+pub mod LowestPlaces
+pub mod ScaledForms

@@ -20,14 +20,14 @@ use Rattle.exact_fractions.proofs.Quotients.{divisor_positive}
 
 -- ---- fractions
 
-no_common_factor : (n d : ℕ) → IsGcd n d 1 → HaveNoCommonFactor (pos n ∷ pos d ∷ [])
+pub no_common_factor : (n d : ℕ) → IsGcd n d 1 → HaveNoCommonFactor (pos n ∷ pos d ∷ [])
 no_common_factor n d h k all =
     one_from_IsGcd n d h k (All-head (λ e. k ∣ nat_abs e) (pos n) (pos d ∷ []) all) (All-head (λ e. k ∣ nat_abs e) (pos d) [] (All-tail (λ e. k ∣ nat_abs e) (pos n) (pos d ∷ []) all))
 
-is_number : (n : ℕ) → n ≤ 2 ^ 126 → IsNumber (pos n)
+pub is_number : (n : ℕ) → n ≤ 2 ^ 126 → IsNumber (pos n)
 is_number n h = record { low = omega (arith, ints); high = omega (arith, ints) }
 
-quotient_le : (n g : ℕ) → n ≤ 2 ^ 126 → n / g ≤ 2 ^ 126
+pub quotient_le : (n g : ℕ) → n ≤ 2 ^ 126 → n / g ≤ 2 ^ 126
 quotient_le n g h = le_trans (div-le_self n g) h
 
 -- divided by their greatest common divisor, the numbers of a fraction are in lowest terms

@@ -84,7 +84,7 @@ space_ratio_unique a b h k same =
 
 -- ---- the form of a given value
 
-same_by : (a d b e v w : ℤ) → pos 0 <ℤ w → a *ℤ w ≡ v *ℤ d → b *ℤ w ≡ v *ℤ e → a *ℤ e ≡ b *ℤ d
+pub same_by : (a d b e v w : ℤ) → pos 0 <ℤ w → a *ℤ w ≡ v *ℤ d → b *ℤ w ≡ v *ℤ e → a *ℤ e ≡ b *ℤ d
 same_by a d b e v w p h k = same_of_mul w p (combine2 e (neg_ℤ d) h k (read (a ∷ d ∷ b ∷ e ∷ v ∷ w ∷ []) (λ xs q r s t u x. simp (q, r, s, t, u, x, polys) (den-ring xs _ _ tt))))
 
 -- a fraction has the value exactly where it is the one in lowest terms that has it

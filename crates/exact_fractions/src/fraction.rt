@@ -1,12 +1,17 @@
 //! Fractions that are not below 0.
-ghost use Rattle.std.specs.Prelude.{◌≡◌, ◌^◌, ◌<◌, ◌≤◌, ◌*ℤ◌, ◌≤ℤ◌, ◌<ℤ◌, ◌↔◌, pos, IsTrue};
-ghost use Rattle.bounds_model.specs.Fractions.{Fraction, SameValue};
-ghost use Rattle.bounds_model.specs.Ranges.{IsFraction};
+ghost use Rattle.std.specs.Prelude.{◌≡◌, ◌^◌, ◌<◌, ◌≤◌, ◌*ℤ◌, ◌≤ℤ◌, ◌<ℤ◌, ◌↔◌, pos};
+ghost use Rattle.std.specs.Prelude.{IsTrue, IsNone, IfSome};
+ghost use Rattle.bounds_model.specs.Fractions.{Fraction, SameValue, lowest_form, multiple, over};
+ghost use Rattle.bounds_model.specs.Ranges.{IsFraction, number_limit};
+ghost use Rattle.exact_fractions.specs.Factors.{factor_limit};
 ghost use Rattle.exact_fractions.specs.Order.{IsBelow};
 
 use crate::gcd;
 use std::cmp::Ordering;
 use std::marker::Model;
+
+/// The greatest numerator and the greatest denominator.
+const LIMIT: u128 = 1 << 126;
 
 /// A fraction in lowest terms. Both numbers are at most 2^126, and 0 is 0/1.
 #[derive(Clone, Copy, Debug, PartialEq, Eq)]
@@ -89,5 +94,39 @@ impl Frac {
         ensures greater { (result ≡ Ordering.Greater) ↔ IsBelow other.now self.now }
     {
         (self.num * other.den).cmp(&(other.num * self.den))
+    }
+
+    /// The fraction over k, in lowest terms.
+    pub fn over(&self, k: u32) -> Frac
+        requires some { 0 < k }
+        requires most { k ≤ factor_limit }
+        requires denominator { (lowest_form (over k self.now)).d ≤ℤ pos number_limit }
+        ensures value { result ≡ lowest_form (over k self.now) }
+        ensures lowest { IsFraction result }
+    {
+        let divisor = gcd(self.num, k as u128);
+        Frac {
+            num: self.num / divisor,
+            den: self.den * (k as u128 / divisor),
+        }
+    }
+
+    /// The fraction times k, in lowest terms, or None where its numerator is above 2^126.
+    pub fn times(&self, k: u32) -> Option<Frac>
+        requires some { 0 < k }
+        requires most { k ≤ factor_limit }
+        ensures value { IfSome result (λ f. f ≡ lowest_form (multiple k self.now)) }
+        ensures lowest { IfSome result (λ f. IsFraction f) }
+        ensures none { IsNone result ↔ (pos number_limit <ℤ (lowest_form (multiple k self.now)).n) }
+    {
+        let divisor = gcd(self.den, k as u128);
+        let factor = k as u128 / divisor;
+        if self.num > LIMIT / factor {
+            return None;
+        }
+        Some(Frac {
+            num: self.num * factor,
+            den: self.den / divisor,
+        })
     }
 }

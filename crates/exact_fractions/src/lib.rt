@@ -9,8 +9,6 @@ mod divisors;
 mod fraction;
 mod plane;
 mod space;
-#[cfg(test)]
-mod tests;
 
 pub use divisors::{gcd, quotient};
 pub use fraction::Frac;

@@ -67,16 +67,16 @@ adds-more area j old new pushed u h is value size = subst (AddsAreas area (j + 1
     inside m h e = omega arith
 
 -- the areas of no vector
-pub areas-none : (ways : List PlanePoint) (areas : List ℤ) → areas ≡ [] → AreAreas ways 0 areas
-areas-none ways areas is = record { as_many = ap length is; each = λ i low. absurd (omega (arith, low)); small = All-same (Size (2 ^ 39)) areas [] is (All-nil (Size (2 ^ 39))) }
+pub areas-none : (vectors : List PlanePoint) (areas : List ℤ) → areas ≡ [] → AreAreas vectors 0 areas
+areas-none vectors areas is = record { as_many = ap length is; each = λ i low. absurd (omega (arith, low)); small = All-same (Size (2 ^ 39)) areas [] is (All-nil (Size (2 ^ 39))) }
 
 -- those of one vector more
-pub areas-more : (ways : List PlanePoint) (i : ℕ) (old new : List ℤ) → AreAreas ways i old → AddsAreas (area_at ways i) i old new → AreAreas ways (i + 1) new
-areas-more ways i old new h more = record {
+pub areas-more : (vectors : List PlanePoint) (i : ℕ) (old new : List ℤ) → AreAreas vectors i old → AddsAreas (area_at vectors i) i old new → AreAreas vectors (i + 1) new
+areas-more vectors i old new h more = record {
   as_many = more.as_many ∙ ap (λ n. n + i) h.as_many ∙ sym (pairs_next i);
   each = λ k low j earlier. elim (below_or_at k i low) [
     | inl less ↦ more.same (pairs_below k + j) (subst (λ n. pairs_below k + j < n) (sym h.as_many) (inside (pairs_below k) (pairs_below i) j k earlier (pairs_within k i less))) ∙ h.each k less j earlier
-    | inr same ↦ subst (λ n. at new (n + j) ≡ area_at ways k j) (h.as_many ∙ ap pairs_below (sym same)) (more.each j (subst (λ n. j < n) same earlier) ∙ ap (λ n. area_at ways n j) (sym same))
+    | inr same ↦ subst (λ n. at new (n + j) ≡ area_at vectors k j) (h.as_many ∙ ap pairs_below (sym same)) (more.each j (subst (λ n. j < n) same earlier) ∙ ap (λ n. area_at vectors n j) (sym same))
   ];
   small = more.small h.small;
 }

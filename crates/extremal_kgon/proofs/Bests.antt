@@ -14,7 +14,7 @@ pub record TakesSoFar (old : Best) (row : List ℤ) (first layer i : ℕ) (new :
   pub small : Size (2 ^ 43) new.area
   pub rises : old.area ≤ℤ new.area
   pub above : (k : ℕ) → k < i → at row k ≤ℤ new.area
-  pub one : (new ≡ old) ⊎ ((k : ℕ) × IsFoundAt row first layer new k)
+  pub one : (new ≡ old) ⊎ ((k : ℕ) × IsFoundAt row first layer new k × (old.area <ℤ new.area))
 
 pub takes-none : (old : Best) (row : List ℤ) (first layer : ℕ) → pos 0 ≤ℤ old.area → Size (2 ^ 43) old.area → TakesSoFar old row first layer 0 old
 takes-none old row first layer h s = record { not_negative = h; small = s; rises = omega (arith, ints); above = λ k low. absurd (omega arith); one = inl refl }
@@ -26,7 +26,7 @@ takes-more old row first layer i best new t below small more area from in_layer 
   small = small;
   rises = below_it t.rises more;
   above = λ k low. elim (below_or_at k i low) [ inl less ↦ below_it (t.above k less) more | inr same ↦ subst (λ n. at row n ≤ℤ new.area) (sym same) (subst (λ z. z ≤ℤ new.area) area (least new.area)) ];
-  one = inr (i, record { below = below; positive = positive t.not_negative more; area = area; from = from; in_layer = in_layer; to = to });
+  one = inr (i, record { below = below; positive = positive t.not_negative more; area = area; from = from; in_layer = in_layer; to = to }, above_it t.rises more);
 }
   where
     above_zero : {y z : ℤ} → pos 0 ≤ℤ y → y <ℤ z → pos 0 ≤ℤ z
@@ -34,6 +34,9 @@ takes-more old row first layer i best new t below small more area from in_layer 
 
     below_it : {x y z : ℤ} → x ≤ℤ y → y <ℤ z → x ≤ℤ z
     below_it h k = omega (arith, ints)
+
+    above_it : {x y z : ℤ} → x ≤ℤ y → y <ℤ z → x <ℤ z
+    above_it h k = omega (arith, ints)
 
     positive : {y z : ℤ} → pos 0 ≤ℤ y → y <ℤ z → pos 0 <ℤ z
     positive h k = omega (arith, ints)

@@ -1,9 +1,10 @@
 pub mod PotentialIndices
-pub mod WayAreas
+pub mod VectorAreas
 pub mod TableSteps
 pub mod Bests
-pub mod Tails
-pub mod HullCorners
+pub mod Reaching
+pub mod NextPositions
+pub mod Walks
 pub mod PassingPolygons
 pub mod Reading
 pub mod BestSums

@@ -6,17 +6,17 @@ use Rattle.bounds_model.specs.Plane.{PlanePoint}
 use Rattle.extremal_kgon.specs.Rows.{at, area_at, IsBestSum, IsNextRow, IsZeroRow}
 
 -- the first numbers of a row
-pub record IsRowSoFar (ways : List PlanePoint) (before row : List ℤ) (i : ℕ) : Type 0 where
+pub record IsRowSoFar (vectors : List PlanePoint) (before row : List ℤ) (i : ℕ) : Type 0 where
   pub as_many : length row ≡ i
-  pub each : (k : ℕ) → k < i → IsBestSum (area_at ways k) before k (at row k)
+  pub each : (k : ℕ) → k < i → IsBestSum (area_at vectors k) before k (at row k)
 
 -- one number more
-pub row-more : (ways : List PlanePoint) (before row pushed : List ℤ) (i : ℕ) (u : ℤ) → IsRowSoFar ways before row i → IsBestSum (area_at ways i) before i u → pushed ≡ row ++ u ∷ [] → IsRowSoFar ways before pushed (i + 1)
-row-more ways before row pushed i u r best_sum is = subst (λ p. IsRowSoFar ways before p (i + 1)) (sym is) (record {
+pub row-more : (vectors : List PlanePoint) (before row pushed : List ℤ) (i : ℕ) (u : ℤ) → IsRowSoFar vectors before row i → IsBestSum (area_at vectors i) before i u → pushed ≡ row ++ u ∷ [] → IsRowSoFar vectors before pushed (i + 1)
+row-more vectors before row pushed i u r best_sum is = subst (λ p. IsRowSoFar vectors before p (i + 1)) (sym is) (record {
   as_many = length_push row u ∙ ap (λ n. n + 1) r.as_many;
   each = λ k low. elim (below_or_at k i low) [
-    | inl less ↦ subst (IsBestSum (area_at ways k) before k) (sym (get_or_append_left row (u ∷ []) (pos 0) k (in_row less r.as_many))) (r.each k less)
-    | inr same ↦ subst (λ n. IsBestSum (area_at ways n) before n (at (row ++ u ∷ []) n)) (sym same) (subst (IsBestSum (area_at ways i) before i) (sym (get_or_push row u (pos 0) i r.as_many)) best_sum)
+    | inl less ↦ subst (IsBestSum (area_at vectors k) before k) (sym (get_or_append_left row (u ∷ []) (pos 0) k (in_row less r.as_many))) (r.each k less)
+    | inr same ↦ subst (λ n. IsBestSum (area_at vectors n) before n (at (row ++ u ∷ []) n)) (sym same) (subst (IsBestSum (area_at vectors i) before i) (sym (get_or_push row u (pos 0) i r.as_many)) best_sum)
   ];
 })
   where
@@ -40,9 +40,9 @@ zeros-more row pushed i r is = subst (IsZeroRow (i + 1)) (sym is) (record {
     zero_pushed (x ∷ xs) z (suc k) = zero_pushed xs (λ j. z (suc j)) k
 
 -- none yet
-pub row-none : (ways : List PlanePoint) (before row : List ℤ) → row ≡ [] → IsRowSoFar ways before row 0
-row-none ways before row is = record { as_many = ap length is; each = λ k low. absurd (omega arith) }
+pub row-none : (vectors : List PlanePoint) (before row : List ℤ) → row ≡ [] → IsRowSoFar vectors before row 0
+row-none vectors before row is = record { as_many = ap length is; each = λ k low. absurd (omega arith) }
 
 -- the whole row
-pub whole_row : (ways : List PlanePoint) (before row : List ℤ) (i : ℕ) → IsRowSoFar ways before row i → i ≡ length ways → IsNextRow ways before row
-whole_row ways before row i r is = record { as_many = r.as_many ∙ is; each = λ k low. r.each k (subst (λ n. k < n) r.as_many low) }
+pub whole_row : (vectors : List PlanePoint) (before row : List ℤ) (i : ℕ) → IsRowSoFar vectors before row i → i ≡ length vectors → IsNextRow vectors before row
+whole_row vectors before row i r is = record { as_many = r.as_many ∙ is; each = λ k low. r.each k (subst (λ n. k < n) r.as_many low) }

@@ -1,22 +1,23 @@
 -- A table and a choice make an answer that passes.
-use Rattle.std.proofs.Common.{◌≡◌, refl, sym, subst, ap, ◌∙◌, ℕ, zero, suc, ◌+◌, ◌-◌, ◌*◌, ◌^◌, ◌<◌, ◌≤◌, min, arith, ℤ, pos, ◌+ℤ◌, ◌*ℤ◌, ◌≤ℤ◌, List, [], ◌∷◌, length, map}
-use Rattle.std.specs.Prelude.{All, nat_abs}
+use Rattle.std.proofs.Common.{◌≡◌, refl, sym, subst, ap, ◌∙◌, ◌⊎◌, inl, inr, ℕ, zero, suc, ◌+◌, ◌-◌, ◌*◌, ◌^◌, ◌<◌, ◌≤◌, min, arith, ℤ, pos, ◌+ℤ◌, ◌-ℤ◌, ◌*ℤ◌, ◌≤ℤ◌, ◌<ℤ◌, List, [], ◌∷◌, ◌++◌, length, map, take}
+use Rattle.std.specs.Prelude.{All, nat_abs, slice_index_or}
 use Rattle.std.proofs.lemmas.Int.{ints}
 use Rattle.std.proofs.lemmas.List.{length-map}
 use Rattle.std.proofs.lemmas.List.Elements.{All-weaker, All-map, All-nil, All-head, All-tail, All-cons}
 use Rattle.integers.proofs.Identities.{den-ring, read, polys}
-use Rattle.integers.proofs.Order.{le_by, nonneg_mul, nonneg_difference, nonneg_from_one}
+use Rattle.integers.proofs.Order.{le_by, lt_by, nonneg_mul, nonneg_difference, nonneg_from_one, positive_mul, positive_difference, positive_from_one}
 use Rattle.integers.specs.Size.{Size}
 use Rattle.integers.proofs.Sizes.{below_size}
 use Rattle.bounds_model.specs.Plane.{PlanePoint, point_at, turn}
 use Rattle.bounds_model.specs.Fractions.{Fraction, SameValue}
 use Rattle.bounds_model.specs.Ranges.{IsFraction, IsNatural}
 use Rattle.bounds_model.specs.Hull.{AreCorners}
+use Rattle.bounds_model.specs.Kgon.{twice_area, most_added}
 use Rattle.bounds_model.specs.KgonAnswer.{PassesKgon, pairs_before}
 use Rattle.extremal_kgon.specs.declared.table.Best.{Best}
-use Rattle.extremal_kgon.specs.Tables.{potential_or_zero, IsTable}
-use Rattle.extremal_kgon.specs.Choices.{IsChoice}
-use Rattle.extremal_kgon.proofs.HullCorners.{corners_pass}
+use Rattle.extremal_kgon.specs.Tables.{potential_or_zero, StandsAt, IsTable}
+use Rattle.extremal_kgon.specs.Choices.{IsFirstChoice}
+use Rattle.model_laws.proofs.HullCorners.{corners_pass}
 
 -- what all numbers have as whole numbers
 All-unmap : (P : ℤ → Type 0) (us : List ℕ) → All P (map pos us) → All (λ u. P (pos u)) us
@@ -39,7 +40,7 @@ half n d a e = twice n (a *ℤ d) e
 
 pub answer_passes : (k : ℕ) (points : List PlanePoint) (numbers chosen us : List ℕ) (layers : ℕ) (best : Best) (size : Fraction) → 3 ≤ k → k ≤ 12 → length points ≤ 10000 → length numbers ≤ 128 → 1 ≤ length numbers
     → All (λ n. n < length points) numbers → AreCorners points (map (point_at points) numbers) → layers ≡ min k (length numbers) - 2
-    → IsTable (map (point_at points) numbers) layers (length (map (point_at points) numbers)) (map pos us) best → IsChoice (map (point_at points) numbers) layers best.area chosen
+    → IsTable (map (point_at points) numbers) layers (length (map (point_at points) numbers)) (map pos us) best → IsFirstChoice (map (point_at points) numbers) layers best.first best.area chosen
     → IsFraction size → size.n *ℤ pos 2 ≡ best.area *ℤ size.d → PassesKgon k points (record { size = size; corners = numbers; chosen = chosen; layers = layers; potentials = map pos us })
 answer_passes k points numbers chosen us layers best size three twelve many few some listed corners layers_is t choice fraction half_is = record {
   ranges = record {
@@ -61,6 +62,11 @@ answer_passes k points numbers chosen us layers best size three twelve many few 
       let p = t.potentials a layer c (omega (arith, same)) low_layer (omega arith) (omega (arith, same)) in
       subst (λ n. (potential_or_zero n layers (map pos us) a layer b +ℤ turn (point_at (map (point_at points) numbers) a) (point_at (map (point_at points) numbers) b) (point_at (map (point_at points) numbers) c)) ≤ℤ potential_or_zero n layers (map pos us) a (layer + 1) c) same (p.grows b low_a low_b);
   under_size = All-weaker (λ u. u ≤ℤ best.area) (λ u. (u *ℤ size.d) ≤ℤ (pos 2 *ℤ size.n)) (λ u h. subst (λ z. (u *ℤ size.d) ≤ℤ z) (half size.n size.d best.area half_is) (times u h)) (map pos us) t.greatest.above;
+  earlier_below = λ a low last below after layer in_layers.
+      under_area (subst (λ n. potential_or_zero n layers (map pos us) a (layer + 1) last <ℤ best.area) same (t.earlier a layer last (subst (λ i. a < i) choice.begins low) in_layers after (subst (λ n. last < n) (sym same) below)));
+  few = λ few_corners. alone_is chosen choice.begins (choice.alone (no_layers layers_is few_corners)) (t.none (no_area t.greatest.stands (no_layers layers_is few_corners)));
+  none_between = λ place low other before after. under_area
+      (subst (λ i. (twice_area (map (point_at (map (point_at points) numbers)) (take (place + 1) chosen ++ other ∷ [])) +ℤ most_added (map (point_at points) numbers) i (layers + 1 - (place + 1)) other) <ℤ best.area) (sym choice.begins) (choice.none_between place (omega (arith, low)) other after before));
 }
   where
     same : length (map (point_at points) numbers) ≡ length numbers
@@ -76,6 +82,32 @@ answer_passes k points numbers chosen us layers best size three twelve many few 
         by_layers zero e h alone = omega (arith, alone refl)
         by_layers (suc l) e h alone = omega arith
 
+    no_layers : {l n : ℕ} → l ≡ min k n - 2 → n < 3 → l ≡ 0
+    no_layers {l} {n} e h = at_most_two (min k n) e (under h)
+      where
+        under : n < 3 → min k n ≤ 2
+        under h = omega arith
+
+        at_most_two : (m : ℕ) → l ≡ m - 2 → m ≤ 2 → l ≡ 0
+        at_most_two m e h = omega arith
+
+    no_area : (best.area ≡ pos 0) ⊎ StandsAt (length (map (point_at points) numbers)) layers (map pos us) best → layers ≡ 0 → best.area ≡ pos 0
+    no_area s e = elim s [ inl none ↦ none | inr stands ↦ absurd (impossible stands.some stands.layer e) ]
+      where
+        impossible : {l n : ℕ} → 1 ≤ l → l ≤ n → n ≡ 0 → ⊥
+        impossible h k e = omega arith
+
+    alone_is : {first : ℕ} (xs : List ℕ) → slice_index_or xs 0 0 ≡ first → length xs ≡ 1 → first ≡ 0 → xs ≡ 0 ∷ []
+    alone_is [] e l z = absurd (omega (arith, l))
+    alone_is (x ∷ []) e l z = ap (λ i. i ∷ []) (e ∙ z)
+    alone_is (x ∷ y ∷ xs) e l z = absurd (omega (arith, l))
+
+    under_area : {u : ℤ} → u <ℤ best.area → (u *ℤ size.d) <ℤ (pos 2 *ℤ size.n)
+    under_area {u} h = subst (λ z. (u *ℤ size.d) <ℤ z) (half size.n size.d best.area half_is) (lt_by (positive_mul (positive_difference h) (positive_from_one fraction.lowest.not_negative.denominator)) (plain u best.area size.d))
+      where
+        plain : (x y d : ℤ) → y *ℤ d -ℤ x *ℤ d ≡ (y -ℤ x) *ℤ d
+        plain x y d = read (x ∷ y ∷ d ∷ []) (λ xs a b c. simp (a, b, c, polys) (den-ring xs _ _ tt))
+
     times : (u : ℤ) → u ≤ℤ best.area → (u *ℤ size.d) ≤ℤ (best.area *ℤ size.d)
     times u h = mul_le_right u best.area size.d (nonneg_from_one fraction.lowest.not_negative.denominator) h
       where
@@ -85,12 +117,12 @@ answer_passes k points numbers chosen us layers best size three twelve many few 
 -- the same where the corners are read from lists that are the same
 pub answer_from : (k : ℕ) (points cs ds : List PlanePoint) (numbers chosen us : List ℕ) (layers : ℕ) (best : Best) (size : Fraction) {n : ℕ} → 3 ≤ k → k ≤ 12 → length points ≤ 10000 → length numbers ≤ 128
     → All (λ n. n < length points) numbers → AreCorners points (map (point_at points) numbers) → layers ≡ min k n - 2 → n ≡ length cs → cs ≡ map (point_at points) numbers → ds ≡ map (point_at points) numbers
-    → IsTable cs layers (length cs) (map pos us) best → IsChoice ds layers best.area chosen
+    → IsTable cs layers (length cs) (map pos us) best → IsFirstChoice ds layers best.first best.area chosen
     → IsFraction size → SameValue size (record { n = pos (nat_abs best.area); d = pos 2 }) → PassesKgon k points (record { size = size; corners = numbers; chosen = chosen; layers = layers; potentials = map pos us })
 answer_from k points cs ds numbers chosen us layers best size {n} three twelve many few listed corners layers_is as_many cs_is ds_is t choice fraction half_is =
     answer_passes k points numbers chosen us layers best size three twelve many few (some_corner points numbers corners) listed corners
     (layers_is ∙ ap (λ m. min k m - 2) (as_many ∙ ap length cs_is ∙ length-map numbers (point_at points)))
-    (subst (λ xs. IsTable xs layers (length xs) (map pos us) best) cs_is t) (subst (λ xs. IsChoice xs layers best.area chosen) ds_is choice) fraction
+    (subst (λ xs. IsTable xs layers (length xs) (map pos us) best) cs_is t) (subst (λ xs. IsFirstChoice xs layers best.first best.area chosen) ds_is choice) fraction
     (half_is ∙ ap (λ a. a *ℤ size.d) (whole best.area t.greatest.not_negative))
   where
     whole : (u : ℤ) → pos 0 ≤ℤ u → pos (nat_abs u) ≡ u

@@ -1,5 +1,5 @@
 -- The list of potentials, one row after another.
-use Rattle.std.proofs.Common.{◌≡◌, refl, sym, subst, ap, ap₂, ◌∙◌, ◌⊎◌, inl, inr, ℕ, ◌+◌, ◌-◌, ◌*◌, ◌<◌, ◌≤◌, ◌^◌, arith, ℤ, pos, ◌+ℤ◌, ◌≤ℤ◌, List, ◌++◌, length, map}
+use Rattle.std.proofs.Common.{◌≡◌, refl, sym, subst, ap, ap₂, ◌∙◌, ◌⊎◌, inl, inr, ℕ, zero, suc, ◌+◌, ◌-◌, ◌*◌, ◌<◌, ◌≤◌, ◌^◌, arith, ℤ, pos, ◌+ℤ◌, ◌≤ℤ◌, ◌<ℤ◌, List, ◌++◌, length, map}
 use Rattle.std.specs.Prelude.{All}
 use Rattle.std.proofs.Common.{◌/◌, [], ◌∷◌}
 use Rattle.std.specs.Prelude.{nat_abs}
@@ -9,18 +9,19 @@ use Rattle.std.proofs.lemmas.Int.{ints}
 use native.Mathlib.Nat.{mul-le-mul}
 use Rattle.integers.specs.Size.{Size}
 use Rattle.integers.proofs.Lists.{below_or_at}
-use Rattle.integers.proofs.Order.{le_trans_ℤ}
+use Rattle.integers.proofs.Order.{le_trans_ℤ, le_lt_trans_ℤ}
 use Rattle.std.proofs.lemmas.List.{length-append, get_or_append_left}
 use Rattle.std.proofs.lemmas.List.Elements.{All-append, All-weaker, All-from_get_or}
 use Rattle.bounds_model.specs.Plane.{PlanePoint, point_at, turn}
 use Rattle.bounds_model.specs.KgonAnswer.{pairs_before}
-use Rattle.extremal_kgon.specs.declared.ways.Way.{Way}
+use Rattle.added_areas.specs.declared.vectors.PlaneVector.{PlaneVector}
 use Rattle.extremal_kgon.specs.declared.table.Best.{Best}
-use Rattle.extremal_kgon.specs.Ways.{vector_of, AreWays}
+use Rattle.added_areas.specs.PlaneVectors.{vector_of}
+use Rattle.extremal_kgon.specs.LaterVectors.{AreVectorsAfter}
 use Rattle.extremal_kgon.specs.Rows.{at, area_at, IsBestSum, IsNextRow}
 use Rattle.extremal_kgon.specs.Tables.{index, ending, potential_or_zero, IsPotential, StandsAt, IsBestOf, IsFoundAt, IsTable, TakesBest}
 use Rattle.extremal_kgon.proofs.PotentialIndices.{layer-next, layers-below, potential_or_zero-next, potential_or_zero-more, potential_or_zero-row}
-use Rattle.extremal_kgon.proofs.WayAreas.{area-turn, area-limit}
+use Rattle.extremal_kgon.proofs.VectorAreas.{area-turn, area-limit}
 use Rattle.model_laws.proofs.PairCounts.{pairs-next}
 
 -- the potentials up to a layer of a first corner, the last row of which is also apart
@@ -34,6 +35,9 @@ pub record IsPartTable (corners : List PlanePoint) (layers first layer : ℕ) (u
   pub low : All (λ u. pos 0 ≤ℤ u) row
   pub high : All (λ u. u ≤ℤ pos (layer * 549755813888)) row
   pub greatest : IsBestOf (length corners) layers us best
+  pub begun : best.first ≤ first
+  pub none : best.area ≡ pos 0 → best.first ≡ 0
+  pub earlier : (a l last : ℕ) → a < best.first → l < layers → a < last → last < length corners → potential_or_zero (length corners) layers us a (l + 1) last <ℤ best.area
 
 -- where the list holds the same in two layers, a potential is one
 potential-by : (corners : List PlanePoint) (layers : ℕ) (us vs : List ℤ) (first layer last : ℕ)
@@ -64,11 +68,11 @@ potential-more corners layers us vs first layer last h k within p =
     shorter p x y w e h = omega arith
 
 -- the new row's numbers are potentials
-potential-new : (corners : List PlanePoint) (layers : ℕ) (us row : List ℤ) (first layer : ℕ) (before : List ℤ) (ways : List Way) → length us ≡ ending (length corners) layers first layer
+potential-new : (corners : List PlanePoint) (layers : ℕ) (us row : List ℤ) (first layer : ℕ) (before : List ℤ) (vectors : List PlaneVector) → length us ≡ ending (length corners) layers first layer
     → ((last : ℕ) → first < last → last < length corners → at before (last - first - 1) ≡ potential_or_zero (length corners) layers us first layer last)
-    → AreWays corners first ways → IsNextRow (map vector_of ways) before row → length row ≡ length ways → (last : ℕ) → first < last → last < length corners → IsPotential corners layers (us ++ row) first layer last
-potential-new corners layers us row first layer before ways as_many in_row w next same last h k = record {
-  grows = λ m l n. subst (λ z. z ≤ℤ potential_or_zero (length corners) layers (us ++ row) first (layer + 1) last) (sym (sum_is m l n)) (subst (λ z. (at before (m - first - 1) +ℤ area_at (map vector_of ways) (last - first - 1) (m - first - 1)) ≤ℤ z) (sym here) (best_sum.grows (m - first - 1) (earlier l n)));
+    → AreVectorsAfter corners first vectors → IsNextRow (map vector_of vectors) before row → length row ≡ length vectors → (last : ℕ) → first < last → last < length corners → IsPotential corners layers (us ++ row) first layer last
+potential-new corners layers us row first layer before vectors as_many in_row w next same last h k = record {
+  grows = λ m l n. subst (λ z. z ≤ℤ potential_or_zero (length corners) layers (us ++ row) first (layer + 1) last) (sym (sum_is m l n)) (subst (λ z. (at before (m - first - 1) +ℤ area_at (map vector_of vectors) (last - first - 1) (m - first - 1)) ≤ℤ z) (sym here) (best_sum.grows (m - first - 1) (earlier l n)));
   reached = elim best_sum.reached [
     | inl none ↦ inl (here ∙ none)
     | inr some ↦ inr (
@@ -76,17 +80,17 @@ potential-new corners layers us row first layer before ways as_many in_row w nex
       record {
         after = after some.0;
         before = before_last h some.1.earlier;
-        sum = here ∙ some.1.sum ∙ ap (λ j. at before j +ℤ area_at (map vector_of ways) (last - first - 1) j) (back some.0) ∙ sym (sum_is (first + 1 + some.0) (after some.0) (before_last h some.1.earlier));
+        sum = here ∙ some.1.sum ∙ ap (λ j. at before j +ℤ area_at (map vector_of vectors) (last - first - 1) j) (back some.0) ∙ sym (sum_is (first + 1 + some.0) (after some.0) (before_last h some.1.earlier));
       },
     )
   ];
 }
   where
-    in_ways : {m : ℕ} → first < m → m < length corners → m - first - 1 < length ways
-    in_ways h k = omega (arith, w.as_many)
+    in_vectors : {m : ℕ} → first < m → m < length corners → m - first - 1 < length vectors
+    in_vectors h k = omega (arith, w.as_many)
 
-    best_sum : IsBestSum (area_at (map vector_of ways) (last - first - 1)) before (last - first - 1) (at row (last - first - 1))
-    best_sum = next.each (last - first - 1) (subst (λ n. last - first - 1 < n) (sym same) (in_ways h k))
+    best_sum : IsBestSum (area_at (map vector_of vectors) (last - first - 1)) before (last - first - 1) (at row (last - first - 1))
+    best_sum = next.each (last - first - 1) (subst (λ n. last - first - 1 < n) (sym same) (in_vectors h k))
 
     here : potential_or_zero (length corners) layers (us ++ row) first (layer + 1) last ≡ at row (last - first - 1)
     here = potential_or_zero-row (length corners) layers us row first layer last h as_many
@@ -109,11 +113,11 @@ potential-new corners layers us row first layer before ways as_many in_row w nex
     back : (j : ℕ) → j ≡ first + 1 + j - first - 1
     back j = omega arith
 
-    area_is : (m : ℕ) → first < m → m < last → area_at (map vector_of ways) (last - first - 1) (m - first - 1) ≡ turn (point_at corners first) (point_at corners m) (point_at corners last)
+    area_is : (m : ℕ) → first < m → m < last → area_at (map vector_of vectors) (last - first - 1) (m - first - 1) ≡ turn (point_at corners first) (point_at corners m) (point_at corners last)
     area_is m l n =
-        area-turn corners first ways w (last - first - 1) (m - first - 1) (in_ways h k) (in_ways l (under n k)) ∙ ap₂ (λ p q. turn (point_at corners first) (point_at corners p) (point_at corners q)) (again l) (again h)
+        area-turn corners first vectors w (last - first - 1) (m - first - 1) (in_vectors h k) (in_vectors l (under n k)) ∙ ap₂ (λ p q. turn (point_at corners first) (point_at corners p) (point_at corners q)) (again l) (again h)
 
-    sum_is : (m : ℕ) → first < m → m < last → (potential_or_zero (length corners) layers (us ++ row) first layer m +ℤ turn (point_at corners first) (point_at corners m) (point_at corners last)) ≡ (at before (m - first - 1) +ℤ area_at (map vector_of ways) (last - first - 1) (m - first - 1))
+    sum_is : (m : ℕ) → first < m → m < last → (potential_or_zero (length corners) layers (us ++ row) first layer m +ℤ turn (point_at corners first) (point_at corners m) (point_at corners last)) ≡ (at before (m - first - 1) +ℤ area_at (map vector_of vectors) (last - first - 1) (m - first - 1))
     sum_is m l n = ap₂ (λ p q. p +ℤ q) (potential_or_zero-more (length corners) layers us row first layer m l (under n k) (subst (λ n. ending (length corners) layers first layer ≤ n) (sym as_many) (least (ending (length corners) layers first layer))) ∙ sym (in_row m l (under n k))) (sym (area_is m l n))
       where
         least : (n : ℕ) → n ≤ n
@@ -182,16 +186,53 @@ best-more count layers us row first layer old new as_many width below b t = reco
   ];
 }
 
--- the numbers of a new row are not below 0, and not large
-pub row-low : (ways : List Way) (before row : List ℤ) → IsNextRow (map vector_of ways) before row → All (λ u. pos 0 ≤ℤ u) row
-row-low ways before row next = All-from_get_or (λ u. pos 0 ≤ℤ u) row (pos 0) (λ i low. (next.each i low).not_negative)
+-- a number of a list is at most what all are at most, past the end too
+pub read_at_most : (us : List ℤ) (i : ℕ) (m : ℤ) → pos 0 ≤ℤ m → All (λ u. u ≤ℤ m) us → at us i ≤ℤ m
+read_at_most [] i m h all = h
+read_at_most (u ∷ us) zero m h all = All-head (λ u. u ≤ℤ m) u us all
+read_at_most (u ∷ us) (suc i) m h all = read_at_most us i m h (All-tail (λ u. u ≤ℤ m) u us all)
 
-pub row-high : (corners : List PlanePoint) (first : ℕ) (ways : List Way) (before row : List ℤ) (layer : ℕ) → AreWays corners first ways → length before ≡ length ways → IsNextRow (map vector_of ways) before row → length row ≡ length ways
+-- the potentials of earlier first corners are below the greatest number with a new row
+earlier-more : (corners : List PlanePoint) (layers first layer : ℕ) (us row : List ℤ) (old new : Best) → IsBestOf (length corners) layers us old → old.first ≤ first → ((a : ℕ) → a < first → ending (length corners) layers a layers ≤ length us)
+    → ((a l last : ℕ) → a < old.first → l < layers → a < last → last < length corners → potential_or_zero (length corners) layers us a (l + 1) last <ℤ old.area)
+    → (new ≡ old) ⊎ ((i : ℕ) × IsFoundAt row first layer new i × (old.area <ℤ new.area)) → (a l last : ℕ) → a < new.first → l < layers → a < last → last < length corners → potential_or_zero (length corners) layers (us ++ row) a (l + 1) last <ℤ new.area
+earlier-more corners layers first layer us row old new best begun ends earlier one a l last h i j k = elim one [
+  | inl same ↦
+      let low : a < old.first = subst (λ (x : Best). a < x.first) same h in
+      subst (λ x. potential_or_zero (length corners) layers (us ++ row) a (l + 1) last <ℤ x.area) (sym same)
+      (subst (λ z. z <ℤ old.area) (sym (potential_or_zero-more (length corners) layers us row a (l + 1) last j k (within (through low begun)))) (earlier a l last low i j k))
+  | inr found ↦
+      let low : a < first = subst (λ n. a < n) found.1.from h in
+      le_lt_trans_ℤ
+      (subst (λ z. z ≤ℤ old.area) (sym (potential_or_zero-more (length corners) layers us row a (l + 1) last j k (within low) ∙ potential_or_zero-next (length corners) layers us a l last)) (read_at_most us (index (length corners) layers a l last) old.area best.not_negative best.above))
+      found.2
+]
+  where
+    through : {x y z : ℕ} → x < y → y ≤ z → x < z
+    through h k = omega arith
+
+    within : a < first → ending (length corners) layers a (l + 1) ≤ length us
+    within g = shorter _ _ _ (mul-le-mul (up i) (itself (length corners - 1 - a))) (ends a g)
+      where
+        up : l < layers → l + 1 ≤ layers
+        up h = omega arith
+
+        itself : (n : ℕ) → n ≤ n
+        itself n = omega arith
+
+        shorter : (p x y : ℕ) {n : ℕ} → x ≤ y → p + y ≤ n → p + x ≤ n
+        shorter p x y h k = omega arith
+
+-- the numbers of a new row are not below 0, and not large
+pub row-low : (vectors : List PlaneVector) (before row : List ℤ) → IsNextRow (map vector_of vectors) before row → All (λ u. pos 0 ≤ℤ u) row
+row-low vectors before row next = All-from_get_or (λ u. pos 0 ≤ℤ u) row (pos 0) (λ i low. (next.each i low).not_negative)
+
+pub row-high : (corners : List PlanePoint) (first : ℕ) (vectors : List PlaneVector) (before row : List ℤ) (layer : ℕ) → AreVectorsAfter corners first vectors → length before ≡ length vectors → IsNextRow (map vector_of vectors) before row → length row ≡ length vectors
     → All (λ u. u ≤ℤ pos (layer * 549755813888)) before → All (λ u. u ≤ℤ pos ((layer + 1) * 549755813888)) row
-row-high corners first ways before row layer w before_as next as_many high = All-from_get_or (λ u. u ≤ℤ pos ((layer + 1) * 549755813888)) row (pos 0) (λ i low. elim (next.each i low).reached [
+row-high corners first vectors before row layer w before_as next as_many high = All-from_get_or (λ u. u ≤ℤ pos ((layer + 1) * 549755813888)) row (pos 0) (λ i low. elim (next.each i low).reached [
   | inl none ↦ subst (λ z. z ≤ℤ pos ((layer + 1) * 549755813888)) (sym none) (omega (arith, ints))
   | inr some ↦ subst (λ z. z ≤ℤ pos ((layer + 1) * 549755813888)) (sym some.1.sum)
-      (sum (high some.0 (pos 0) (in_before some.1.earlier low before_as as_many)) (area-limit corners first ways w i some.0 (in_ways low as_many) (in_ways_too some.1.earlier low as_many)))
+      (sum (high some.0 (pos 0) (in_before some.1.earlier low before_as as_many)) (area-limit corners first vectors w i some.0 (in_vectors low as_many) (in_vectors_too some.1.earlier low as_many)))
 ])
   where
     sum : {x y : ℤ} → x ≤ℤ pos (layer * 549755813888) → y ≤ℤ pos 549755813888 → (x +ℤ y) ≤ℤ pos ((layer + 1) * 549755813888)
@@ -200,30 +241,36 @@ row-high corners first ways before row layer w before_as next as_many high = All
     in_before : {i j b r n : ℕ} → j < i → i < r → b ≡ n → r ≡ n → j < b
     in_before h k e f = omega arith
 
-    in_ways : {i r n : ℕ} → i < r → r ≡ n → i < n
-    in_ways h e = omega arith
+    in_vectors : {i r n : ℕ} → i < r → r ≡ n → i < n
+    in_vectors h e = omega arith
 
-    in_ways_too : {i j r n : ℕ} → j < i → i < r → r ≡ n → j < n
-    in_ways_too h k e = omega arith
+    in_vectors_too : {i j r n : ℕ} → j < i → i < r → r ≡ n → j < n
+    in_vectors_too h k e = omega arith
 
 -- one row more
-pub row-added : (corners : List PlanePoint) (layers first layer : ℕ) (us vs before row : List ℤ) (old new : Best) (ways : List Way) → first < length corners → layer < layers → AreWays corners first ways → IsPartTable corners layers first layer us before old
-    → IsNextRow (map vector_of ways) before row → length row ≡ length ways → TakesBest old row first (layer + 1) new → vs ≡ us ++ row → IsPartTable corners layers first (layer + 1) vs row new
-row-added corners layers first layer us vs before row old new ways is_first below w t next same takes is = subst (λ xs. IsPartTable corners layers first (layer + 1) xs row new) (sym is) (record {
+pub row-added : (corners : List PlanePoint) (layers first layer : ℕ) (us vs before row : List ℤ) (old new : Best) (vectors : List PlaneVector) → first < length corners → layer < layers → AreVectorsAfter corners first vectors → IsPartTable corners layers first layer us before old
+    → IsNextRow (map vector_of vectors) before row → length row ≡ length vectors → TakesBest old row first (layer + 1) new → vs ≡ us ++ row → IsPartTable corners layers first (layer + 1) vs row new
+row-added corners layers first layer us vs before row old new vectors is_first below w t next same takes is = subst (λ xs. IsPartTable corners layers first (layer + 1) xs row new) (sym is) (record {
   as_many = length-append us row ∙ grown _ _ _ (layer-next layer (length corners - 1 - first)) t.as_many same w.as_many;
   ends = λ a l. subst (λ n. ending (length corners) layers a layers ≤ n) (sym (length-append us row)) (longer _ (t.ends a l));
   potentials = λ a l last h i j k. potential-more corners layers us row a l last j k (within _ _ _ _ _ (layers-below (length corners - 1 - a) i) (layer-next l (length corners - 1 - a)) (t.ends a h)) (t.potentials a l last h i j k);
   here = λ l last i j k. elim (below_or_at l layer i) [
     | inl less ↦ potential-more corners layers us row first l last j k (subst (λ n. ending (length corners) layers first (l + 1) ≤ n) (sym t.as_many) (within _ _ _ _ _ (layers-below (length corners - 1 - first) less) (layer-next l (length corners - 1 - first)) (least (ending (length corners) layers first layer)))) (t.here l last less j k)
-    | inr at_it ↦ subst (λ m. IsPotential corners layers (us ++ row) first m last) (sym at_it) (potential-new corners layers us row first layer before ways t.as_many t.in_row w next same last j k)
+    | inr at_it ↦ subst (λ m. IsPotential corners layers (us ++ row) first m last) (sym at_it) (potential-new corners layers us row first layer before vectors t.as_many t.in_row w next same last j k)
   ];
   row_length = omega (arith, same, w.as_many);
   in_row = λ last j k. sym (potential_or_zero-row (length corners) layers us row first layer last j t.as_many);
-  low = row-low ways before row next;
-  high = row-high corners first ways before row layer w (omega (arith, t.row_length, w.as_many)) next same t.high;
+  low = row-low vectors before row next;
+  high = row-high corners first vectors before row layer w (omega (arith, t.row_length, w.as_many)) next same t.high;
   greatest = best-more (length corners) layers us row first layer old new t.as_many (omega (arith, same, w.as_many)) below t.greatest takes;
+  begun = elim takes.one [ inl e ↦ subst (λ (x : Best). x.first ≤ first) (sym e) t.begun | inr found ↦ subst (λ n. n ≤ first) (sym found.1.from) (least first) ];
+  none = λ zero_area. elim takes.one [ inl e ↦ subst (λ (x : Best). x.first ≡ 0) (sym e) (t.none (subst (λ (x : Best). x.area ≡ pos 0) e zero_area)) | inr found ↦ absurd (not_zero found.1.positive zero_area) ];
+  earlier = earlier-more corners layers first (layer + 1) us row old new t.greatest t.begun t.ends t.earlier takes.one;
 })
   where
+    not_zero : {z : ℤ} → pos 0 <ℤ z → z ≡ pos 0 → ⊥
+    not_zero h e = omega (arith, ints)
+
     longer : {p n : ℕ} (m : ℕ) → p ≤ n → p ≤ n + m
     longer m h = omega arith
 
@@ -284,6 +331,9 @@ first-begins corners layers first us row best t width zeros = record {
   low = All-from_get_or (λ u. pos 0 ≤ℤ u) row (pos 0) (λ i b. not_below (zeros i));
   high = All-from_get_or (λ u. u ≤ℤ pos (0 * 549755813888)) row (pos 0) (λ i b. not_above (zeros i));
   greatest = t.greatest;
+  begun = t.begun;
+  none = t.none;
+  earlier = t.earlier;
 }
   where
     none_more : (n : ℕ) → n ≡ n + 0 * (length corners - 1 - first)
@@ -308,8 +358,14 @@ first-ends corners layers first us row best is_first t = record {
     | inr same ↦ subst (λ n. IsPotential corners layers us n l last) (sym same) (t.here l last i (subst (λ n. n < last) same j) k)
   ];
   greatest = t.greatest;
+  begun = more t.begun;
+  none = t.none;
+  earlier = t.earlier;
 }
   where
+    more : {k n : ℕ} → k ≤ n → k ≤ n + 1
+    more h = omega arith
+
     spread : (l p w : ℕ) → l * (p + w) ≡ l * p + l * w
     spread l p w = omega arith
 
@@ -328,24 +384,24 @@ seen-row old new row low is = ap (map pos) is ∙ map-append pos old (map nat_ab
     back (x ∷ xs) h = ap₂ (λ a b. a ∷ b) (whole x (All-head (λ u. pos 0 ≤ℤ u) x xs h)) (back xs (All-tail (λ u. pos 0 ≤ℤ u) x xs h))
 
 -- a next row has a number for each vector
-row-width : (ways : List Way) (before row : List ℤ) → IsNextRow (map vector_of ways) before row → length row ≡ length ways
-row-width ways before row next = next.as_many ∙ length-map ways vector_of
+row-width : (vectors : List PlaneVector) (before row : List ℤ) → IsNextRow (map vector_of vectors) before row → length row ≡ length vectors
+row-width vectors before row next = next.as_many ∙ length-map vectors vector_of
 
 -- the numbers of the next row are small
-pub next_small : (corners : List PlanePoint) (layers first layer : ℕ) (us before row : List ℤ) (best : Best) (ways : List Way) → layers ≤ 10 → layer < layers → AreWays corners first ways → IsPartTable corners layers first layer us before best → IsNextRow (map vector_of ways) before row → All (Size (2 ^ 43)) row
-next_small corners layers first layer us before row best ways ten below w t next =
-    small_row (layer + 1) row (omega arith) (row-low ways before row next) (row-high corners first ways before row layer w (omega (arith, t.row_length, w.as_many)) next (row-width ways before row next) t.high)
+pub next_small : (corners : List PlanePoint) (layers first layer : ℕ) (us before row : List ℤ) (best : Best) (vectors : List PlaneVector) → layers ≤ 10 → layer < layers → AreVectorsAfter corners first vectors → IsPartTable corners layers first layer us before best → IsNextRow (map vector_of vectors) before row → All (Size (2 ^ 43)) row
+next_small corners layers first layer us before row best vectors ten below w t next =
+    small_row (layer + 1) row (omega arith) (row-low vectors before row next) (row-high corners first vectors before row layer w (omega (arith, t.row_length, w.as_many)) next (row-width vectors before row next) t.high)
 
 -- the next row has room
-pub next_room : (corners : List PlanePoint) (layers first layer : ℕ) (us : List ℕ) (before row : List ℤ) (best : Best) (ways : List Way) → length corners ≤ 128 → first < length corners → layers ≤ 10 → layer < layers → AreWays corners first ways → IsPartTable corners layers first layer (map pos us) before best → IsNextRow (map vector_of ways) before row → length us + length row ≤ 1000000
-next_room corners layers first layer us before row best ways few is_first ten below w t next =
-    room_for (length corners) layers first layer (length us) (length row) few is_first ten below (sym (length-map us pos) ∙ t.as_many) (omega (arith, row-width ways before row next, w.as_many))
+pub next_room : (corners : List PlanePoint) (layers first layer : ℕ) (us : List ℕ) (before row : List ℤ) (best : Best) (vectors : List PlaneVector) → length corners ≤ 128 → first < length corners → layers ≤ 10 → layer < layers → AreVectorsAfter corners first vectors → IsPartTable corners layers first layer (map pos us) before best → IsNextRow (map vector_of vectors) before row → length us + length row ≤ 1000000
+next_room corners layers first layer us before row best vectors few is_first ten below w t next =
+    room_for (length corners) layers first layer (length us) (length row) few is_first ten below (sym (length-map us pos) ∙ t.as_many) (omega (arith, row-width vectors before row next, w.as_many))
 
 -- the pushed row
-pub next_added : (corners : List PlanePoint) (layers first layer : ℕ) (us vs : List ℕ) (before row : List ℤ) (old new : Best) (ways : List Way) → first < length corners → layer < layers → AreWays corners first ways → IsPartTable corners layers first layer (map pos us) before old
-    → IsNextRow (map vector_of ways) before row → TakesBest old row first (layer + 1) new → vs ≡ us ++ map nat_abs row → IsPartTable corners layers first (layer + 1) (map pos vs) row new
-next_added corners layers first layer us vs before row old new ways is_first below w t next takes is =
-    row-added corners layers first layer (map pos us) (map pos vs) before row old new ways is_first below w t next (row-width ways before row next) takes (seen-row us vs row (row-low ways before row next) is)
+pub next_added : (corners : List PlanePoint) (layers first layer : ℕ) (us vs : List ℕ) (before row : List ℤ) (old new : Best) (vectors : List PlaneVector) → first < length corners → layer < layers → AreVectorsAfter corners first vectors → IsPartTable corners layers first layer (map pos us) before old
+    → IsNextRow (map vector_of vectors) before row → TakesBest old row first (layer + 1) new → vs ≡ us ++ map nat_abs row → IsPartTable corners layers first (layer + 1) (map pos vs) row new
+next_added corners layers first layer us vs before row old new vectors is_first below w t next takes is =
+    row-added corners layers first layer (map pos us) (map pos vs) before row old new vectors is_first below w t next (row-width vectors before row next) takes (seen-row us vs row (row-low vectors before row next) is)
 
 -- no potentials yet
 pub table-none : (corners : List PlanePoint) (layers : ℕ) (us : List ℤ) → us ≡ [] → IsTable corners layers 0 us (record { area = pos 0; first = 0; layer = 0; last = 0 })
@@ -354,6 +410,9 @@ table-none corners layers us is = subst (λ xs. IsTable corners layers 0 xs (rec
   ends = λ a h. absurd (omega arith);
   potentials = λ a l last h i j k. absurd (omega arith);
   greatest = record { not_negative = omega (arith, ints); small = record { abs = omega arith }; above = All-nil (λ u. u ≤ℤ pos 0); stands = inl refl };
+  begun = omega arith;
+  none = λ _. refl;
+  earlier = λ a l last h i j k. absurd (omega (arith, h));
 })
   where
     none : (n : ℕ) → 0 * n ≡ 0

@@ -1,4 +1,4 @@
-pub mod Ways
+pub mod LaterVectors
 pub mod Rows
 pub mod Tables
 pub mod Choices

@@ -6,7 +6,7 @@ use Rattle.bounds_model.specs.Plane.{PlanePoint, point_at, cross}
 
 -- twice the area of the triangle over two of the vectors
 abbrev pub area_at : List PlanePoint → ℕ → ℕ → ℤ
-area_at ways i j = cross (point_at ways j) (point_at ways i)
+area_at vectors i j = cross (point_at vectors j) (point_at vectors i)
 
 -- the number at this index of a row
 abbrev pub at : List ℤ → ℕ → ℤ
@@ -25,9 +25,9 @@ pub record AddsAreas (area : ℕ → ℤ) (count : ℕ) (old new : List ℤ) : T
   pub small : All (Size (2 ^ 39)) old → All (Size (2 ^ 39)) new
 
 -- for each of so many vectors the areas of the triangles over an earlier one and it
-pub record AreAreas (ways : List PlanePoint) (count : ℕ) (areas : List ℤ) : Type 0 where
+pub record AreAreas (vectors : List PlanePoint) (count : ℕ) (areas : List ℤ) : Type 0 where
   pub as_many : length areas ≡ pairs_below count
-  pub each : EachBelow count (λ i. EachBelow i (λ j. at areas (pairs_below i + j) ≡ area_at ways i j))
+  pub each : EachBelow count (λ i. EachBelow i (λ j. at areas (pairs_below i + j) ≡ area_at vectors i j))
   pub small : All (Size (2 ^ 39)) areas
 
 -- the number is what an earlier one and its area come to
@@ -42,9 +42,9 @@ pub record IsBestSum (area : ℕ → ℤ) (before : List ℤ) (i : ℕ) (u : ℤ
   pub reached : (u ≡ pos 0) ⊎ ((j : ℕ) × IsSumAt area before i u j)
 
 -- each number is such a greatest one
-pub record IsNextRow (ways : List PlanePoint) (before row : List ℤ) : Type 0 where
-  pub as_many : length row ≡ length ways
-  pub each : EachBelow (length row) (λ i. IsBestSum (area_at ways i) before i (at row i))
+pub record IsNextRow (vectors : List PlanePoint) (before row : List ℤ) : Type 0 where
+  pub as_many : length row ≡ length vectors
+  pub each : EachBelow (length row) (λ i. IsBestSum (area_at vectors i) before i (at row i))
 
 -- so many times 0
 pub record IsZeroRow (count : ℕ) (row : List ℤ) : Type 0 where

@@ -60,10 +60,13 @@ pub record IsTable (corners : List PlanePoint) (layers first : ℕ) (us : List �
   pub ends : (a : ℕ) → a < first → ending (length corners) layers a layers ≤ length us
   pub potentials : (a layer last : ℕ) → a < first → layer < layers → a < last → last < length corners → IsPotential corners layers us a layer last
   pub greatest : IsBestOf (length corners) layers us best
+  pub begun : best.first ≤ first
+  pub none : best.area ≡ pos 0 → best.first ≡ 0
+  pub earlier : (a layer last : ℕ) → a < best.first → layer < layers → a < last → last < length corners → potential_or_zero (length corners) layers us a (layer + 1) last <ℤ best.area
 
 -- the greatest number was found in a row, or none is greater than that before
 pub record TakesBest (old : Best) (row : List ℤ) (first layer : ℕ) (new : Best) : Type 0 where
   pub small : Size (2 ^ 43) new.area
   pub rises : old.area ≤ℤ new.area
   pub above : All (λ u. u ≤ℤ new.area) row
-  pub one : (new ≡ old) ⊎ ((i : ℕ) × IsFoundAt row first layer new i)
+  pub one : (new ≡ old) ⊎ ((i : ℕ) × IsFoundAt row first layer new i × (old.area <ℤ new.area))

@@ -2,7 +2,8 @@
 ghost use Rattle.std.specs.Prelude.{◌≡◌, ◌-◌, ◌<◌, ◌≤◌, length, map, min, All, IfOk, IfErr};
 ghost use Rattle.bounds_model.specs.Plane.{point_at};
 ghost use Rattle.bounds_model.specs.Hull.{AreCorners};
-ghost use Rattle.bounds_model.specs.KgonAnswer.{PassesKgon};
+ghost use Rattle.bounds_model.specs.Firsts.{IsFirstKgon};
+ghost use Rattle.bounds_model.specs.KgonAnswer.{corner_points, PassesKgon};
 ghost use Rattle.bounded_coords.specs.Clouds.{points_of};
 ghost use Rattle.answers.specs.Answers.{polygon_of};
 ghost use Rattle.hull_calipers.specs.CornerLists.{numbers_in, points_in};
@@ -10,11 +11,12 @@ ghost use Rattle.extremal_kgon.specs.Faults.{AreTooMany, IsCause};
 
 use crate::choice::choice;
 use crate::table::table;
-use crate::ways::MOST_CORNERS;
+use added_areas::MOST_CORNERS;
 use answers::{KgonAnswer, Numbers};
 use bounded_coords::{Cloud2, OutOfMemory, Point2};
 use exact_fractions::Frac;
 use hull_calipers::{Corners, corners};
+use optimality::kgon::passing_kgons_are_first;
 use std::alloc::Global;
 use std::error::Error;
 use std::fmt;
@@ -104,7 +106,7 @@ fn answer(
     let points = points(alloc, cloud, corners.as_slice())?;
     let layers = layers(k, points.len());
     let (potentials, best) = table(alloc, &points, layers)?;
-    let chosen = choice(potentials.as_slice(), &points, layers, &best);
+    let chosen = choice(&points, layers, &best);
     let size = Frac::new(u128::from(best.area.unsigned_abs()), 2);
     Ok(KgonAnswer {
         size,
@@ -115,16 +117,19 @@ fn answer(
     })
 }
 
-/// The largest polygon on at most `k` of the hull's corners, and potentials which show that none is larger (Boyce, Dobkin,
-/// Drysdale and Guibas, Finding extremal polygons; CGAL manual, Inscribed Areas, `maximum_area_inscribed_k_gon_2`): for each first
-/// corner and each number of triangles, by how much the triangles up to each later corner cover at most.
+/// The first largest polygon on at most `k` of the hull's corners, in the order of lists of positions, and potentials which show that
+/// none is larger (Boyce, Dobkin, Drysdale and Guibas, Finding extremal polygons; CGAL manual, Inscribed Areas,
+/// `maximum_area_inscribed_k_gon_2`): for each first corner and each number of triangles, by how much the triangles up to each later
+/// corner cover at most.
 pub fn kgon(alloc: Global, cloud: Cloud2<'_>, k: u8) -> Result<KgonAnswer, KgonFault>
     requires k { 3 ≤ k }
     requires most { k ≤ 12 }
     ensures passes { IfOk result (λ a. PassesKgon k (points_of cloud.entry) (polygon_of a)) }
+    ensures first { IfOk result (λ a. IsFirstKgon k (corner_points (points_of cloud.entry) (polygon_of a)) (polygon_of a).chosen) }
     ensures taken { IfOk result (λ a. ¬ AreTooMany (points_of cloud.entry)) }
     ensures cause { IfErr result (λ fault. IsCause (points_of cloud.entry) fault) }
 {
+    passing_kgons_are_first();
     let hull = corners(alloc, cloud)?;
     if hull.len() as usize > MOST_CORNERS {
         return Err(KgonFault::TooManyCorners(hull.len()));

@@ -1,10 +1,10 @@
 //! The potentials of a layer: by how much the triangles from a first corner can cover with so many corners more.
 ghost use Rattle.std.specs.Prelude.{◌≡◌, ◌+◌, ◌≤◌, ◌^◌, length, map, All, replicate, pos};
 ghost use Rattle.integers.specs.Size.{Size};
-ghost use Rattle.extremal_kgon.specs.Ways.{vector_of};
+ghost use Rattle.added_areas.specs.PlaneVectors.{vector_of};
 ghost use Rattle.extremal_kgon.specs.Rows.{at, AreAreas, IsBestSum, IsNextRow, IsZeroRow};
 
-use crate::ways::{MOST_CORNERS, Way};
+use added_areas::{MOST_CORNERS, PlaneVector};
 use arrayvec::ArrayVec;
 
 /// The potentials of a first corner's layer, one for each later corner.
@@ -39,16 +39,16 @@ fn best_sum(areas: &[i64], start: usize, before: &[i64], i: usize) -> i64
 }
 
 /// The potentials with one corner more.
-pub(crate) fn next_row(ways: &[Way], areas: &[i64], before: &[i64]) -> Row
-    requires few { length ways.now ≤ 128 }
-    requires as_many { length before.now ≡ length ways.now }
-    requires areas { AreAreas (map vector_of ways.now) (length ways.now) areas.now }
+pub(crate) fn next_row(vectors: &[PlaneVector], areas: &[i64], before: &[i64]) -> Row
+    requires few { length vectors.now ≤ 128 }
+    requires as_many { length before.now ≡ length vectors.now }
+    requires areas { AreAreas (map vector_of vectors.now) (length vectors.now) areas.now }
     requires before { All (Size (2 ^ 43)) before.now }
-    ensures { IsNextRow (map vector_of ways.now) before.now result.items }
+    ensures { IsNextRow (map vector_of vectors.now) before.now result.items }
 {
     let mut row = ArrayVec::new();
     let mut start = 0;
-    'later: for i in 0..ways.len() {
+    'later: for i in 0..vectors.len() {
         row.push(best_sum(areas, start, before, i));
         start += i;
     }

@@ -5,7 +5,7 @@ ghost use Rattle.extremal_kgon.specs.Tables.{IsTable, TakesBest};
 
 use crate::rows::{next_row, zero_row};
 use crate::triangles::{Areas, set_areas};
-use crate::ways::ways;
+use crate::vectors::vectors_after;
 use answers::Potentials;
 use arrayvec::ArrayVec;
 use bounded_coords::{OutOfMemory, Point2};
@@ -73,12 +73,12 @@ fn add_layers(
     requires table { IsTable corners.now layers first (map pos potentials.old) best }
     ensures { IfOk result (λ greatest. IsTable corners.now layers (first + 1) (map pos potentials.new) greatest) }
 {
-    let ways = ways(corners, first);
-    set_areas(areas, ways.as_slice());
+    let vectors = vectors_after(corners, first);
+    set_areas(areas, vectors.as_slice());
     let mut best = best;
-    let mut before = zero_row(ways.len());
+    let mut before = zero_row(vectors.len());
     'layers: for layer in 0..layers {
-        let row = next_row(ways.as_slice(), areas.as_slice(), before.as_slice());
+        let row = next_row(vectors.as_slice(), areas.as_slice(), before.as_slice());
         best = best.with_row(row.as_slice(), first, layer + 1);
         push_row(potentials, row.as_slice())?;
         before = row;

@@ -1,11 +1,10 @@
 //! The areas of the triangles with a first corner.
 ghost use Rattle.std.specs.Prelude.{◌≡◌, ◌+◌, ◌^◌, ◌<◌, ◌≤◌, length, map, All};
 ghost use Rattle.integers.specs.Size.{Size};
-ghost use Rattle.bounds_model.specs.Plane.{cross};
-ghost use Rattle.extremal_kgon.specs.Ways.{vector_of, IsShort};
+ghost use Rattle.added_areas.specs.PlaneVectors.{vector_of, IsShort};
 ghost use Rattle.extremal_kgon.specs.Rows.{area_at, AddsAreas, AreAreas};
 
-use crate::ways::Way;
+use added_areas::{PlaneVector, area};
 use arrayvec::ArrayVec;
 
 /// How many pairs of later corners there are at most.
@@ -14,37 +13,27 @@ const MOST_PAIRS: usize = 8128;
 /// Twice the areas of the triangles over two later corners, for each of them those with the ones before it.
 pub(crate) type Areas = ArrayVec<i64, MOST_PAIRS>;
 
-/// Twice the area of the triangle over two vectors, above 0 where the second is to the left of the first.
-fn area(from: Way, to: Way) -> i64
-    requires from { IsShort from }
-    requires to { IsShort to }
-    ensures value { result ≡ cross (vector_of from) (vector_of to) }
-    ensures small { Size (2 ^ 39) result }
-{
-    from.x * to.y - from.y * to.x
-}
-
 /// Adds the areas over each earlier vector and the one at this index.
-fn push_areas(areas: &mut Areas, ways: &[Way], i: usize)
-    requires index { i < length ways.now }
+fn push_areas(areas: &mut Areas, vectors: &[PlaneVector], i: usize)
+    requires index { i < length vectors.now }
     requires room { length areas.old.items + i ≤ 8128 }
-    requires short { All IsShort ways.now }
-    ensures { AddsAreas (area_at (map vector_of ways.now) i) i areas.old.items areas.new.items }
+    requires short { All IsShort vectors.now }
+    ensures { AddsAreas (area_at (map vector_of vectors.now) i) i areas.old.items areas.new.items }
 {
-    let to = ways[i];
+    let to = vectors[i];
     'earlier: for j in 0..i {
-        areas.push(area(ways[j], to));
+        areas.push(area(vectors[j], to));
     }
 }
 
 /// Keeps the areas over each two of the vectors, over others.
-pub(crate) fn set_areas(areas: &mut Areas, ways: &[Way])
-    requires few { length ways.now ≤ 128 }
-    requires short { All IsShort ways.now }
-    ensures { AreAreas (map vector_of ways.now) (length ways.now) areas.new.items }
+pub(crate) fn set_areas(areas: &mut Areas, vectors: &[PlaneVector])
+    requires few { length vectors.now ≤ 128 }
+    requires short { All IsShort vectors.now }
+    ensures { AreAreas (map vector_of vectors.now) (length vectors.now) areas.new.items }
 {
     areas.clear();
-    'later: for i in 0..ways.len() {
-        push_areas(areas, ways, i);
+    'later: for i in 0..vectors.len() {
+        push_areas(areas, vectors, i);
     }
 }

@@ -1,4 +1,6 @@
 pub mod FanLoops
+pub mod ConeEnds
+pub mod FirstLoops
 pub mod Widths
 pub mod FanRanges
 pub mod StripPassing

@@ -1,5 +1,5 @@
 -- Bounds on what is computed of a fan and a size.
-use Rattle.std.proofs.Common.{◌≡◌, ◌↔◌, refl, subst, ap₂, ℕ, ◌*◌, ◌^◌, ◌≤◌, ℤ, pos, nat_abs, neg_ℤ, ◌*ℤ◌, ◌≤ℤ◌, ◌<ℤ◌, [], ◌∷◌, arith}
+use Rattle.std.proofs.Common.{◌≡◌, ◌↔◌, refl, subst, ap₂, ℕ, ◌*◌, ◌^◌, ◌≤◌, ℤ, pos, nat_abs, neg_ℤ, ◌*ℤ◌, ◌≤ℤ◌, ◌<ℤ◌, [], ◌∷◌, arith, ◌<◌}
 use Rattle.std.proofs.Math.Nat.{mul-le-mul}
 use Rattle.std.proofs.lemmas.Int.{ints}
 use Rattle.integers.proofs.Identities.{den-ring, read, polys}
@@ -52,4 +52,13 @@ ordered {n} {l} {a} {b} {d} {n'} {l'} {a'} {b'} {d'} en el ea eb ed =
     (subst (λ z. ((n * l) ≤ (a * b * d)) ↔ ((pos n *ℤ pos l) ≤ℤ z)) (ap₂ (λ x y. x *ℤ y) (ap₂ (λ x y. x *ℤ y) ea eb) ed) (plain n l a b d))
   where
     plain : (n l a b d : ℕ) → ((n * l) ≤ (a * b * d)) ↔ ((pos n *ℤ pos l) ≤ℤ (pos a *ℤ pos b *ℤ pos d))
+    plain n l a b d = (λ h. omega (arith, ints), λ h. omega (arith, ints))
+
+-- the same for one below the other
+pub ordered_above : {n l a b d : ℕ} {n' l' a' b' d' : ℤ} → pos n ≡ n' → pos l ≡ l' → pos a ≡ a' → pos b ≡ b' → pos d ≡ d' → ((n * l) < (a * b * d)) ↔ ((n' *ℤ l') <ℤ (a' *ℤ b' *ℤ d'))
+ordered_above {n} {l} {a} {b} {d} {n'} {l'} {a'} {b'} {d'} en el ea eb ed =
+    subst (λ z. ((n * l) < (a * b * d)) ↔ (z <ℤ (a' *ℤ b' *ℤ d'))) (ap₂ (λ x y. x *ℤ y) en el)
+    (subst (λ z. ((n * l) < (a * b * d)) ↔ ((pos n *ℤ pos l) <ℤ z)) (ap₂ (λ x y. x *ℤ y) (ap₂ (λ x y. x *ℤ y) ea eb) ed) (plain n l a b d))
+  where
+    plain : (n l a b d : ℕ) → ((n * l) < (a * b * d)) ↔ ((pos n *ℤ pos l) <ℤ (pos a *ℤ pos b *ℤ pos d))
     plain n l a b d = (λ h. omega (arith, ints), λ h. omega (arith, ints))

@@ -52,6 +52,7 @@ pub fn check_parallelogram(cloud: Cloud2<'_>, a: &ParaAnswer) -> bool
     if !are_within_limits(cloud, &a.chords, a.fan.cones.len() + 1) {
         return false;
     }
+    // Behind this the size is that of the object, so that the products of each direction fit 128 bits.
     if !has_size(a) {
         return false;
     }

@@ -1,10 +1,11 @@
 //! Normals, their bounds, and points inside them.
-ghost use Rattle.std.specs.Prelude.{◌≡◌, ◌↔◌, ◌≢◌, ◌^◌, ◌≤◌, ◌*ℤ◌, ◌≤ℤ◌, pos, IsTrue, All};
-ghost use Rattle.bounds_model.specs.Fractions.{SameValue};
+ghost use Rattle.std.specs.Prelude.{◌≡◌, ◌↔◌, ◌≢◌, ◌^◌, ◌≤◌, ◌*ℤ◌, ◌≤ℤ◌, ◌<ℤ◌, ◌∷◌};
+ghost use Rattle.std.specs.Prelude.{pos, [], IsTrue, All, Any};
+ghost use Rattle.bounds_model.specs.Fractions.{SameValue, HaveNoCommonFactor};
 ghost use Rattle.bounds_model.specs.Ranges.{IsFraction};
-ghost use Rattle.bounds_model.specs.Plane.{origin, dot};
+ghost use Rattle.bounds_model.specs.Plane.{origin, dot, cross};
 ghost use Rattle.integers.specs.Size.{Size};
-ghost use Rattle.bounds_model.specs.Strip.{IsInSpan, extent as extent_of};
+ghost use Rattle.bounds_model.specs.Strip.{IsInSpan, AreTight, extent as extent_of};
 ghost use Rattle.bounds_model.specs.Fans.{IsShort};
 ghost use Rattle.bounds_model.specs.StripAnswer.{IsShortSpan};
 ghost use Rattle.bounded_coords.specs.Clouds.{points_of};
@@ -13,8 +14,8 @@ ghost use Rattle.fan_checks.specs.Limits.{HasNormalLimits};
 
 use answers::{Dir, Span};
 use bounded_coords::Cloud2;
-use directions::along;
-use exact_fractions::Frac;
+use directions::{along, cross_directions, quarter_turn};
+use exact_fractions::{Frac, gcd};
 use fan_test::is_short;
 
 /// The greatest magnitude of a bound.
@@ -45,6 +46,49 @@ fn is_some(d: Dir) -> bool
     ensures { IsTrue result ↔ (vector_of d ≢ origin) }
 {
     d.x != 0 || d.y != 0
+}
+
+/// Whether a direction's entries have no common factor.
+pub(crate) fn is_lowest(d: Dir) -> bool
+    ensures { IsTrue result ↔ HaveNoCommonFactor ((vector_of d).x ∷ (vector_of d).y ∷ []) }
+{
+    gcd(d.x.unsigned_abs(), d.y.unsigned_abs()) == 1
+}
+
+/// Whether two directions point the same way.
+pub(crate) fn is_along(d: Dir, u: Dir) -> bool
+    requires d { IsShort (vector_of d) }
+    requires u { IsShort (vector_of u) }
+    ensures { IsTrue result ↔ (cross (vector_of d) (vector_of u) ≡ pos 0) × (pos 0 <ℤ dot (vector_of d) (vector_of u)) }
+{
+    cross_directions(d, u) == 0 && cross_directions(d, quarter_turn(u)) > 0
+}
+
+/// Whether the bounds are the least and the greatest product of the normal with a point.
+pub(crate) fn is_tight(cloud: Cloud2<'_>, normal: Dir, span: Span) -> bool
+    requires { IsShort (vector_of normal) }
+    ensures { IsTrue result ↔ AreTight (points_of cloud.entry) (vector_of normal) (span_of span) }
+{
+    if !are_in_span(cloud, normal, span) {
+        return false;
+    }
+    if !is_reached(cloud, normal, span.lo) {
+        return false;
+    }
+    is_reached(cloud, normal, span.hi)
+}
+
+/// Whether some point has this product with the normal.
+fn is_reached(cloud: Cloud2<'_>, normal: Dir, bound: i128) -> bool
+    requires { IsShort (vector_of normal) }
+    ensures { IsTrue result ↔ Any (λ p. dot (vector_of normal) p ≡ bound) (points_of cloud.entry) }
+{
+    'points: for i in 0..cloud.len() {
+        if i128::from(along(normal, cloud.at(i))) == bound {
+            return true;
+        }
+    }
+    false
 }
 
 /// Whether all points are between the bounds along the normal.

@@ -16,8 +16,6 @@ mod fans;
 mod half;
 mod limits;
 mod quarter;
-#[cfg(test)]
-mod tests;
 
 pub use chain::{Chain, EAST, NORTH, WEST, encloses, leads};
 pub use direction::Direction;

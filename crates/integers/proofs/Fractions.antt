@@ -41,6 +41,13 @@ fraction_equal a b e f c d hb hf q h =
     (le_by (nonneg_mul (le_from_lt hf) (nonneg_difference h))
     (combine1 d q (read (a ∷ b ∷ c ∷ d ∷ e ∷ f ∷ []) (λ xs p q r s t u. simp (p, q, r, s, t, u, polys) (den-ring xs _ _ tt)))))
 
+-- e / f < c / d from a / b < c / d, where a / b = e / f
+pub fraction_lt_equal : (a b e f c d : ℤ) → pos 0 <ℤ b → pos 0 <ℤ f → a *ℤ f ≡ e *ℤ b → (a *ℤ d) <ℤ (c *ℤ b) → (e *ℤ d) <ℤ (c *ℤ f)
+fraction_lt_equal a b e f c d hb hf q h =
+    lt_of_mul_lt b hb
+    (lt_by (positive_mul hf (positive_difference h))
+    (combine1 d q (read (a ∷ b ∷ c ∷ d ∷ e ∷ f ∷ []) (λ xs p q r s t u. simp (p, q, r, s, t, u, polys) (den-ring xs _ _ tt)))))
+
 -- c / d ≤ e / f from c / d ≤ a / b, where a / b = e / f
 pub fraction_equal_right : (a b e f c d : ℤ) → pos 0 <ℤ b → pos 0 <ℤ f → a *ℤ f ≡ e *ℤ b → (c *ℤ b) ≤ℤ (a *ℤ d) → (c *ℤ f) ≤ℤ (e *ℤ d)
 fraction_equal_right a b e f c d hb hf q h =

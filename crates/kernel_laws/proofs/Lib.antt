@@ -17,6 +17,7 @@ pub mod Four
 pub mod Shown
 pub mod Crosses
 pub mod Products
+pub mod ProductSums
 pub mod Items
 pub mod ItemLists
 pub mod TestItems

@@ -1,9 +1,8 @@
 -- Points and vectors by their coordinates.
-use Rattle.std.proofs.Common.{◌≡◌, refl, ap, ap₂, ◌∙◌, ℤ, zero, suc, pos, negsuc, ◌*ℤ◌, ◌<ℤ◌, ◌≤ℤ◌, ◌⊎◌, inl, inr, arith, ℕ, List, [], ◌∷◌, map}
+use Rattle.std.proofs.Common.{◌≡◌, ap, ap₂, ◌∙◌, ℤ, zero, suc, pos, ◌<ℤ◌, ◌≤ℤ◌, arith, ℕ, List, [], ◌∷◌, map}
 use Rattle.std.proofs.lemmas.Int.{ints, by_lt_z}
 use Rattle.std.specs.Prelude.{slice_get, Some}
-use Rattle.integers.specs.Size.{Size}
-use Rattle.integers.proofs.Order.{square_nonneg, square_positive, zero_of_square, nonneg_add}
+use Rattle.integers.proofs.Order.{square_nonneg, zero_of_square, nonneg_add}
 use Rattle.bounds_model.specs.Space.{SpacePoint, origin, squared_length, point_at}
 use Rattle.kernel_laws.specs.Signs.{determinant}
 

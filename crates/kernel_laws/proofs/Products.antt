@@ -1,9 +1,9 @@
 -- Products of the differences of items, as code finds them: what they are, and that they and their differences fit 128 bits.
-use Rattle.std.proofs.Common.{◌≡◌, sym, ◌∙◌, ap, ap₂, subst, ◌^◌, ◌*◌, ℕ, ◌⊎◌, inl, inr, ℤ, pos, negsuc, neg_ℤ, ◌-ℤ◌, ◌*ℤ◌, ◌<ℤ◌, ◌≤ℤ◌, List, [], ◌∷◌, FitsSigned, of_z, arith, w64}
+use Rattle.std.proofs.Common.{◌≡◌, sym, ◌∙◌, ap, ap₂, subst, ◌^◌, ◌*◌, ℕ, ◌+◌, ◌⊎◌, inl, inr, ℤ, pos, negsuc, neg_ℤ, ◌-ℤ◌, ◌*ℤ◌, ◌<ℤ◌, ◌≤ℤ◌, List, [], ◌∷◌, FitsSigned, to_z, of_z, arith, w64}
 use Rattle.std.proofs.lemmas.Int.{ints}
 use mir.Syntax.{w128}
 use Rattle.integers.specs.Size.{Size}
-use Rattle.integers.proofs.Sizes.{size_mul, size_sub, size_fits, size_fits64, size_more, size_neg}
+use Rattle.integers.proofs.Sizes.{size_mul, size_sub, size_fits, size_fits64, size_more, size_neg, wrap_is, wrap_is_in}
 use Rattle.integers.proofs.MachineArithmetic.{Given, given, with_inputs, codes, size_within}
 use Rattle.bounds_model.specs.Space.{SpacePoint, vector, dot, squared_length, origin}
 use Rattle.kernel_laws.specs.Limits.{IsVectorWithin}
@@ -13,6 +13,7 @@ use Rattle.kernel_laws.proofs.Points.{squared_length_positive}
 use Rattle.kernel_laws.proofs.SideLimits.{more_within}
 use Rattle.kernel_laws.proofs.Crosses.{cross_within, volume_within, zero_from, not_zero_from}
 use Rattle.kernel_laws.proofs.Three.{three_items, height_positive, twice_square, positive_from}
+use Rattle.kernel_laws.proofs.ProductSums.{back}
 use Rattle.kernel_laws.proofs.Four.{difference_within, ball_centre, same_sum, same_centre}
 
 abbrev inputs : {u v : SpacePoint} {n : ℕ} → IsVectorWithin n u → IsVectorWithin n v → List Given
@@ -221,3 +222,28 @@ pub opposites : {x : ℤ} → Size 400000 x → Opposites x
 opposites {x} h =
     let opposite : Size 400000 (pos 0 -ℤ x) = size_sub {a = pos 0} {m = 0} (record { abs = omega arith }) h in
     record { narrow = size_fits64 h tt; wide = size_fits h tt; narrow_opposite = size_fits64 opposite tt; wide_opposite = size_fits opposite tt; size = size_more opposite tt }
+
+-- ---- numbers that went to their bits and back
+
+-- from 64 bits to 128
+abbrev pub widened : ℤ → ℤ
+widened x = back (to_z w64 (of_z w64 x))
+
+-- it is the same number
+pub widened_is : {x : ℤ} → Size 800000 x → widened x ≡ x
+widened_is h = ap back (wrap_is_in w64 h tt) ∙ wrap_is h tt
+
+-- the difference of two products, as code finds it
+pub record Minor (r y s z t : ℤ) : Type 0 where
+  pub value : t ≡ r *ℤ y -ℤ s *ℤ z
+  pub size : Size (2 ^ 64) t
+  pub size_back : Size (2 ^ 64) (back t)
+
+pub minor_of : {r y s z t : ℤ} → Size (2 ^ 42) r → Size 800000 y → Size (2 ^ 42) s → Size 800000 z → t ≡ back r *ℤ widened y -ℤ back s *ℤ widened z → Minor r y s z t
+minor_of {r} {y} {s} {z} {t} hr hy hs hz e =
+    let first : back r *ℤ widened y ≡ r *ℤ y = ap₂ (λ m n. m *ℤ n) (wrap_is hr tt) (widened_is hy) in
+    let second : back s *ℤ widened z ≡ s *ℤ z = ap₂ (λ m n. m *ℤ n) (wrap_is hs tt) (widened_is hz) in
+    let value : t ≡ r *ℤ y -ℤ s *ℤ z = e ∙ ap₂ (λ m n. m -ℤ n) first second in
+    let whole : Size (2 ^ 42 * 800000 + 2 ^ 42 * 800000) (r *ℤ y -ℤ s *ℤ z) = size_sub (size_mul hr hy) (size_mul hs hz) in
+    let size : Size (2 ^ 64) t = subst (Size (2 ^ 64)) (sym value) (size_more whole tt) in
+    record { value = value; size = size; size_back = subst (Size (2 ^ 64)) (sym (wrap_is size tt)) size }

@@ -4,7 +4,7 @@ use Rattle.std.proofs.lemmas.Int.{ints}
 use Rattle.integers.proofs.Circles.{turn_rotates, turn_swaps}
 use Rattle.bounds_model.specs.Plane.{PlanePoint, turn}
 use Rattle.kernel_laws.specs.declared.signs.Sign.{Sign}
-use Rattle.kernel_laws.specs.declared.signs.Sign.TheVariants.{Minus, Zero, Plus}
+use Rattle.kernel_laws.specs.declared.signs.Sign.TheVariants.{Minus, Plus}
 use Rattle.kernel_laws.specs.Signs.{sign_of, opposite}
 
 -- ---- what a sign says

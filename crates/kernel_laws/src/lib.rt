@@ -15,8 +15,6 @@ mod lists;
 mod potentials;
 mod signs;
 mod solver;
-#[cfg(test)]
-mod tests;
 mod vectors;
 mod weights;
 

@@ -13,4 +13,4 @@ pub mod Starting
 pub mod CollinearPoints
 pub mod Sorting
 pub mod Middles
-pub mod CommonFactors
+pub mod LowestPairs

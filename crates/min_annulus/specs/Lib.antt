@@ -4,6 +4,5 @@ pub mod Pairs
 pub mod Extremes
 pub mod Triangles
 pub mod Witnesses
-pub mod CommonFactors
 pub mod Lines
 pub mod Laws

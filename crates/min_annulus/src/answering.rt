@@ -5,17 +5,17 @@ ghost use Rattle.bounds_model.specs.Space.{SamePlace, flat_ratio};
 ghost use Rattle.bounded_coords.specs.Clouds.{points_of};
 ghost use Rattle.min_annulus.specs.LinearForms.{IsLinearForm, centre_of};
 ghost use Rattle.min_annulus.specs.Extremes.{AreExtremesOf};
-ghost use Rattle.min_annulus.specs.CommonFactors.{HaveLowestWeights};
+ghost use Rattle.pair_weights.specs.CommonFactors.{HaveLowestWeights};
 ghost use Rattle.answers.specs.Answers.{annulus_of, pair_of};
 ghost use Rattle.min_annulus.specs.Witnesses.{ShowSize};
 
 use crate::extremes::Extremes;
 use crate::linear_forms::LinearForm;
-use crate::weighted_pairs::in_lowest_terms;
 use answers::{AnnulusAnswer, WeightedPair};
 use arrayvec::ArrayVec;
 use bounded_coords::Cloud2;
 use exact_fractions::Frac;
+use pair_weights::in_lowest_terms;
 
 /// The annulus around a form's centre, from its nearest to its farthest point, with pairs that show its size to be least.
 pub(crate) fn annulus_around(

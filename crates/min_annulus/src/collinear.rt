@@ -2,7 +2,7 @@
 ghost use Rattle.bounds_model.specs.AnnulusAnswer.{PassesAnnulus};
 ghost use Rattle.bounded_coords.specs.Clouds.{points_of};
 ghost use Rattle.answers.specs.Answers.{annulus_of};
-ghost use Rattle.min_annulus.specs.CommonFactors.{HaveLowestWeights};
+ghost use Rattle.pair_weights.specs.CommonFactors.{HaveLowestWeights};
 ghost use Rattle.min_annulus.specs.Lines.{AreCollinear, IsMiddle};
 
 use crate::answering::annulus_around;

@@ -22,8 +22,6 @@ mod linear_forms;
 mod pairs;
 mod smallest_annulus;
 mod target_triangle;
-#[cfg(test)]
-mod tests;
 mod weighted_pairs;
 
 pub use smallest_annulus::annulus;

@@ -2,7 +2,7 @@
 ghost use Rattle.bounds_model.specs.AnnulusAnswer.{PassesAnnulus};
 ghost use Rattle.bounded_coords.specs.Clouds.{points_of};
 ghost use Rattle.answers.specs.Answers.{annulus_of};
-ghost use Rattle.min_annulus.specs.CommonFactors.{HaveLowestWeights};
+ghost use Rattle.pair_weights.specs.CommonFactors.{HaveLowestWeights};
 ghost use Rattle.min_annulus.specs.Lines.{HasMiddle};
 ghost use Rattle.min_annulus.specs.Triangles.{IsTriangle};
 
@@ -44,6 +44,7 @@ fn settle(cloud: Cloud2<'_>, start: Triangle) -> AnnulusAnswer
         let form = triangle.form();
         let extremes = Extremes::of(cloud, form);
         let pair = Pair::of(cloud, extremes.far, extremes.near);
+        // The form has one value at the three vertices, so any of them stands for its plane.
         if form.over(pair.difference) <= form.over(triangle.a.difference) {
             return annulus_around(cloud, form, extremes, &triangle.weighted());
         }

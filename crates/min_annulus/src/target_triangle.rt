@@ -32,6 +32,7 @@ impl Triangle {
         ensures { IsTriangle (points_of cloud.entry) result }
     {
         let back = Pair::of(cloud, e.second, e.first);
+        // The target is (t, t²) for a small t, and e goes ahead: so the target is to the right of e exactly where e points up.
         if e.difference.y > 0 {
             return Triangle {
                 a: back,

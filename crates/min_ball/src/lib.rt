@@ -10,8 +10,6 @@ mod ball;
 mod ball_answers;
 mod enclosing;
 mod sums;
-#[cfg(test)]
-mod tests;
 
 pub use ball::Ball;
 pub use enclosing::{circle, sphere};

@@ -62,10 +62,11 @@ pub record IsNamed (points : List PlanePoint) (cone : QuarterCone) : Type 0 wher
   pub over : cone.over < length points
   pub under : cone.under < length points
 
--- its direction is short and long enough, and its points are extreme there
+-- its direction is short, long enough and in lowest terms, and its points are extreme there
 pub record IsCone (points : List PlanePoint) (cone : QuarterCone) : Type 0 where
   pub short : IsShort cone.direction
   pub long : pos 0 <ℤ squared_length cone.direction
+  pub lowest : HaveNoCommonFactor (cone.direction.x ∷ cone.direction.y ∷ [])
   pub named : IsNamed points cone
   pub along : AreExtreme points cone.direction cone.high cone.low
   pub across : AreExtreme points (quarter_turn cone.direction) cone.over cone.under
@@ -77,6 +78,7 @@ is_cone points fan h i l =
     record {
       short = of_direction fan IsShort h.short i l;
       long = lowest_long (cone_at fan i).direction (of_direction fan (λ d. HaveNoCommonFactor (d.x ∷ d.y ∷ [])) h.lowest i l);
+      lowest = of_direction fan (λ d. HaveNoCommonFactor (d.x ∷ d.y ∷ [])) h.lowest i l;
       named = record { high = names.0; low = names.1; over = names.2; under = names.3 };
       along = extreme.0;
       across = extreme.1;

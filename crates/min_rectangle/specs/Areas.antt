@@ -15,6 +15,10 @@ pub record IsArea (points : List PlanePoint) (fan : QuarterFan) (a : Area) : Typ
   pub product_limit : a.product ≤ 2 ^ 77
   pub length_limit : a.length ≤ 320000000000
 
+-- the area of the one is below that of the other
+abbrev pub IsSmaller : Area → Area → Type 0
+IsSmaller a b = a.product * b.length < b.product * a.length
+
 -- the area of the one is not above that of the other
 abbrev pub IsNotLarger : Area → Area → Type 0
 IsNotLarger a b = a.product * b.length ≤ b.product * a.length

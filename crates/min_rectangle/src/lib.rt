@@ -6,7 +6,5 @@
 
 mod smallest;
 mod solvers;
-#[cfg(test)]
-mod tests;
 
 pub use solvers::rectangle;

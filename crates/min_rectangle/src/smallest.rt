@@ -4,7 +4,7 @@ ghost use Rattle.bounds_model.specs.RectangleAnswer.{PassesRectangle};
 ghost use Rattle.bounded_coords.specs.Clouds.{points_of};
 ghost use Rattle.answers.specs.Answers.{quarter_fan_of, rectangle_of};
 ghost use Rattle.min_rectangle.specs.PlainFan.{IsPlainFan};
-ghost use Rattle.min_rectangle.specs.Areas.{IsArea, IsNotLarger};
+ghost use Rattle.min_rectangle.specs.Areas.{IsArea, IsSmaller, IsNotLarger};
 
 use answers::{QuarterFan, RectAnswer};
 use bounded_coords::Cloud2;
@@ -41,13 +41,13 @@ fn area_at(cloud: Cloud2<'_>, fan: &QuarterFan, j: u32) -> Area
     }
 }
 
-/// The smaller one.
+/// The smaller one, the first of two that are equal.
 fn smaller(a: Area, b: Area) -> Area
     requires a_product { a.product ≤ 2 ^ 77 }
     requires a_length { a.length ≤ 320000000000 }
     requires b_product { b.product ≤ 2 ^ 77 }
     requires b_length { b.length ≤ 320000000000 }
-    ensures one { (result ≡ a) ⊎ (result ≡ b) }
+    ensures one { (result ≡ a) ⊎ ((result ≡ b) × IsSmaller b a) }
     ensures not_larger_a { IsNotLarger result a }
     ensures not_larger_b { IsNotLarger result b }
 {
@@ -56,8 +56,8 @@ fn smaller(a: Area, b: Area) -> Area
     if q < p { b } else { a }
 }
 
-/// The rectangle of least area in a direction of the fan, which no rectangle around the points is below. The last direction, up, has
-/// the rectangle of the first, to the right.
+/// The rectangle of least area in a direction of the fan, the first of them where several are least: no rectangle around the points is
+/// below it, and none as small comes before it. The last direction, up, has the rectangle of the first, to the right.
 pub(crate) fn rectangle_of_fan(cloud: Cloud2<'_>, fan: QuarterFan) -> RectAnswer
     requires { IsPlainFan (points_of cloud) (quarter_fan_of fan) }
     ensures { PassesRectangle (points_of cloud.entry) (rectangle_of result) }

@@ -31,7 +31,7 @@ both_before a b h k =
     less_equal x y h k = omega (arith, ints)
 
 -- there is one least point
-same_least : (points : List PlanePoint) (a b : PlanePoint) → IsLeastPoint points a → IsLeastPoint points b → a ≡ b
+pub same_least : (points : List PlanePoint) (a b : PlanePoint) → IsLeastPoint points a → IsLeastPoint points b → a ≡ b
 same_least points a b h k = both_before a b (All-contains (IsBefore a) points b h.least k.listed) (All-contains (IsBefore b) points a k.least h.listed)
 
 -- and one greatest
@@ -41,18 +41,18 @@ same_greatest points a b h k = both_before a b (All-contains (λ p. IsBefore p b
 -- ---- two cycles around the same points
 
 -- each corner is one of the points
-around-listed : (points xs : List PlanePoint) (k : ℕ) → 0 < length xs → All (Contains points) xs → Contains points (around xs k)
+pub around-listed : (points xs : List PlanePoint) (k : ℕ) → 0 < length xs → All (Contains points) xs → Contains points (around xs k)
 around-listed points xs k some h = All-get_or (Contains points) xs (k % length xs) origin (mod-lt k some) h
 
 -- past the end the corners begin anew
-around-end : (xs : List PlanePoint) → around xs (length xs) ≡ around xs 0
+pub around-end : (xs : List PlanePoint) → around xs (length xs) ≡ around xs 0
 around-end xs = ap (point_at xs) (ap (λ n. n % length xs) (no_more (length xs)) ∙ add-mod_left (length xs) 0)
   where
     no_more : (n : ℕ) → n ≡ n + 0
     no_more n = omega arith
 
 -- each corner comes after the one before
-follows_at : (points xs : List PlanePoint) → AreCornerCycle points xs → (k : ℕ) → k < length xs → Follows points (around xs k) (around xs (k + 1)) (around xs (k + 2))
+pub follows_at : (points xs : List PlanePoint) → AreCornerCycle points xs → (k : ℕ) → k < length xs → Follows points (around xs k) (around xs (k + 1)) (around xs (k + 2))
 follows_at points xs r k l = record {
   listed = around-listed points xs (k + 1) (omega arith) r.listed;
   left = r.inside k l;

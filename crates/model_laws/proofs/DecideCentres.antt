@@ -5,7 +5,7 @@ use Rattle.bounds_model.specs.Plane.{PlanePoint, PlaneRatio, point_at}
 use Rattle.bounds_model.specs.Fractions.{Fraction}
 use Rattle.bounds_model.specs.Centres.{IsNear, Cover, FitsCentres}
 use Rattle.bounds_model.specs.Ranges.{point_limit}
-use Rattle.bounds_model.specs.CentresAnswer.{Leaf, CentresAnswer, CentresRanges, IsCentreWithinLimits, digits, outside, corner_square, IsLeftOver, AreFar, IsLeaf, AreLeaves, PassesCentres, cover_of}
+use Rattle.bounds_model.specs.CentresAnswer.{Leaf, CentresAnswer, CentresRanges, IsCentreWithinLimits, digits, outside, corner_square, IsLeftOver, AreFar, IsLeafBelow, IsLeaf, AreLeaves, PassesCentres, cover_of}
 use Rattle.bounds_model.specs.CentresAnswer
 use Rattle.model_laws.proofs.Decisions.{Decision, like, both, either, all, any, all_numbered, contains, is_nil, most_ℕ, less_ℕ, equal_ℕ, equal_ℤ, most_ℤ}
 use Rattle.model_laws.proofs.DecideParts.{same_point, within, counted, not_negative, fraction_in_range, plane_ratio_in_range}
@@ -24,12 +24,15 @@ abbrev pub left_over : (side : ℕ) (corners : List ℕ) (points : List PlanePoi
 left_over side [] points p = contains same_point points p
 left_over side (corner ∷ rest) points p = left_over side rest (outside (corner_square side corner points) points) p
 
-abbrev pub leaf_contains : (side count : ℕ) (points : List PlanePoint) (number : ℕ) (leaf : Leaf) → Decision (IsLeaf side count points number leaf)
-leaf_contains side count points number leaf =
+abbrev pub leaf_below : (side count : ℕ) (points rest : List PlanePoint) (number : ℕ) (leaf : Leaf) → Decision (IsLeafBelow side count points rest number leaf)
+leaf_below side count points rest number leaf =
     let p = point_at points leaf.first in
     let q = point_at points leaf.second in
-    like (both (left_over side (digits (count - 1) number) points p) (both (left_over side (digits (count - 1) number) points q) (either (less_ℕ side (nat_abs (q.x -ℤ p.x))) (less_ℕ side (nat_abs (q.y -ℤ p.y))))))
+    like (both (left_over side (digits count number) rest p) (both (left_over side (digits count number) rest q) (either (less_ℕ side (nat_abs (q.x -ℤ p.x))) (less_ℕ side (nat_abs (q.y -ℤ p.y))))))
     (λ h. record { first = h.0; second = h.1.0; far = h.1.1 }) (λ h. (h.first, (h.second, h.far)))
+
+abbrev pub leaf_contains : (side count : ℕ) (points : List PlanePoint) (number : ℕ) (leaf : Leaf) → Decision (IsLeaf side count points number leaf)
+leaf_contains side count points number leaf = leaf_below side (count - 1) points points number leaf
 
 abbrev pub leaves_contain : (side count : ℕ) (points : List PlanePoint) (leaves : List Leaf) → Decision (AreLeaves side count points leaves)
 leaves_contain zero count points leaves = is_nil leaves

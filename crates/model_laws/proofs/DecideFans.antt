@@ -1,19 +1,20 @@
 -- Tests of the conditions on fans, strips, rectangles and parallelograms. Each decides the definition of the like name.
-use Rattle.std.proofs.Common.{ℕ, ◌-◌, ◌+◌, pos, ◌+ℤ◌, List, length}
+use Rattle.std.proofs.Common.{ℕ, ◌-◌, ◌+◌, ◌<◌, pos, ◌+ℤ◌, List, [], ◌∷◌, length}
 use Rattle.std.specs.Prelude.{slice_get}
 use Rattle.bounds_model.specs.Plane.{PlanePoint, point_at, cross, dot, origin, quarter_turn}
-use Rattle.bounds_model.specs.Strip.{Span, strip_size}
+use Rattle.bounds_model.specs.Strip.{Span, AreTight, strip_size}
 use Rattle.bounds_model.specs.Rectangle.{rectangle_size}
 use Rattle.bounds_model.specs.Parallelogram.{parallelogram_size}
 use Rattle.bounds_model.specs.Ranges.{point_limit, fan_limit, number_limit}
-use Rattle.bounds_model.specs.Fans.{HalfFan, HalfCone, QuarterFan, half_directions, quarter_directions, AreExtreme, IsHalfExtreme, IsQuarterExtreme, TurnLeft, AtBothEnds, NamesPoints, NamesAllPoints, HoldsHalf, HoldsQuarter, IsShort, HalfRanges, QuarterRanges, east, west, north, direction_limit, span_limit}
-use Rattle.bounds_model.specs.StripAnswer.{StripAnswer, StripRanges, IsShortSpan, IsNotThinner, PassesStrip, strip_of}
+use Rattle.bounds_model.specs.Fans.{HalfFan, HalfCone, QuarterFan, half_directions, quarter_directions, AreExtreme, IsHalfExtreme, IsQuarterExtreme, TurnLeft, AtBothEnds, NamesPoints, NamesAllPoints, HoldsHalf, HoldsQuarter, IsReduced, IsFirstAt, IsFirst, IsShort, HalfRanges, QuarterRanges, east, west, north, direction_limit, span_limit}
+use Rattle.bounds_model.specs.StripAnswer.{StripAnswer, StripRanges, IsShortSpan, IsNotThinner, IsThicker, PassesStrip, strip_of}
 use Rattle.bounds_model.specs.RectangleAnswer.{RectangleAnswer, RectangleRanges, PassesRectangle, rectangle_of}
 use Rattle.bounds_model.specs.RectangleAnswer
 use Rattle.bounds_model.specs.ParallelogramAnswer.{Chord, chord_limit, ParallelogramAnswer, ParallelogramRanges, ChordRanges, IsShortChord, NamesEnds, IsAcross, IsNotSmallerAt, PassesParallelogram, parallelogram_of}
 use Rattle.bounds_model.specs.ParallelogramAnswer
-use Rattle.model_laws.proofs.Decisions.{Decision, like, both, together, three, four, negated, all, all_numbered, each_below, some_and, most_ℕ, less_ℕ, equal_ℕ, equal_ℤ, most_ℤ, less_ℤ}
+use Rattle.model_laws.proofs.Decisions.{Decision, like, both, together, three, four, negated, implies, all, any, all_numbered, each_below, some_below, some_and, most_ℕ, less_ℕ, equal_ℕ, equal_ℤ, most_ℤ, less_ℤ}
 use Rattle.model_laws.proofs.DecideParts.{same_point, within, counted, natural, same_value, in_span, direction_in_range, span_in_range, fraction_in_range}
+use Rattle.model_laws.proofs.CommonFactors.{no_common_factor}
 
 abbrev pub extreme : (points : List PlanePoint) (d : PlanePoint) (high low : ℕ) → Decision (AreExtreme points d high low)
 extreme points d high low =
@@ -46,6 +47,24 @@ holds_quarter points fan =
     like (both (names_all_points points fan) (both (turn_left east north (quarter_directions fan)) (at_both_ends {P = IsQuarterExtreme points} (quarter_directions fan) (λ d cone. both (extreme points d cone.high cone.low) (extreme points (quarter_turn d) cone.over cone.under)) fan.cones)))
     (λ h. record { numbers = h.0; directions = h.1.0; extremes = h.1.1 }) (λ h. (h.numbers, (h.directions, h.extremes)))
 
+abbrev pub reduced : (v u : PlanePoint) → Decision (IsReduced v u)
+reduced v u =
+    like (both (equal_ℤ (cross v u) (pos 0)) (both (less_ℤ (pos 0) (dot v u)) (no_common_factor (u.x ∷ u.y ∷ []))))
+    (λ h. record { parallel = h.0; ahead = h.1.0; lowest = h.1.1 }) (λ h. (h.parallel, (h.ahead, h.lowest)))
+
+abbrev pub first_at : {Cone : Type 0} {P : PlanePoint → Cone → Type 0} (ds : List PlanePoint) → ((d : PlanePoint) (cone : Cone) → Decision (P d cone)) → (cones : List Cone) (u : PlanePoint) (i : ℕ) → Decision (IsFirstAt ds P cones u i)
+first_at {P = P} ds each cones u i =
+    like (both (reduced (point_at ds i) u) (all_numbered {P = λ j cone. j < i → P (point_at ds j) cone} (λ j cone. implies (less_ℕ j i) (each (point_at ds j) cone)) cones))
+    (λ h. record { reduced = h.0; before = h.1 }) (λ h. (h.reduced, h.before))
+
+abbrev pub first : {Cone : Type 0} {P : PlanePoint → Cone → Type 0} (ds : List PlanePoint) → ((d : PlanePoint) (cone : Cone) → Decision (P d cone)) → (cones : List Cone) (u : PlanePoint) → Decision (IsFirst ds P cones u)
+first {P = P} ds each cones u = some_below {P = λ i. IsFirstAt ds P cones u i} (λ i. first_at {P = P} ds each cones u i) (length cones)
+
+abbrev pub tight : (points : List PlanePoint) (u : PlanePoint) (span : Span) → Decision (AreTight points u span)
+tight points u span =
+    like (both (all (λ p. in_span span (dot u p)) points) (both (any (λ p. equal_ℤ (dot u p) span.low) points) (any (λ p. equal_ℤ (dot u p) span.high) points)))
+    (λ h. record { inside = h.0; low = h.1.0; high = h.1.1 }) (λ h. (h.inside, (h.low, h.high)))
+
 abbrev pub short : (d : PlanePoint) → Decision (IsShort d)
 short d = like (both (within direction_limit d.x) (within direction_limit d.y)) (λ h. record { x = h.0; y = h.1 }) (λ h. (h.x, h.y))
 
@@ -77,10 +96,11 @@ strip_passes points a =
     (both (negated (same_point a.direction origin))
     (both (holds_half points a.fan)
     (both (at_both_ends {P = IsNotThinner points a.size} (half_directions a.fan) (λ d cone. most_ℤ _ _) a.fan.cones)
-    (both (all (λ p. in_span a.bounds (dot a.direction p)) points)
-    (same_value a.size (strip_size (strip_of a)))))))))))
-    (λ h. record { ranges = h.0; short_directions = h.1.0; short_direction = h.1.1.0; short_bounds = h.1.1.1.0; normal = h.1.1.1.1.0; fan = h.1.1.1.1.1.0; not_thinner = h.1.1.1.1.1.1.0; inside = h.1.1.1.1.1.1.1.0; size = h.1.1.1.1.1.1.1.1 })
-    (λ h. (h.ranges, (h.short_directions, (h.short_direction, (h.short_bounds, (h.normal, (h.fan, (h.not_thinner, (h.inside, h.size)))))))))
+    (both (first {P = IsThicker points a.size} (half_directions a.fan) (λ d cone. less_ℤ _ _) a.fan.cones a.direction)
+    (both (tight points a.direction a.bounds)
+    (same_value a.size (strip_size (strip_of a))))))))))))
+    (λ h. record { ranges = h.0; short_directions = h.1.0; short_direction = h.1.1.0; short_bounds = h.1.1.1.0; normal = h.1.1.1.1.0; fan = h.1.1.1.1.1.0; not_thinner = h.1.1.1.1.1.1.0; first = h.1.1.1.1.1.1.1.0; tight = h.1.1.1.1.1.1.1.1.0; size = h.1.1.1.1.1.1.1.1.1 })
+    (λ h. (h.ranges, (h.short_directions, (h.short_direction, (h.short_bounds, (h.normal, (h.fan, (h.not_thinner, (h.first, (h.tight, h.size))))))))))
 
 abbrev pub rectangle_ranges : (a : RectangleAnswer) → Decision (RectangleRanges a)
 rectangle_ranges a =
@@ -98,11 +118,12 @@ rectangle_passes points a =
     (both (negated (same_point a.direction origin))
     (both (holds_quarter points a.fan)
     (both (at_both_ends {P = RectangleAnswer.IsNotSmaller points a.size} (quarter_directions a.fan) (λ d cone. most_ℤ _ _) a.fan.cones)
-    (both (all (λ p. in_span a.along (dot a.direction p)) points)
-    (both (all (λ p. in_span a.across (dot (quarter_turn a.direction) p)) points)
-    (same_value a.size (rectangle_size (rectangle_of a)))))))))))))
-    (λ h. record { ranges = h.0; short_directions = h.1.0; short_direction = h.1.1.0; short_along = h.1.1.1.0; short_across = h.1.1.1.1.0; normal = h.1.1.1.1.1.0; fan = h.1.1.1.1.1.1.0; not_smaller = h.1.1.1.1.1.1.1.0; inside_along = h.1.1.1.1.1.1.1.1.0; inside_across = h.1.1.1.1.1.1.1.1.1.0; size = h.1.1.1.1.1.1.1.1.1.1 })
-    (λ h. (h.ranges, (h.short_directions, (h.short_direction, (h.short_along, (h.short_across, (h.normal, (h.fan, (h.not_smaller, (h.inside_along, (h.inside_across, h.size)))))))))))
+    (both (first {P = RectangleAnswer.IsLarger points a.size} (quarter_directions a.fan) (λ d cone. less_ℤ _ _) a.fan.cones a.direction)
+    (both (tight points a.direction a.along)
+    (both (tight points (quarter_turn a.direction) a.across)
+    (same_value a.size (rectangle_size (rectangle_of a))))))))))))))
+    (λ h. record { ranges = h.0; short_directions = h.1.0; short_direction = h.1.1.0; short_along = h.1.1.1.0; short_across = h.1.1.1.1.0; normal = h.1.1.1.1.1.0; fan = h.1.1.1.1.1.1.0; not_smaller = h.1.1.1.1.1.1.1.0; first = h.1.1.1.1.1.1.1.1.0; tight_along = h.1.1.1.1.1.1.1.1.1.0; tight_across = h.1.1.1.1.1.1.1.1.1.1.0; size = h.1.1.1.1.1.1.1.1.1.1.1 })
+    (λ h. (h.ranges, (h.short_directions, (h.short_direction, (h.short_along, (h.short_across, (h.normal, (h.fan, (h.not_smaller, (h.first, (h.tight_along, (h.tight_across, h.size))))))))))))
 
 abbrev pub chord_ranges : (chord : Chord) → Decision (ChordRanges chord)
 chord_ranges chord =

@@ -1,5 +1,5 @@
 -- Tests of the conditions on hulls and polygons. Each decides the definition of the like name.
-use Rattle.std.proofs.Common.{◌≢◌, ℕ, ◌+◌, ◌-◌, ◌*◌, ◌<◌, min, pos, ◌*ℤ◌, List, [], ◌∷◌, length, arith}
+use Rattle.std.proofs.Common.{◌≡◌, ◌≢◌, refl, ℕ, zero, suc, ◌+◌, ◌-◌, ◌*◌, ◌<◌, min, ℤ, pos, ◌*ℤ◌, List, [], ◌∷◌, length, arith}
 use Rattle.std.specs.Prelude.{Contains, slice_index}
 use Rattle.std.specs.List.Sorted.{IsStrictlyIncreasing}
 use Rattle.bounds_model.specs.Numbers.{EachBelow}
@@ -7,9 +7,9 @@ use Rattle.bounds_model.specs.Plane.{PlanePoint, vector, cross, turn, IsBefore, 
 use Rattle.bounds_model.specs.Hull.{around, AreCornerCycle, AreEnds, IsOnlyPoint, AreCorners}
 use Rattle.bounds_model.specs.CornerTest.{GoAround, LeadToGreatest, SurroundAll, FirstIsOnce, CornersPass}
 use Rattle.bounds_model.specs.Kgon.{FitsKgon, kgon_size}
-use Rattle.bounds_model.specs.KgonAnswer.{KgonAnswer, KgonRanges, corner_points, pairs_before, Grows, PassesKgon}
+use Rattle.bounds_model.specs.KgonAnswer.{KgonAnswer, KgonRanges, corner_points, pairs_before, potential, Grows, chosen_at, IsBelowSize, StaysBelow, most_with, NoneBetween, PassesKgon}
 use Rattle.bounds_model.specs.Ranges.{point_limit}
-use Rattle.model_laws.proofs.Decisions.{Decision, like, both, either, negated, impossible, all, all_pairs, contains, each_below, most_ℕ, less_ℕ, equal_ℕ, equal_ℤ, most_ℤ, less_ℤ}
+use Rattle.model_laws.proofs.Decisions.{Decision, like, both, either, negated, impossible, sure, implies, all, all_pairs, contains, each_below, most_ℕ, less_ℕ, equal_ℕ, equal_ℤ, most_ℤ, less_ℤ}
 use Rattle.model_laws.proofs.DecideParts.{same_point, counted, natural, same_value, fraction_in_range}
 
 abbrev pub before : (a b : PlanePoint) → Decision (IsBefore a b)
@@ -96,6 +96,35 @@ kgon_ranges a =
     (λ h. record { size = h.0; corner_count = h.1.0; corners = h.1.1.0; chosen_count = h.1.1.1.0; chosen = h.1.1.1.1.0; layers = h.1.1.1.1.1.0; potential_count = h.1.1.1.1.1.1.0; potentials = h.1.1.1.1.1.1.1 })
     (λ h. (h.size, (h.corner_count, (h.corners, (h.chosen_count, (h.chosen, (h.layers, (h.potential_count, h.potentials))))))))
 
+abbrev pub below_size : (a : KgonAnswer) (u : ℤ) → Decision (IsBelowSize a u)
+below_size a u = less_ℤ (u *ℤ a.size.d) (pos 2 *ℤ a.size.n)
+
+abbrev pub stays_below : (a : KgonAnswer) (i : ℕ) → Decision (StaysBelow a i)
+stays_below a i =
+    each_below {P = λ last. i < last → EachBelow a.layers (λ layer. IsBelowSize a (potential a i (layer + 1) last))}
+    (λ last. implies (less_ℕ i last) (each_below {P = λ layer. IsBelowSize a (potential a i (layer + 1) last)} (λ layer. below_size a _) a.layers)) (length a.corners)
+
+abbrev pub none_between : (corners : List PlanePoint) (a : KgonAnswer) (place : ℕ) → Decision (NoneBetween corners a place)
+none_between corners a place =
+    each_below {P = λ other. chosen_at a place < other → IsBelowSize a (most_with corners a (place + 1) other)}
+    (λ other. implies (less_ℕ (chosen_at a place) other) (below_size a _)) (chosen_at a (place + 1))
+
+-- an empty list, another position or a longer list is not the first position alone
+pub not_none : (chosen : List ℕ) → chosen ≡ [] → chosen ≡ 0 ∷ [] → ⊥
+not_none chosen e f = cc
+
+pub not_later : (i : ℕ) → suc i ∷ [] ≡ 0 ∷ [] → ⊥
+not_later i e = cc
+
+pub not_longer : (i j : ℕ) (rest : List ℕ) → i ∷ j ∷ rest ≡ 0 ∷ [] → ⊥
+not_longer i j rest e = cc
+
+abbrev pub first_alone : (chosen : List ℕ) → Decision (chosen ≡ 0 ∷ [])
+first_alone [] = impossible (not_none [] refl)
+first_alone (zero ∷ []) = sure refl
+first_alone (suc i ∷ []) = impossible (not_later i)
+first_alone (i ∷ j ∷ rest) = impossible (not_longer i j rest)
+
 abbrev pub kgon_passes : (k : ℕ) (points : List PlanePoint) (a : KgonAnswer) → Decision (PassesKgon k points a)
 kgon_passes k points a =
     like
@@ -111,6 +140,9 @@ kgon_passes k points a =
     (λ b. each_below {P = λ a'. EachBelow a.layers (λ layer. Grows (corner_points points a) a layer a' b c)}
     (λ a'. each_below {P = λ layer. Grows (corner_points points a) a layer a' b c}
     (λ layer. most_ℤ _ _) a.layers) b) c) (length a.corners))
-    (all (λ u. most_ℤ (u *ℤ a.size.d) (pos 2 *ℤ a.size.n)) a.potentials))))))))
-    (λ h. record { ranges = h.0; numbers = h.1.0; corners = h.1.1.0; chosen = h.1.1.1.0; size = h.1.1.1.1.0; layers = h.1.1.1.1.1.0; grows = h.1.1.1.1.1.1.0; under_size = h.1.1.1.1.1.1.1 })
-    (λ h. (h.ranges, (h.numbers, (h.corners, (h.chosen, (h.size, (h.layers, (h.grows, h.under_size))))))))
+    (both (all (λ u. most_ℤ (u *ℤ a.size.d) (pos 2 *ℤ a.size.n)) a.potentials)
+    (both (each_below {P = StaysBelow a} (stays_below a) (chosen_at a 0))
+    (both (implies (less_ℕ (length a.corners) 3) (first_alone a.chosen))
+    (each_below {P = NoneBetween (corner_points points a) a} (none_between (corner_points points a) a) (length a.chosen - 1))))))))))))
+    (λ h. record { ranges = h.0; numbers = h.1.0; corners = h.1.1.0; chosen = h.1.1.1.0; size = h.1.1.1.1.0; layers = h.1.1.1.1.1.0; grows = h.1.1.1.1.1.1.0; under_size = h.1.1.1.1.1.1.1.0; earlier_below = h.1.1.1.1.1.1.1.1.0; few = h.1.1.1.1.1.1.1.1.1.0; none_between = h.1.1.1.1.1.1.1.1.1.1 })
+    (λ h. (h.ranges, (h.numbers, (h.corners, (h.chosen, (h.size, (h.layers, (h.grows, (h.under_size, (h.earlier_below, (h.few, h.none_between)))))))))))

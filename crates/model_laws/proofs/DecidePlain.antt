@@ -1,45 +1,14 @@
 -- Tests of the conditions on plain fans. Each decides the definition of the like name.
-use Rattle.std.proofs.Common.{◌≡◌, ◌≢◌, ℕ, zero, suc, ◌+◌, ◌<◌, pos, ◌<ℤ◌, subst, List, [], ◌∷◌, length, arith}
-use mathlib.Core.Logic.{inl, inr}
+use Rattle.std.proofs.Common.{◌≡◌, ◌≢◌, ℕ, ◌+◌, ◌<◌, pos, ◌<ℤ◌, List, [], ◌∷◌, length, arith}
 use Rattle.std.specs.Prelude.{◌⊎◌, Any, SomeIndex}
 use Rattle.bounds_model.specs.Plane.{PlanePoint, origin, point_at, dot, cross}
 use Rattle.bounds_model.specs.Fractions.{HaveNoCommonFactor}
 use Rattle.bounds_model.specs.Fans.{east, north, west}
 use Rattle.bounds_model.specs.PlainFans.{edge, IsNormal, IsNormalOrParallel, EachInner, IsPlainHalf, IsPlainQuarter}
-use Rattle.model_laws.proofs.Decisions.{Decision, like, both, either, negated, implies, impossible, all, any, contains, each_below, less_ℕ, equal_ℤ, less_ℤ}
+use Rattle.model_laws.proofs.Decisions.{Decision, like, both, either, negated, implies, all, any, contains, each_below, some_below, less_ℕ, equal_ℤ, less_ℤ}
 use Rattle.model_laws.proofs.DecideParts.{same_point}
 use Rattle.model_laws.proofs.DecideFans.{turn_left}
 use Rattle.model_laws.proofs.CommonFactors.{no_common_factor}
-
--- P holds of some number below a bound
-abbrev pub SomeBelow : ℕ → (ℕ → Type 0) → Type 0
-SomeBelow bound P = (i : ℕ) × (i < bound) × P i
-
--- no number is below 0
-pub some-nil : (P : ℕ → Type 0) → ¬ SomeBelow 0 P
-some-nil P h = let l : h.0 < 0 = h.1 in absurd (omega arith)
-
--- one more number below the bound
-pub some-more : (P : ℕ → Type 0) (n : ℕ) → P n ⊎ SomeBelow n P → SomeBelow (suc n) P
-some-more P n s = elim s [ inl p ↦ (n, here n, p) | inr h ↦ (h.0, further h.0 n h.1, h.2) ]
-  where
-    here : (n : ℕ) → n < suc n
-    here n = omega arith
-
-    further : (i n : ℕ) → i < n → i < suc n
-    further i n l = omega arith
-
--- the last number below the bound, or one before
-pub some-last : (P : ℕ → Type 0) (n : ℕ) → SomeBelow (suc n) P → P n ⊎ SomeBelow n P
-some-last P n h = elim (split h.0 n h.1) [ inl l ↦ inr (h.0, l, h.2) | inr e ↦ inl (subst P e h.2) ]
-  where
-    split : (i n : ℕ) → i < suc n → (i < n) ⊎ (i ≡ n)
-    split i n l = grind arith
-
--- a test for some number below a bound
-abbrev pub some_below : {P : ℕ → Type 0} → ((i : ℕ) → Decision (P i)) → (n : ℕ) → Decision (SomeBelow n P)
-some_below {P} each zero = impossible (some-nil P)
-some_below {P} each (suc n) = like (either (each n) (some_below {P = P} each n)) (some-more P n) (some-last P n)
 
 -- the inner directions are among all numbers below the length
 pub inner_to : (ds : List PlanePoint) (P : PlanePoint → Type 0) → ((i : ℕ) → i < length ds → 0 < i → i + 1 < length ds → P (point_at ds i)) → EachInner ds P

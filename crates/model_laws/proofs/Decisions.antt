@@ -161,6 +161,36 @@ below-cons P n p ps k h = pick (by_less k n (omega arith))
     pick : (k < n) ⊎ (k ≡ n) → P k
     pick s = elim s [ inl l ↦ ps k l | inr e ↦ subst P (sym e) p ]
 
+-- P holds of some number below a bound
+abbrev pub SomeBelow : ℕ → (ℕ → Type 0) → Type 0
+SomeBelow bound P = (i : ℕ) × (i < bound) × P i
+
+-- no number is below 0
+pub some-nil : (P : ℕ → Type 0) → ¬ SomeBelow 0 P
+some-nil P h = let l : h.0 < 0 = h.1 in absurd (omega arith)
+
+-- one more number below the bound
+pub some-more : (P : ℕ → Type 0) (n : ℕ) → P n ⊎ SomeBelow n P → SomeBelow (suc n) P
+some-more P n s = elim s [ inl p ↦ (n, here n, p) | inr h ↦ (h.0, further h.0 n h.1, h.2) ]
+  where
+    here : (n : ℕ) → n < suc n
+    here n = omega arith
+
+    further : (i n : ℕ) → i < n → i < suc n
+    further i n l = omega arith
+
+-- the last number below the bound, or one before
+pub some-last : (P : ℕ → Type 0) (n : ℕ) → SomeBelow (suc n) P → P n ⊎ SomeBelow n P
+some-last P n h = elim (split h.0 n h.1) [ inl l ↦ inr (h.0, l, h.2) | inr e ↦ inl (subst P e h.2) ]
+  where
+    split : (i n : ℕ) → i < suc n → (i < n) ⊎ (i ≡ n)
+    split i n l = grind arith
+
+-- a test for some number below a bound
+abbrev pub some_below : {P : ℕ → Type 0} → ((i : ℕ) → Decision (P i)) → (n : ℕ) → Decision (SomeBelow n P)
+some_below {P} each zero = impossible (some-nil P)
+some_below {P} each (suc n) = like (either (each n) (some_below {P = P} each n)) (some-more P n) (some-last P n)
+
 -- a test for each number below a bound
 abbrev pub each_below : {P : ℕ → Type 0} → ((k : ℕ) → Decision (P k)) → (n : ℕ) → Decision (EachBelow n P)
 each_below each zero = sure (λ k h. absurd (no_less k h))

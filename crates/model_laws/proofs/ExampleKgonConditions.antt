@@ -1,8 +1,8 @@
--- Polygons that fail in one of the conditions of a checker alone.
+-- Polygons that pass, and polygons that fail in conditions of a checker, most of them in one alone.
 use Rattle.std.proofs.Common.{refl, ℕ, zero, suc, ◌+◌, ◌^◌, pos, List, [], ◌∷◌, map}
 use Rattle.bounds_model.specs.Plane.{PlanePoint}
 use Rattle.bounds_model.specs.KgonAnswer.{KgonAnswer, KgonRanges, PassesKgon}
-use Rattle.model_laws.proofs.Decisions.{by_test, by_one_failure}
+use Rattle.model_laws.proofs.Decisions.{by_test, by_failed_test, by_one_failure}
 use Rattle.model_laws.proofs.DecideKgon.{kgon_ranges, kgon_passes}
 use Rattle.model_laws.proofs.Literals.{minus, at, fraction}
 
@@ -48,10 +48,10 @@ too_many : ¬ PassesKgon 3 square (record half { size = fraction 4 1; chosen = 0
 too_many = by_one_failure (kgon_passes 3 square (record half { size = fraction 4 1; chosen = 0 ∷ 1 ∷ 2 ∷ 3 ∷ [] })) refl refl
 
 falling : ¬ PassesKgon 3 square (record half { chosen = 1 ∷ 2 ∷ 0 ∷ [] })
-falling = by_one_failure (kgon_passes 3 square (record half { chosen = 1 ∷ 2 ∷ 0 ∷ [] })) refl refl
+falling = by_failed_test (kgon_passes 3 square (record half { chosen = 1 ∷ 2 ∷ 0 ∷ [] })) refl
 
 no_position : ¬ PassesKgon 3 square (record half { chosen = 1 ∷ 2 ∷ 9 ∷ [] })
-no_position = by_one_failure (kgon_passes 3 square (record half { chosen = 1 ∷ 2 ∷ 9 ∷ [] })) refl refl
+no_position = by_failed_test (kgon_passes 3 square (record half { chosen = 1 ∷ 2 ∷ 9 ∷ [] })) refl
 
 -- without layers nothing would have to grow
 no_layers : ¬ PassesKgon 3 square (record (with_potentials []) { layers = 0 })
@@ -62,6 +62,16 @@ too_small = by_one_failure (kgon_passes 3 square (with_potentials (0 ∷ 4 ∷ 3
 
 too_large : ¬ PassesKgon 3 square (with_potentials (0 ∷ 4 ∷ 5 ∷ 0 ∷ 4 ∷ 0 ∷ []))
 too_large = by_one_failure (kgon_passes 3 square (with_potentials (0 ∷ 4 ∷ 5 ∷ 0 ∷ 4 ∷ 0 ∷ []))) refl refl
+
+-- the other triangles of the same area come later
+without_third : ¬ PassesKgon 3 square (record half { chosen = 0 ∷ 1 ∷ 3 ∷ [] })
+without_third = by_one_failure (kgon_passes 3 square (record half { chosen = 0 ∷ 1 ∷ 3 ∷ [] })) refl refl
+
+without_second : ¬ PassesKgon 3 square (record half { chosen = 0 ∷ 2 ∷ 3 ∷ [] })
+without_second = by_one_failure (kgon_passes 3 square (record half { chosen = 0 ∷ 2 ∷ 3 ∷ [] })) refl refl
+
+without_first : ¬ PassesKgon 3 square (record half { chosen = 1 ∷ 2 ∷ 3 ∷ [] })
+without_first = by_one_failure (kgon_passes 3 square (record half { chosen = 1 ∷ 2 ∷ 3 ∷ [] })) refl refl
 
 -- ---- two layers: each potential is in its range
 
@@ -93,6 +103,20 @@ one_corner = by_test (kgon_passes 3 (at 5 5 ∷ []) (flat_kgon (0 ∷ []) (0 ∷
 
 corner_twice : ¬ PassesKgon 3 (at 5 5 ∷ []) (flat_kgon (0 ∷ 0 ∷ []) (0 ∷ []))
 corner_twice = by_one_failure (kgon_passes 3 (at 5 5 ∷ []) (flat_kgon (0 ∷ 0 ∷ []) (0 ∷ []))) refl refl
+
+-- ---- two points: one corner alone is chosen, and it is the first
+
+abbrev on_line : List PlanePoint
+on_line = at 0 0 ∷ at 1 0 ∷ []
+
+first_of_two : PassesKgon 3 on_line (flat_kgon (0 ∷ 1 ∷ []) (0 ∷ []))
+first_of_two = by_test (kgon_passes 3 on_line (flat_kgon (0 ∷ 1 ∷ []) (0 ∷ []))) refl
+
+second_of_two : ¬ PassesKgon 3 on_line (flat_kgon (0 ∷ 1 ∷ []) (1 ∷ []))
+second_of_two = by_one_failure (kgon_passes 3 on_line (flat_kgon (0 ∷ 1 ∷ []) (1 ∷ []))) refl refl
+
+two_of_two : ¬ PassesKgon 3 on_line (flat_kgon (0 ∷ 1 ∷ []) (0 ∷ 1 ∷ []))
+two_of_two = by_one_failure (kgon_passes 3 on_line (flat_kgon (0 ∷ 1 ∷ []) (0 ∷ 1 ∷ []))) refl refl
 
 -- ---- ranges
 

@@ -1,11 +1,11 @@
--- Rectangles that fail in one of the conditions of a checker alone.
+-- Rectangles that pass, and rectangles that fail in conditions of a checker, most of them in one alone.
 use Rattle.std.proofs.Common.{refl, ℕ, ◌+◌, ◌^◌, pos, List, [], ◌∷◌}
 use Rattle.bounds_model.specs.Plane.{PlanePoint}
 use Rattle.bounds_model.specs.Fractions.{Fraction}
 use Rattle.bounds_model.specs.Strip.{Span}
 use Rattle.bounds_model.specs.Fans.{QuarterCone}
 use Rattle.bounds_model.specs.RectangleAnswer.{RectangleAnswer, PassesRectangle}
-use Rattle.model_laws.proofs.Decisions.{by_test, by_one_failure}
+use Rattle.model_laws.proofs.Decisions.{by_test, by_failed_test, by_one_failure}
 use Rattle.model_laws.proofs.DecideFans.{rectangle_passes}
 use Rattle.model_laws.proofs.ExampleRectangles.{diamond}
 use Rattle.model_laws.proofs.Literals.{minus, at, left_at, fraction, span, quarter_cone}
@@ -49,17 +49,17 @@ other_size = by_one_failure (rectangle_passes diamond (slanted (fraction 1 1) (s
 
 -- bounds that leave a point out, and a rectangle that is not the smallest
 too_short : ¬ PassesRectangle diamond (slanted (fraction 1 1) (span (pos 1) (pos 2)) (span (minus 1) (pos 1)) whole)
-too_short = by_one_failure (rectangle_passes diamond (slanted (fraction 1 1) (span (pos 1) (pos 2)) (span (minus 1) (pos 1)) whole)) refl refl
+too_short = by_failed_test (rectangle_passes diamond (slanted (fraction 1 1) (span (pos 1) (pos 2)) (span (minus 1) (pos 1)) whole)) refl
 
 too_narrow : ¬ PassesRectangle diamond (slanted (fraction 1 1) (span (pos 1) (pos 3)) (span (pos 0) (pos 1)) whole)
-too_narrow = by_one_failure (rectangle_passes diamond (slanted (fraction 1 1) (span (pos 1) (pos 3)) (span (pos 0) (pos 1)) whole)) refl refl
+too_narrow = by_failed_test (rectangle_passes diamond (slanted (fraction 1 1) (span (pos 1) (pos 3)) (span (pos 0) (pos 1)) whole)) refl
 
 axis_parallel : ¬ PassesRectangle diamond (rectangle (fraction 4 1) (at 1 0) (span (pos 0) (pos 2)) (span (pos 0) (pos 2)) whole)
 axis_parallel = by_one_failure (rectangle_passes diamond (rectangle (fraction 4 1) (at 1 0) (span (pos 0) (pos 2)) (span (pos 0) (pos 2)) whole)) refl refl
 
 no_direction : ¬ PassesRectangle diamond (rectangle (fraction 0 1) (at 0 0) (span (pos 0) (pos 0)) (span (pos 0) (pos 0)) whole)
 no_direction =
-    by_one_failure (rectangle_passes diamond (rectangle (fraction 0 1) (at 0 0) (span (pos 0) (pos 0)) (span (pos 0) (pos 0)) whole)) refl refl
+    by_failed_test (rectangle_passes diamond (rectangle (fraction 0 1) (at 0 0) (span (pos 0) (pos 0)) (span (pos 0) (pos 0)) whole)) refl
 
 -- a fan that begins late, stands still, or ends early
 begun_late : ¬ PassesRectangle diamond (with_cones (second_cone ∷ []))
@@ -70,7 +70,7 @@ standing = by_one_failure (rectangle_passes diamond (with_cones (first_cone ∷ 
 
 ended_early : ¬ PassesRectangle diamond (record (with_cones whole) { fan = record { cones = first_cone ∷ []; last = at 1 1 } })
 ended_early =
-    by_one_failure (rectangle_passes diamond (record (with_cones whole) { fan = record { cones = first_cone ∷ []; last = at 1 1 } })) refl refl
+    by_failed_test (rectangle_passes diamond (record (with_cones whole) { fan = record { cones = first_cone ∷ []; last = at 1 1 } })) refl
 
 -- ---- around three points on a line, with a size of 0
 
@@ -124,7 +124,24 @@ abbrev long_direction : RectangleAnswer
 long_direction = rectangle (fraction 0 1) (at 400001 0) (span (pos 0) (pos 800002)) (span (pos 0) (pos 0)) (quarter_cone 1 0 2 0 0 2 ∷ [])
 
 long_direction_fails : ¬ PassesRectangle from_origin long_direction
-long_direction_fails = by_one_failure (rectangle_passes from_origin long_direction) refl refl
+long_direction_fails = by_failed_test (rectangle_passes from_origin long_direction) refl
+
+-- ---- around a right triangle, whose longest side gives a second rectangle of the same area
+
+abbrev triangle : List PlanePoint
+triangle = at 0 0 ∷ at 4 0 ∷ at 0 3 ∷ []
+
+abbrev triangle_cones : List QuarterCone
+triangle_cones = quarter_cone 1 0 1 0 2 1 ∷ quarter_cone 3 4 2 0 2 1 ∷ []
+
+upright : PassesRectangle triangle (rectangle (fraction 12 1) (at 1 0) (span (pos 0) (pos 4)) (span (pos 0) (pos 3)) triangle_cones)
+upright = by_test (rectangle_passes triangle (rectangle (fraction 12 1) (at 1 0) (span (pos 0) (pos 4)) (span (pos 0) (pos 3)) triangle_cones)) refl
+
+abbrev later : RectangleAnswer
+later = rectangle (fraction 12 1) (at 3 4) (span (pos 0) (pos 12)) (span (minus 16) (pos 9)) triangle_cones
+
+later_fails : ¬ PassesRectangle triangle later
+later_fails = by_one_failure (rectangle_passes triangle later) refl refl
 
 -- ---- two points far apart
 
@@ -147,4 +164,4 @@ abbrev too_broad : RectangleAnswer
 too_broad = rectangle (fraction 0 1) (at 0 1) (span (pos 0) (pos 0)) (span (minus past) (pos 0)) (far_cone ∷ [])
 
 too_broad_fails : ¬ PassesRectangle two_far too_broad
-too_broad_fails = by_one_failure (rectangle_passes two_far too_broad) refl refl
+too_broad_fails = by_failed_test (rectangle_passes two_far too_broad) refl

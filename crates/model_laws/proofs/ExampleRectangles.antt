@@ -31,7 +31,7 @@ abbrev not_highest : RectangleAnswer
 not_highest = record slanted { fan = record { cones = quarter_cone 1 0 3 0 3 1 ∷ quarter_cone 1 1 3 1 0 2 ∷ []; last = at 0 1 } }
 
 not_highest_fails : ¬ Passes ask_rectangle (plane diamond) (rectangle not_highest)
-not_highest_fails = by_one_failure (passes ask_rectangle (plane diamond) (rectangle not_highest)) refl refl
+not_highest_fails = by_failed_test (passes ask_rectangle (plane diamond) (rectangle not_highest)) refl
 
 -- the axis-parallel rectangle, whose area is 4, with a fan of the two directions along the axes alone
 abbrev axis_parallel : RectangleAnswer

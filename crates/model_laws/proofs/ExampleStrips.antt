@@ -57,21 +57,21 @@ abbrev pub level : StripAnswer
 level = record along_longest { size = fraction 9 1; direction = at 0 1; bounds = span (pos 0) (pos 3) }
 
 level_fails : ¬ Passes ask_strip (plane triangle) (strip level)
-level_fails = by_one_failure (passes ask_strip (plane triangle) (strip level)) refl refl
+level_fails = by_failed_test (passes ask_strip (plane triangle) (strip level)) refl
 
 -- a strip with room to spare
 abbrev roomy : StripAnswer
 roomy = record along_longest { size = fraction 169 25; bounds = span (minus 1) (pos 12) }
 
 roomy_fails : ¬ Passes ask_strip (plane triangle) (strip roomy)
-roomy_fails = by_one_failure (passes ask_strip (plane triangle) (strip roomy)) refl refl
+roomy_fails = by_failed_test (passes ask_strip (plane triangle) (strip roomy)) refl
 
 -- no normal at all
 abbrev no_normal : StripAnswer
 no_normal = record along_longest { size = fraction 0 1; direction = at 0 0; bounds = span (pos 0) (pos 0) }
 
 no_normal_fails : ¬ Passes ask_strip (plane triangle) (strip no_normal)
-no_normal_fails = by_one_failure (passes ask_strip (plane triangle) (strip no_normal)) refl refl
+no_normal_fails = by_failed_test (passes ask_strip (plane triangle) (strip no_normal)) refl
 
 -- one point
 abbrev single : StripAnswer

@@ -24,11 +24,13 @@ use Rattle.bounds_model.specs.EmptyAnswer.{EmptyAnswer, empty_of}
 use Rattle.bounds_model.specs.KgonAnswer.{KgonAnswer, corner_points}
 use Rattle.bounds_model.specs.DistanceAnswer.{DistanceAnswer, weights_of}
 use Rattle.bounds_model.specs.CentresAnswer.{CentresAnswer, cover_of}
+use Rattle.bounds_model.specs.Shell.{FitsShell, shell_size}
+use Rattle.bounds_model.specs.ShellAnswer.{ShellAnswer, shell_of}
 use Rattle.bounds_model.specs.Answers.{Claim, ClaimFits, ClaimIsBest}
-use Rattle.bounds_model.specs.Answers.Claim.{circle_claim, sphere_claim, rectangle_claim, parallelogram_claim, strip_claim, annulus_claim, empty_claim, kgon_claim, distance_claim, centres_claim}
+use Rattle.bounds_model.specs.Answers.Claim.{circle_claim, sphere_claim, rectangle_claim, parallelogram_claim, strip_claim, annulus_claim, empty_claim, kgon_claim, distance_claim, centres_claim, four_claim, shell_claim}
 use Rattle.model_laws.proofs.BestSizes.{Reaches, kept, same_smallest, same_greatest}
-use Rattle.model_laws.proofs.SizeDenominators.{circle_denominator, ball_denominator, rectangle_denominator, parallelogram_denominator, strip_denominator, annulus_denominator, empty_denominator, distance_denominator, centres_denominator}
-use Rattle.model_laws.proofs.PermutedFits.{circle_stays, ball_stays, rectangle_stays, parallelogram_stays, strip_stays, annulus_stays, empty_stays, centres_stay, corners_stay}
+use Rattle.model_laws.proofs.SizeDenominators.{circle_denominator, ball_denominator, rectangle_denominator, parallelogram_denominator, strip_denominator, annulus_denominator, empty_denominator, distance_denominator, centres_denominator, shell_denominator}
+use Rattle.model_laws.proofs.PermutedFits.{circle_stays, ball_stays, rectangle_stays, parallelogram_stays, strip_stays, annulus_stays, empty_stays, centres_stay, shell_stays, corners_stay}
 use Rattle.model_laws.proofs.PermutedWeights.{other_weights}
 use Rattle.model_laws.proofs.CornersUnique.{one_list_of_corners}
 
@@ -75,6 +77,14 @@ pub centres_sizes : (count : ℕ) (ps qs : List PlanePoint) (a b : CentresAnswer
 centres_sizes count ps qs a b s h k =
     same_smallest (FitsCentres count ps) (FitsCentres count qs) centres_size centres_size (kept (FitsCentres count ps) (FitsCentres count qs) centres_size (centres_stay count ps qs s)) (kept (FitsCentres count qs) (FitsCentres count ps) centres_size (centres_stay count qs ps (IsPermutation-sym ps qs s)))
     (cover_of a) (cover_of b) a.size b.size (centres_denominator count ps (cover_of a) h.0.0) (centres_denominator count qs (cover_of b) k.0.0) h.1 k.1 h.0.1 k.0.1
+
+pub four_sizes : (ps qs : List PlanePoint) (a b : CentresAnswer) → IsPermutation ps qs → Stands (four_claim ps a) → Stands (four_claim qs b) → a.size ≡ b.size
+four_sizes = centres_sizes 4
+
+pub shell_sizes : (ps qs : List SpacePoint) (a b : ShellAnswer) → IsPermutation ps qs → Stands (shell_claim ps a) → Stands (shell_claim qs b) → a.size ≡ b.size
+shell_sizes ps qs a b s h k =
+    same_smallest (FitsShell ps) (FitsShell qs) shell_size shell_size (kept (FitsShell ps) (FitsShell qs) shell_size (shell_stays ps qs s)) (kept (FitsShell qs) (FitsShell ps) shell_size (shell_stays qs ps (IsPermutation-sym ps qs s)))
+    (shell_of a) (shell_of b) a.size b.size (shell_denominator ps (shell_of a) h.0.0) (shell_denominator qs (shell_of b) k.0.0) h.1 k.1 h.0.1 k.0.1
 
 -- weights for two sets can be carried to another order of each, with the same size
 distance_reaches : (ps qs ps' qs' : List SpacePoint) → IsPermutation ps ps' → IsPermutation qs qs' → Reaches (FitsDistance ps qs) (distance_size ps qs) (FitsDistance ps' qs') (distance_size ps' qs')

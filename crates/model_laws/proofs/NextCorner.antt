@@ -96,7 +96,7 @@ pub record Follows (points : List PlanePoint) (a b c : PlanePoint) : Type 0 wher
   pub turns : pos 0 <ℤ turn a b c
 
 -- an edge before a left turn has a length
-long_edge : (u v : PlanePoint) → pos 0 <ℤ cross u v → pos 0 <ℤ squared_length u
+pub long_edge : (u v : PlanePoint) → pos 0 <ℤ cross u v → pos 0 <ℤ squared_length u
 long_edge u v h = by_lt_z (pos 0) (squared_length u) (λ l. l) (λ m. absurd (positive-not_zero h (flat u.x u.y v.x v.y (zero_of_square u.x (first_part (square_nonneg u.y) m)) (zero_of_square u.y (second_part (square_nonneg u.x) m)))))
   where
     flat : (ux uy vx vy : ℤ) → ux ≡ pos 0 → uy ≡ pos 0 → ux *ℤ vy -ℤ uy *ℤ vx ≡ pos 0
@@ -109,14 +109,14 @@ long_edge u v h = by_lt_z (pos 0) (squared_length u) (λ l. l) (λ m. absurd (po
     second_part h k = omega (arith, ints)
 
 -- equal vectors from one point lead to one point
-equal_ends : (a b c : PlanePoint) → vector a b ≡ vector a c → b ≡ c
+pub equal_ends : (a b c : PlanePoint) → vector a b ≡ vector a c → b ≡ c
 equal_ends a b c e = λ i. record { x = equal a.x b.x c.x (ap (λ (p : PlanePoint). p.x) e) i; y = equal a.y b.y c.y (ap (λ (p : PlanePoint). p.y) e) i }
   where
     equal : (a b c : ℤ) → b -ℤ a ≡ c -ℤ a → b ≡ c
     equal a b c e = omega (arith, ints)
 
 -- vectors from a differ by the vector of their ends
-between_ends : (a b c : PlanePoint) → vector (vector a b) (vector a c) ≡ vector b c
+pub between_ends : (a b c : PlanePoint) → vector (vector a b) (vector a c) ≡ vector b c
 between_ends a b c = λ i. record { x = moved a.x b.x c.x i; y = moved a.y b.y c.y i }
   where
     moved : (a b c : ℤ) → (c -ℤ a) -ℤ (b -ℤ a) ≡ c -ℤ b

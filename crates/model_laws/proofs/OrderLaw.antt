@@ -9,6 +9,7 @@ use Rattle.bounds_model.specs.Strip.{FitsStrip, strip_size}
 use Rattle.bounds_model.specs.Annulus.{FitsAnnulus, annulus_size}
 use Rattle.bounds_model.specs.EmptyRectangle.{FitsEmpty, empty_size}
 use Rattle.bounds_model.specs.Centres.{FitsCentres, centres_size}
+use Rattle.bounds_model.specs.Shell.{FitsShell, shell_size}
 use Rattle.bounds_model.specs.BallAnswer.{circle_of, sphere_of}
 use Rattle.bounds_model.specs.RectangleAnswer.{rectangle_of}
 use Rattle.bounds_model.specs.ParallelogramAnswer.{parallelogram_of}
@@ -16,11 +17,12 @@ use Rattle.bounds_model.specs.StripAnswer.{strip_of}
 use Rattle.bounds_model.specs.AnnulusAnswer.{annulus_of}
 use Rattle.bounds_model.specs.EmptyAnswer.{empty_of}
 use Rattle.bounds_model.specs.CentresAnswer.{cover_of}
-use Rattle.bounds_model.specs.Asks.Ask.{ask_circle, ask_sphere, ask_rectangle, ask_parallelogram, ask_strip, ask_annulus, ask_empty, ask_kgon, ask_distance, ask_centres}
+use Rattle.bounds_model.specs.ShellAnswer.{shell_of}
+use Rattle.bounds_model.specs.Asks.Ask.{ask_circle, ask_sphere, ask_rectangle, ask_parallelogram, ask_strip, ask_annulus, ask_empty, ask_kgon, ask_distance, ask_centres, ask_furthest, ask_four, ask_shell}
 use Rattle.bounds_model.specs.Asks.Sets.{plane, space, bare}
-use Rattle.bounds_model.specs.Answers.Answer.{circle, sphere, rectangle, parallelogram, strip, annulus, empty, centres}
+use Rattle.bounds_model.specs.Answers.Answer.{circle, sphere, rectangle, parallelogram, strip, annulus, empty, centres, four, shell}
 use Rattle.model_laws.specs.Laws.{BestAnswersHaveNoOrder}
-use Rattle.model_laws.proofs.PermutedFits.{circle_stays, ball_stays, rectangle_stays, parallelogram_stays, strip_stays, annulus_stays, empty_stays, centres_stay}
+use Rattle.model_laws.proofs.PermutedFits.{circle_stays, ball_stays, rectangle_stays, parallelogram_stays, strip_stays, annulus_stays, empty_stays, centres_stay, shell_stays}
 
 -- what is smallest is so wherever the same objects fit
 smallest_stays : {X : Type 0} (Fits Fits' : X → Type 0) (size : X → Fraction) → ((o : X) → Fits o → Fits' o) → ((o : X) → Fits' o → Fits o) → (o : X) → IsSmallest Fits size o → IsSmallest Fits' size o
@@ -84,3 +86,16 @@ best_stays (ask_centres count) (plane ps) other (centres a) n p h = absurd p
 best_stays (ask_centres count) sets other answer n p h = absurd h.fits
 best_stays (ask_kgon k) sets other answer n p h = absurd (n tt)
 best_stays ask_distance sets other answer n p h = absurd (n tt)
+best_stays ask_furthest sets other answer n p h = absurd (n tt)
+best_stays ask_four (plane ps) (plane qs) (four a) n p h = record {
+  fits = (centres_stay 4 ps qs p (cover_of a) h.fits.0, h.fits.1);
+  best = smallest_stays (FitsCentres 4 ps) (FitsCentres 4 qs) centres_size (centres_stay 4 ps qs p) (centres_stay 4 qs ps (IsPermutation-sym ps qs p)) (cover_of a) h.best;
+}
+best_stays ask_four (plane ps) other (four a) n p h = absurd p
+best_stays ask_four sets other answer n p h = absurd h.fits
+best_stays ask_shell (space ps) (space qs) (shell a) n p h = record {
+  fits = (shell_stays ps qs p (shell_of a) h.fits.0, h.fits.1);
+  best = smallest_stays (FitsShell ps) (FitsShell qs) shell_size (shell_stays ps qs p) (shell_stays qs ps (IsPermutation-sym ps qs p)) (shell_of a) h.best;
+}
+best_stays ask_shell (space ps) other (shell a) n p h = absurd p
+best_stays ask_shell sets other answer n p h = absurd h.fits

@@ -10,8 +10,10 @@ use Rattle.bounds_model.specs.Strip.{Strip, IsInSpan, FitsStrip}
 use Rattle.bounds_model.specs.Rectangle.{Rectangle, FitsRectangle}
 use Rattle.bounds_model.specs.Parallelogram.{Parallelogram, FitsParallelogram}
 use Rattle.bounds_model.specs.Annulus.{Annulus, IsInAnnulus, FitsAnnulus}
+use Rattle.bounds_model.specs.Shell.{Shell, IsInShell, FitsShell}
 use Rattle.bounds_model.specs.EmptyRectangle.{Box, EmptyRectangle, IsStrictlyInside, FitsEmpty}
 use Rattle.bounds_model.specs.Centres.{Cover, IsNear, FitsCentres}
+use Rattle.bounds_model.specs.Shell.{Shell, IsInShell, FitsShell}
 use Rattle.bounds_model.specs.Hull.{around, AreCornerCycle, AreCorners}
 
 -- a ball stays around the points
@@ -56,6 +58,10 @@ parallelogram_stays ps qs s r h = record {
 -- an annulus stays around the points
 pub annulus_stays : (ps qs : List PlanePoint) → IsPermutation ps qs → (annulus : Annulus) → FitsAnnulus ps annulus → FitsAnnulus qs annulus
 annulus_stays ps qs s annulus h = record { denominator = h.denominator; inner = h.inner; outer = h.outer; inside = All-permutation (IsInAnnulus annulus) ps qs s h.inside }
+
+-- a shell stays around the points
+pub shell_stays : (ps qs : List SpacePoint) → IsPermutation ps qs → (shell : Shell) → FitsShell ps shell → FitsShell qs shell
+shell_stays ps qs s shell h = record { denominator = h.denominator; inner = h.inner; outer = h.outer; inside = All-permutation (IsInShell shell) ps qs s h.inside }
 
 -- an empty rectangle stays empty
 pub empty_stays : (frame : Box) (ps qs : List PlanePoint) → IsPermutation ps qs → (r : EmptyRectangle) → FitsEmpty frame ps r → FitsEmpty frame qs r

@@ -12,6 +12,7 @@ use Rattle.bounds_model.specs.Annulus.{Annulus, FitsAnnulus, annulus_size}
 use Rattle.bounds_model.specs.EmptyRectangle.{Box, EmptyRectangle, FitsEmpty, empty_size}
 use Rattle.bounds_model.specs.Distance.{Weights, FitsDistance, distance_size}
 use Rattle.bounds_model.specs.Centres.{Cover, FitsCentres, centres_size}
+use Rattle.bounds_model.specs.Shell.{Shell, FitsShell, shell_size}
 
 -- a vector that is not 0 has a length
 pub long_vector : (u : PlanePoint) → u ≢ origin → pos 0 <ℤ squared_length u
@@ -57,6 +58,10 @@ parallelogram_denominator points p h = over_square p.w (pos (nat_abs (cross p.fi
 -- of an annulus
 pub annulus_denominator : (points : List PlanePoint) (annulus : Annulus) → FitsAnnulus points annulus → pos 0 <ℤ (annulus_size annulus).d
 annulus_denominator points annulus h = positive_mul (positive_from_one h.outer.denominator) (positive_from_one h.inner.denominator)
+
+-- of a shell
+pub shell_denominator : (points : List SpacePoint) (shell : Shell) → FitsShell points shell → pos 0 <ℤ (shell_size shell).d
+shell_denominator points shell h = positive_mul (positive_from_one h.outer.denominator) (positive_from_one h.inner.denominator)
 
 -- of an empty rectangle
 pub empty_denominator : (frame : Box) (points : List PlanePoint) (rectangle : EmptyRectangle) → FitsEmpty frame points rectangle → pos 0 <ℤ (empty_size rectangle).d

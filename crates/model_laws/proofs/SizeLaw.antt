@@ -1,4 +1,4 @@
--- The best size is the same for the points in another order, for all ten kinds.
+-- The best size is the same for the points in another order, for all kinds.
 use Rattle.std.proofs.Common.{◌≡◌, refl, sym, ◌∙◌, ap, ℕ, List, []}
 use Rattle.std.specs.Prelude.{IsPermutation, IsSomeAnd}
 use Rattle.std.specs.declared.option.Option.{Option}
@@ -8,13 +8,14 @@ use Rattle.bounds_model.specs.Plane.{PlanePoint}
 use Rattle.bounds_model.specs.Space.{SpacePoint}
 use Rattle.bounds_model.specs.EmptyRectangle.{Box}
 use Rattle.bounds_model.specs.Asks.{Ask, Sets}
-use Rattle.bounds_model.specs.Asks.Ask.{ask_circle, ask_sphere, ask_rectangle, ask_parallelogram, ask_strip, ask_annulus, ask_empty, ask_kgon, ask_distance, ask_centres}
+use Rattle.bounds_model.specs.Asks.Ask.{ask_circle, ask_sphere, ask_rectangle, ask_parallelogram, ask_strip, ask_annulus, ask_empty, ask_kgon, ask_distance, ask_centres, ask_furthest, ask_four, ask_shell}
 use Rattle.bounds_model.specs.Asks.Sets.{plane, space, two, bare}
 use Rattle.bounds_model.specs.Answers.{Answer, Claim, claim, ClaimFits, ClaimIsBest, IsBest, size_of}
-use Rattle.bounds_model.specs.Answers.Answer.{circle, sphere, rectangle, parallelogram, strip, annulus, empty, kgon, distance, centres}
-use Rattle.bounds_model.specs.Answers.Claim.{circle_claim, sphere_claim, rectangle_claim, parallelogram_claim, strip_claim, annulus_claim, empty_claim, kgon_claim, distance_claim, centres_claim}
+use Rattle.bounds_model.specs.Answers.Answer.{circle, sphere, rectangle, parallelogram, strip, annulus, empty, kgon, distance, centres, furthest, four, shell}
+use Rattle.bounds_model.specs.Answers.Claim.{circle_claim, sphere_claim, rectangle_claim, parallelogram_claim, strip_claim, annulus_claim, empty_claim, kgon_claim, distance_claim, centres_claim, furthest_claim, four_claim, shell_claim}
 use Rattle.model_laws.specs.Laws.{ArePermuted, BestSizeHasNoOrder, BestSizeIsUnique, OptimumIsUnique}
-use Rattle.model_laws.proofs.KindSizes.{Stands, circle_sizes, sphere_sizes, rectangle_sizes, parallelogram_sizes, strip_sizes, annulus_sizes, empty_sizes, kgon_sizes, distance_sizes, centres_sizes}
+use Rattle.model_laws.proofs.KindSizes.{Stands, circle_sizes, sphere_sizes, rectangle_sizes, parallelogram_sizes, strip_sizes, annulus_sizes, empty_sizes, kgon_sizes, distance_sizes, centres_sizes, four_sizes, shell_sizes}
+use Rattle.model_laws.proofs.FurthestSizes.{furthest_sizes}
 
 -- ---- the points of a set
 
@@ -156,7 +157,28 @@ distance_case sets answer h = by_claim sets answer (stands ask_distance sets ans
     by_claim (two ps qs) (distance a) h = (a, refl, h)
     by_claim sets answer h = absurd h
 
--- ---- all ten
+furthest_case : (sets : Sets) (answer : Answer) → IsBest ask_furthest sets answer → Case furthest (furthest_claim (plane_points sets)) answer
+furthest_case sets answer h = by_claim sets answer (stands ask_furthest sets answer h)
+  where
+    by_claim : (sets : Sets) (answer : Answer) → IsSomeAnd (claim ask_furthest sets answer) Stands → Case furthest (furthest_claim (plane_points sets)) answer
+    by_claim (plane points) (furthest a) h = (a, refl, h)
+    by_claim sets answer h = absurd h
+
+four_case : (sets : Sets) (answer : Answer) → IsBest ask_four sets answer → Case four (four_claim (plane_points sets)) answer
+four_case sets answer h = by_claim sets answer (stands ask_four sets answer h)
+  where
+    by_claim : (sets : Sets) (answer : Answer) → IsSomeAnd (claim ask_four sets answer) Stands → Case four (four_claim (plane_points sets)) answer
+    by_claim (plane points) (four a) h = (a, refl, h)
+    by_claim sets answer h = absurd h
+
+shell_case : (sets : Sets) (answer : Answer) → IsBest ask_shell sets answer → Case shell (shell_claim (space_points sets)) answer
+shell_case sets answer h = by_claim sets answer (stands ask_shell sets answer h)
+  where
+    by_claim : (sets : Sets) (answer : Answer) → IsSomeAnd (claim ask_shell sets answer) Stands → Case shell (shell_claim (space_points sets)) answer
+    by_claim (space points) (shell a) h = (a, refl, h)
+    by_claim sets answer h = absurd h
+
+-- ---- all kinds
 
 -- the best size is the same for the points in another order
 pub one_size : BestSizeHasNoOrder
@@ -201,6 +223,18 @@ one_size (ask_centres count) sets other first second p h g =
     let a = centres_case count sets first h in
     let b = centres_case count other second g in
     ap size_of a.1 ∙ centres_sizes count (plane_points sets) (plane_points other) a.0 b.0 (plane_permuted sets other p) a.2 b.2 ∙ sym (ap size_of b.1)
+one_size ask_furthest sets other first second p h g =
+    let a = furthest_case sets first h in
+    let b = furthest_case other second g in
+    ap size_of a.1 ∙ furthest_sizes (plane_points sets) (plane_points other) a.0 b.0 (plane_permuted sets other p) a.2 b.2 ∙ sym (ap size_of b.1)
+one_size ask_four sets other first second p h g =
+    let a = four_case sets first h in
+    let b = four_case other second g in
+    ap size_of a.1 ∙ four_sizes (plane_points sets) (plane_points other) a.0 b.0 (plane_permuted sets other p) a.2 b.2 ∙ sym (ap size_of b.1)
+one_size ask_shell sets other first second p h g =
+    let a = shell_case sets first h in
+    let b = shell_case other second g in
+    ap size_of a.1 ∙ shell_sizes (space_points sets) (space_points other) a.0 b.0 (space_permuted sets other p) a.2 b.2 ∙ sym (ap size_of b.1)
 
 -- so it is for the same points
 pub one_size_of_same : BestSizeIsUnique

@@ -8,7 +8,7 @@ use Rattle.bounds_model.specs.PlainFans.{IsPlainHalf, IsPlainQuarter}
 use Rattle.bounds_model.specs.CornerTest.{CornersPass}
 use Rattle.bounds_model.specs.KgonAnswer.{KgonAnswer, corner_points, PassesKgon}
 use Rattle.bounds_model.specs.Asks.{Ask, Sets, Suits}
-use Rattle.bounds_model.specs.Asks.Ask.{ask_kgon, ask_distance}
+use Rattle.bounds_model.specs.Asks.Ask.{ask_kgon, ask_distance, ask_furthest}
 use Rattle.bounds_model.specs.Asks.Sets.{plane, space, two, bare}
 use Rattle.bounds_model.specs.Answers.{Answer, size_of, KeepsRanges, Fits, IsBest, Passes, IsOptimum}
 
@@ -56,6 +56,7 @@ BestSizeHasNoOrder = (ask : Ask) (sets other : Sets) (first second : Answer) →
 abbrev pub NamesNumbers : Ask → Type 0
 NamesNumbers (ask_kgon k) = ⊤
 NamesNumbers ask_distance = ⊤
+NamesNumbers ask_furthest = ⊤
 NamesNumbers ask = ⊥
 
 -- where the object is not given by numbers of points, a best answer stays best for the points in another order

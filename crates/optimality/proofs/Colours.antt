@@ -8,7 +8,7 @@ use Rattle.std.proofs.lemmas.List.Elements.{All-contains, All-filter, All-contai
 use Rattle.integers.specs.Extremes.{greatest, least}
 use Rattle.integers.proofs.Extremes.{has_greatest, has_least}
 use Rattle.bounds_model.specs.Plane.{PlanePoint}
-use Rattle.bounds_model.specs.CentresAnswer.{contains, outside, corner_square}
+use Rattle.bounds_model.specs.CentresAnswer.{Square, contains, outside, corner_square}
 use Rattle.model_laws.proofs.Decisions.{false-not_true}
 use Rattle.optimality.proofs.CornerSquares.{x_of, y_of, near_lowest, near_highest, within_a_side, lower_left, lower_right, upper_left, upper_right}
 
@@ -158,6 +158,33 @@ recolour_same j c x y nx ny = by_bools (x == c) (y == c) (Decides-eqb x c) (Deci
     by_bools false true d e h = absurd (nx h)
     by_bools false false d e h = h
 
+-- outside of a square that holds all points of one colour, one colour fewer is left
+pub without_one : (side c : ℕ) (ps : List PlanePoint) (square : Square) (colour : Colouring ps) → IsColoured side (suc c) ps colour → (chosen : ℕ) → chosen < suc c
+    → ((p : PlanePoint) (m : Contains ps p) → colour p m ≡ chosen → contains square p ≡ true) → (fewer : Colouring (outside square ps)) × IsColoured side c (outside square ps) fewer
+without_one side c ps square colour h chosen chosen_below fills = (
+  λ p m. recolour chosen c (colour p (listed p m)),
+  record {
+    below = λ p m. recolour_below chosen c (colour p (listed p m)) chosen_below (h.below p (listed p m)) (other p m);
+    near = λ p q m n e. h.near p q (listed p m) (listed q n) (recolour_same chosen c (colour p (listed p m)) (colour q (listed q n)) (other p m) (other q n) e);
+  },
+)
+  where
+    rest : List PlanePoint
+    rest = outside square ps
+
+    listed : (p : PlanePoint) → Contains rest p → Contains ps p
+    listed p m = All-contains (Contains ps) rest p (All-filter (λ q. not (contains square q)) (Contains ps) ps (All-contains_itself ps)) m
+
+    not_contained : (p : PlanePoint) → Contains rest p → not (contains square p) ≡ true
+    not_contained p m = All-contains (λ q. not (contains square q) ≡ true) rest p (filter_passes (λ q. not (contains square q)) ps) m
+
+    not_both : (b : Bool) → b ≡ true → not b ≡ true → ⊥
+    not_both true e f = cc
+    not_both false e f = cc
+
+    other : (p : PlanePoint) (m : Contains rest p) → colour p (listed p m) ≢ chosen
+    other p m e = not_both (contains square p) (fills p (listed p m) e) (not_contained p m)
+
 -- without what the square in this corner holds, one colour fewer is left
 pub record HasFewer (side c : ℕ) (ps : List PlanePoint) : Type 0 where
   pub corner : ℕ
@@ -167,31 +194,9 @@ pub record HasFewer (side c : ℕ) (ps : List PlanePoint) : Type 0 where
 
 -- it is so where a colour fills the corner
 fewer_by_filled : (side c : ℕ) (ps : List PlanePoint) (colour : Colouring ps) → IsColoured side (suc c) ps colour → IsFilled side (suc c) ps colour → HasFewer side c ps
-fewer_by_filled side c ps colour h f = record {
-  corner = f.corner;
-  four = f.four;
-  colour = λ p m. recolour f.chosen c (colour p (listed p m));
-  coloured = record {
-    below = λ p m. recolour_below f.chosen c (colour p (listed p m)) f.below (h.below p (listed p m)) (other p m);
-    near = λ p q m n e. h.near p q (listed p m) (listed q n) (recolour_same f.chosen c (colour p (listed p m)) (colour q (listed q n)) (other p m) (other q n) e);
-  };
-}
-  where
-    rest : List PlanePoint
-    rest = outside (corner_square side f.corner ps) ps
-
-    listed : (p : PlanePoint) → Contains rest p → Contains ps p
-    listed p m = All-contains (Contains ps) rest p (All-filter (λ q. not (contains (corner_square side f.corner ps) q)) (Contains ps) ps (All-contains_itself ps)) m
-
-    not_contained : (p : PlanePoint) → Contains rest p → not (contains (corner_square side f.corner ps) p) ≡ true
-    not_contained p m = All-contains (λ q. not (contains (corner_square side f.corner ps) q) ≡ true) rest p (filter_passes (λ q. not (contains (corner_square side f.corner ps) q)) ps) m
-
-    not_both : (b : Bool) → b ≡ true → not b ≡ true → ⊥
-    not_both true e f = cc
-    not_both false e f = cc
-
-    other : (p : PlanePoint) (m : Contains rest p) → colour p (listed p m) ≢ f.chosen
-    other p m e = not_both (contains (corner_square side f.corner ps) p) (f.fills p (listed p m) e) (not_contained p m)
+fewer_by_filled side c ps colour h f =
+    let rest = without_one side c ps (corner_square side f.corner ps) colour h f.chosen f.below f.fills in
+    record { corner = f.corner; four = f.four; colour = rest.0; coloured = rest.1 }
 
 -- and so some corner's square leaves one colour fewer of up to three
 pub fewer : (side c : ℕ) (ps : List PlanePoint) (colour : Colouring ps) → suc c ≤ 3 → IsColoured side (suc c) ps colour → HasFewer side c ps

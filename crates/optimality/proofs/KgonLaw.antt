@@ -1,6 +1,6 @@
 -- A polygon that passes has the greatest area of all with at most k of the hull's corners.
 use Rattle.std.proofs.Common.{◌≡◌, subst, ℕ, zero, suc, ◌+◌, ◌-◌, ◌<◌, ◌≤◌, min, ℤ, pos, ◌+ℤ◌, ◌*ℤ◌, ◌≤ℤ◌, ◌<ℤ◌, List, [], ◌∷◌, length, map, arith, Bool, true, false}
-use Rattle.std.specs.Prelude.{All, slice_index, slice_index_or, nat_lt, if◌then◌else◌}
+use Rattle.std.specs.Prelude.{All, slice_index_or, nat_lt, if◌then◌else◌}
 use Rattle.std.specs.List.Sorted.{IsStrictlyIncreasing}
 use Rattle.std.proofs.lemmas.Int.{ints}
 use Rattle.std.proofs.lemmas.List.{length-map}
@@ -11,6 +11,7 @@ use Rattle.bounds_model.specs.Plane.{PlanePoint, point_at, turn}
 use Rattle.bounds_model.specs.Kgon.{FitsKgon, triangulated_area, twice_area, kgon_size}
 use Rattle.bounds_model.specs.KgonAnswer.{KgonAnswer, corner_points, potential, PassesKgon}
 use Rattle.model_laws.proofs.CornerLaw.{passing_kgon}
+use Rattle.model_laws.proofs.MostAdded.{rising-uncons}
 use Rattle.optimality.specs.Laws.{PassingKgonsAreBest}
 use Rattle.optimality.proofs.PrintedSizes.{greatest_by_printed}
 
@@ -39,13 +40,6 @@ potential_below answer a layer b D B h all = by_layer (nat_lt 0 layer) _ (read_b
     by_layer false u _ = zero_below D B h
 
 -- ---- along the corners of a polygon, the area so far is at most the potential
-
--- rising positions go on rising after the first
-rising-uncons : (a b : ℕ) (rest : List ℕ) → IsStrictlyIncreasing (a ∷ b ∷ rest) → (a < b) × IsStrictlyIncreasing (b ∷ rest)
-rising-uncons a b rest h = (h 0 (omega arith), λ k l. subst (λ m. slice_index (b ∷ rest) k < slice_index (a ∷ b ∷ rest) m) (one_up k) (h (suc k) (omega arith)))
-  where
-    one_up : (k : ℕ) → suc k + 1 ≡ suc (k + 1)
-    one_up k = omega arith
 
 -- one more corner: its triangle t raises the potential u to v at least, and f is the area that follows
 one_more_corner : (u t v f D B : ℤ) → pos 0 ≤ℤ D → (u +ℤ t) ≤ℤ v → ((v +ℤ f) *ℤ D) ≤ℤ B → ((u +ℤ (t +ℤ f)) *ℤ D) ≤ℤ B
@@ -79,7 +73,7 @@ along_corners k points answer h a layer b (c ∷ rest) first rises inside count 
     one_layer_up count = omega arith
 
 -- so no polygon has more than twice the size
-area_below : (k : ℕ) (points : List PlanePoint) (a : KgonAnswer) → PassesKgon k points a → (positions : List ℕ) → FitsKgon k (corner_points points a) positions
+pub area_below : (k : ℕ) (points : List PlanePoint) (a : KgonAnswer) → PassesKgon k points a → (positions : List ℕ) → FitsKgon k (corner_points points a) positions
     → (twice_area (map (point_at (corner_points points a)) positions) *ℤ a.size.d) ≤ℤ (pos 2 *ℤ a.size.n)
 area_below k points a h [] fits = zero_below a.size.d (pos 2 *ℤ a.size.n) (twice_nonneg h.ranges.size.lowest.not_negative.numerator)
 area_below k points a h (i ∷ []) fits = zero_below a.size.d (pos 2 *ℤ a.size.n) (twice_nonneg h.ranges.size.lowest.not_negative.numerator)

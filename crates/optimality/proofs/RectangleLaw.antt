@@ -32,11 +32,11 @@ record IsLarge (points : List PlanePoint) (size : Fraction) (u : PlanePoint) : T
   large : (size.n *ℤ squared_length u) ≤ℤ (reach points u high low *ℤ reach points (quarter_turn u) over under *ℤ size.d)
 
 -- any cone, for reading past the end of a list
-no_cone : QuarterCone
+pub no_cone : QuarterCone
 no_cone = record { direction = origin; high = 0; low = 0; over = 0; under = 0 }
 
 -- the product with a direction that was turned to the left
-dot-turned : (d k : PlanePoint) → dot (quarter_turn d) k ≡ dot d (turned_right k)
+pub dot-turned : (d k : PlanePoint) → dot (quarter_turn d) k ≡ dot d (turned_right k)
 dot-turned d k = plain d.x d.y k.x k.y
   where
     plain : (x y kx ky : ℤ) → neg_ℤ y *ℤ kx +ℤ x *ℤ ky ≡ x *ℤ ky +ℤ y *ℤ neg_ℤ kx
@@ -111,16 +111,16 @@ none_smaller points a h other fits =
     (reach_in_span points other.w (quarter_turn u) other.across fits.inside_across w.over w.under w.in_over w.in_under) w.large
 
 -- the rectangle of the answer fits
-rectangle_fits : (points : List PlanePoint) (a : RectangleAnswer) → PassesRectangle points a → FitsRectangle points (rectangle_of a)
+pub rectangle_fits : (points : List PlanePoint) (a : RectangleAnswer) → PassesRectangle points a → FitsRectangle points (rectangle_of a)
 rectangle_fits points a h =
     let w = each_is_large points a h a.direction in
     record {
       direction = h.normal;
-      along = span_in_order (h.inside_along w.high origin w.in_high);
-      across = span_in_order (h.inside_across w.high origin w.in_high);
+      along = span_in_order (h.tight_along.inside w.high origin w.in_high);
+      across = span_in_order (h.tight_across.inside w.high origin w.in_high);
       denominator = ≤ℤ_refl (pos 1);
-      inside_along = inside_over_one points a.direction a.along h.inside_along;
-      inside_across = inside_over_one points (quarter_turn a.direction) a.across h.inside_across;
+      inside_along = inside_over_one points a.direction a.along h.tight_along.inside;
+      inside_across = inside_over_one points (quarter_turn a.direction) a.across h.tight_across.inside;
     }
 
 -- a rectangle that passes has the least area

@@ -74,14 +74,14 @@ none_thinner points a h other fits =
     extents_at_least a.size.n a.size.d (squared_length other.normal) (reach points other.normal w.high w.low) (reach points other.normal w.high w.low) (extent other.bounds) (extent other.bounds) other.w (nonneg_from_one h.ranges.size.lowest.not_negative.denominator) (nonneg_from_one fits.denominator) w.forward w.forward within within w.wide
 
 -- the strip of the answer fits
-strip_fits : (points : List PlanePoint) (a : StripAnswer) → PassesStrip points a → FitsStrip points (strip_of a)
+pub strip_fits : (points : List PlanePoint) (a : StripAnswer) → PassesStrip points a → FitsStrip points (strip_of a)
 strip_fits points a h =
     let w = each_is_wide points a h a.direction in
     record {
       normal = h.normal;
-      bounds = span_in_order (h.inside w.high origin w.in_high);
+      bounds = span_in_order (h.tight.inside w.high origin w.in_high);
       denominator = ≤ℤ_refl (pos 1);
-      inside = inside_over_one points a.direction a.bounds h.inside;
+      inside = inside_over_one points a.direction a.bounds h.tight.inside;
     }
 
 -- a strip that passes is the thinnest

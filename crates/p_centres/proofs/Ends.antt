@@ -12,7 +12,7 @@ use Rattle.bounds_model.specs.Plane.{PlanePoint, point_at, origin, plane_limit}
 use Rattle.bounded_coords.specs.Firsts.{IsFirstLeast, IsFirstGreatest}
 use Rattle.bounded_coords.proofs.Integers.{is_least, is_greatest}
 use Rattle.corner_squares.specs.declared.extent.Extent.{Extent}
-use Rattle.corner_squares.specs.Extents.{HasAt, IsExtent}
+use Rattle.corner_squares.specs.Extents.{HasAt, IsSpan}
 use Rattle.corner_squares.proofs.LeftOver.{none_covered}
 
 -- ---- what an order of integers says
@@ -63,21 +63,6 @@ module _ (of : PlanePoint → ℤ) (points : List PlanePoint) where
 
   -- ---- the extent between them
 
-  inside_list : (k number : ℕ) → k < number → number < length points → k < length points
-  inside_list k number sooner listed = omega (arith, sooner, listed)
-
-  above_first : (number k : ℕ) → IsFirstLeast (on of int_cmp) points number → k < number → of (point_at points number) <ℤ of (point_at points k)
-  above_first number k h sooner =
-      let p = point_at points number in
-      let q = point_at points k in
-      is_below (int_cmp (of p) (of q)) (of p) (of q) (int_ranks (of p) (of q)) (h.first k p q sooner (listed_at number h.listed) (listed_at k (inside_list k number sooner h.listed)))
-
-  below_first : (number k : ℕ) → IsFirstGreatest (on of int_cmp) points number → k < number → of (point_at points k) <ℤ of (point_at points number)
-  below_first number k h sooner =
-      let p = point_at points number in
-      let q = point_at points k in
-      is_below (int_cmp (of q) (of p)) (of q) (of p) (int_ranks (of q) (of p)) (h.first k p q sooner (listed_at number h.listed) (listed_at k (inside_list k number sooner h.listed)))
-
   end_at : (number : ℕ) (p : PlanePoint) (value : ℤ) → number < length points → slice_get points number ≡ Some p → value ≡ of p → HasAt of points [] number value
   end_at number p value listed is_p is = record {
     below = listed;
@@ -87,15 +72,11 @@ module _ (of : PlanePoint → ℤ) (points : List PlanePoint) where
 
   pub extent_of_ends : (e : Extent) (p q : PlanePoint) → IsFirstLeast (on of int_cmp) points e.low_at → IsFirstGreatest (on of int_cmp) points e.high_at
       → slice_get points e.low_at ≡ Some p → slice_get points e.high_at ≡ Some q → e.low ≡ of p → e.high ≡ of q → IsWithin plane_limit e.low → IsWithin plane_limit e.high
-      → IsExtent of points [] (length points) e
+      → IsSpan of points [] e
   extent_of_ends e p q least greatest is_p is_q low high low_within high_within = record {
     inside = λ k below. inr (not_below k below, not_past k below);
     low_at = end_at e.low_at p e.low least.listed is_p low;
     high_at = end_at e.high_at q e.high greatest.listed is_q high;
-    low_seen = least.listed;
-    high_seen = greatest.listed;
-    low_first = λ k sooner. inr (subst (λ v. v <ℤ of (point_at points k)) (sym low_is) (above_first e.low_at k least sooner));
-    high_first = λ k sooner. inr (subst (λ v. of (point_at points k) <ℤ v) (sym high_is) (below_first e.high_at k greatest sooner));
     plane = record { low = low_within; high = high_within; order = subst (λ v. v ≤ℤ e.high) (sym low_is) (not_past e.low_at least.listed) };
   }
     where

@@ -11,11 +11,12 @@ use Rattle.corner_squares.specs.declared.extent.Extent.{Extent}
 use Rattle.corner_squares.specs.declared.bounds.Bounds.{Bounds}
 use Rattle.corner_squares.specs.Squares.{IsCovered}
 use Rattle.corner_squares.specs.Extents as boxes
-use Rattle.corner_squares.specs.Extents.{Sees, HasAt, IsExtent, IsBox, Adds}
+use Rattle.corner_squares.specs.Extents.{Sees, HasAt, IsRestBox, IsNoLonger, IsExtent, IsBox, Adds}
 use Rattle.corner_squares.proofs.Boxes as same
+use Rattle.corner_squares.proofs.Boxes.{rest_box}
 use Rattle.bounds_model.specs.CentresAnswer.{AreFar}
 use Rattle.p_centres.specs.Leaves.{later}
-use Rattle.p_centres.specs.Surveys.{IsFound, IsNoLonger, AreEnds, AreNear, AreFirstEnds, IsFirstFarIn, IsFirstFar, IsFarPair}
+use Rattle.p_centres.specs.Surveys.{IsFound, AreEnds, AreNear, AreFirstEnds, IsFirstFarIn, IsFirstFar, IsFirstPair}
 
 -- what was found, without its limit
 found : (points : List PlanePoint) (squares : List Square) (limit i : ℕ) (b : Option Bounds) → IsFound points squares limit i b → boxes.IsFound points squares i b
@@ -110,13 +111,17 @@ first_far of beside points squares limit i n e leaf h ends now before others =
     apart a b is_a is_b = let l = ends.longer in omega (arith, ints, l, is_a, is_b)
 
 pair_of_ends : (of : PlanePoint → ℤ) (points : List PlanePoint) (squares : List Square) (i limit : ℕ) (e : Extent) (leaf : Leaf) → IsExtent of points squares i e → AreEnds limit e leaf
-    → (limit < nat_abs (of (point_at points leaf.second) -ℤ of (point_at points leaf.first)) → AreFar limit (point_at points leaf.first) (point_at points leaf.second)) → IsFirstFar points squares limit (leaf_of leaf) → IsFarPair points squares limit leaf
+    → (limit < nat_abs (of (point_at points leaf.second) -ℤ of (point_at points leaf.first)) → AreFar limit (point_at points leaf.first) (point_at points leaf.second)) → IsFirstFar points squares limit (leaf_of leaf) → IsFirstPair points squares limit leaf
 pair_of_ends of points squares i limit e leaf h ends apart earliest =
     let far = far_ends of points squares i limit e leaf h ends in
-    record { first = far.0.below; second = far.1.below; first_free = far.0.free; second_free = far.1.free; far = apart far.2; earliest = earliest; short = far.3 }
+    record {
+      pair = record { first = far.0.below; second = far.1.below; first_free = far.0.free; second_free = far.1.free; far = apart far.2 };
+      earliest = earliest;
+      short = far.3;
+    }
 
 pub far_pair : (points : List PlanePoint) (squares : List Square) (i limit : ℕ) (p : PlanePoint) (found : Option Bounds) (b : Bounds) (leaf : Leaf) → IsFound points squares limit i found → Adds found p i b
-    → IsBox points squares (i + 1) b → AreEnds limit b.across leaf ⊎ (AreEnds limit b.up leaf × (b.across.high ≤ℤ (b.across.low +ℤ pos limit))) → IsFarPair points squares limit leaf
+    → IsBox points squares (i + 1) b → AreEnds limit b.across leaf ⊎ (AreEnds limit b.up leaf × (b.across.high ≤ℤ (b.across.low +ℤ pos limit))) → IsFirstPair points squares limit leaf
 far_pair points squares i limit p found b leaf was adds box (inl ends) =
     let near = near_found points squares limit i found was in
     let now = (later_found points squares limit i p found b leaf was adds).0 ends in
@@ -136,32 +141,11 @@ all_covered points squares i all h = λ k d below. subst (IsCovered squares) (ge
     seen : {k : ℕ} → k < length points → k < i
     seen l = omega arith
 
-extent_of_all : (of : PlanePoint → ℤ) (points : List PlanePoint) (squares : List Square) (i : ℕ) (e : Extent) → length points ≤ i → IsExtent of points squares i e → IsExtent of points squares (length points) e
-extent_of_all of points squares i e all h = record {
-  inside = λ k low. h.inside k (sooner low);
-  low_at = h.low_at;
-  high_at = h.high_at;
-  low_seen = h.low_at.below;
-  high_seen = h.high_at.below;
-  low_first = h.low_first;
-  high_first = h.high_first;
-  plane = h.plane;
-}
-  where
-    sooner : {k : ℕ} → k < length points → k < i
-    sooner l = omega arith
-
-box_of_all : (points : List PlanePoint) (squares : List Square) (i : ℕ) (b : Bounds) → length points ≤ i → IsBox points squares i b → IsBox points squares (length points) b
-box_of_all points squares i b all h = record {
-  across = extent_of_all (λ p. p.x) points squares i b.across all h.across;
-  up = extent_of_all (λ p. p.y) points squares i b.up all h.up;
-}
-
 pub found_all : (points : List PlanePoint) (squares : List Square) (limit i : ℕ) (found : Option Bounds) (b : Bounds) → length points ≤ i → found ≡ Some b → IsFound points squares limit i found
-    → IsBox points squares (length points) b × IsNoLonger limit b
+    → IsRestBox points squares b × IsNoLonger limit b
 found_all points squares limit i found b all is h =
     let some = subst (IsFound points squares limit i) is h in
-    (box_of_all points squares i b all some.0, some.1)
+    (rest_box points squares i b all some.0, some.1)
 
 pub found_none : (points : List PlanePoint) (squares : List Square) (limit i : ℕ) (found : Option Bounds) → length points ≤ i → found ≡ None → IsFound points squares limit i found → All (IsCovered squares) points
 found_none points squares limit i found all is h = all_covered points squares i all (subst (IsFound points squares limit i) is h)

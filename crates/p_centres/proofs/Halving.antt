@@ -1,5 +1,5 @@
 -- Between two sides the least one is found by halving, in as many tries as the distance has binary digits.
-use Rattle.std.proofs.Common.{◌≡◌, ◌⊎◌, inl, inr, refl, sym, subst, ap, ℕ, zero, suc, ◌+◌, ◌-◌, ◌*◌, ◌/◌, ◌^◌, ◌<◌, ◌≤◌, List, [], length, map, All, arith}
+use Rattle.std.proofs.Common.{◌≡◌, ◌⊎◌, inl, inr, refl, sym, subst, ap, ℕ, zero, suc, ◌+◌, ◌-◌, ◌*◌, ◌/◌, ◌^◌, ◌<◌, ◌≤◌, List, [], map, All, arith}
 use Rattle.std.proofs.Math.Nat.{mul-le-mul_right}
 use Rattle.std.proofs.lemmas.List.Elements.{All-nil}
 use Rattle.bounds_model.specs.Plane.{PlanePoint}
@@ -7,14 +7,15 @@ use Rattle.bounds_model.specs.CentresAnswer.{AreLeaves}
 use Rattle.answers.specs.Answers.{leaf_of}
 use Rattle.corner_squares.specs.declared.square.Square.{Square}
 use Rattle.corner_squares.specs.declared.bounds.Bounds.{Bounds}
-use Rattle.corner_squares.specs.Extents.{IsBox}
+use Rattle.corner_squares.specs.Extents.{IsRestBox}
 use Rattle.corner_squares.specs.Trees.{NamesPoints, AreLeavesAt, nodes}
 use Rattle.corner_squares.proofs.Trees.{tree_leaves}
 use Rattle.p_centres.specs.declared.sides.Bracket.{Bracket}
 use Rattle.p_centres.specs.Surveys.{IsFirstFar}
-use Rattle.p_centres.specs.Covers.{IsCover, IsRefuted}
+use Rattle.p_centres.specs.Covers.{IsFirstRefuted}
 use Rattle.p_centres.specs.Sides.{IsBracket, IsStart}
-use Rattle.p_centres.proofs.Covering.{cover_by_more, cover_with_one_more}
+use Rattle.corner_squares.specs.Covers.{IsCover}
+use Rattle.corner_squares.proofs.Placing.{cover_by_more, cover_with_one_more}
 
 -- ---- how many tries are left
 
@@ -46,7 +47,7 @@ steps_in_all n first now low high h = let s = h.steps in omega (arith, s)
 -- ---- brackets
 
 -- one square as wide as the box
-pub bracket_at_first : (points : List PlanePoint) (count : ℕ) (bounds : Bounds) (b : Bracket) → 1 ≤ count → IsBox points [] (length points) bounds → IsStart bounds b → IsBracket points count b
+pub bracket_at_first : (points : List PlanePoint) (count : ℕ) (bounds : Bounds) (b : Bracket) → 1 ≤ count → IsRestBox points [] bounds → IsStart bounds b → IsBracket points count b
 bracket_at_first points count bounds b some box h = record {
   order = (let z = h.low in omega (arith, z));
   limit = h.limit;
@@ -72,19 +73,20 @@ bracket_lowered points count side old new some h from to is_low is_high same cov
 
 -- the leaves of a side that does not
 pub bracket_raised : (points : List PlanePoint) (count side : ℕ) (placed : List Square) (old new : Bracket) → IsBracket points count old → old.low ≤ side → side < old.high → new.low ≡ side + 1 → new.high ≡ old.high → new.squares ≡ old.squares
-    → IsRefuted points side (count - 1) [] placed [] new.leaves.items → IsBracket points count new
+    → IsFirstRefuted points side (count - 1) [] placed [] new.leaves.items → IsBracket points count new
 bracket_raised points count side placed old new h from to is_low is_high same refuted = record {
   order = omega (arith, to, is_low, is_high);
   limit = (let l = h.limit in omega (arith, is_high, l));
   cover = subst (λ high. IsCover points high count new.squares.items) (sym is_high) (subst (λ ss. IsCover points old.high count ss) (sym (ap (λ ss. ss.items) same)) h.cover);
   names = λ k d below. (leaves.each k d below).names;
   leaves = subst (λ low. AreLeaves low count points (map leaf_of new.leaves.items)) (sym one_more) (tree_leaves side count points (map leaf_of new.leaves.items) leaves);
-  earliest = λ one. subst (λ limit. All (IsFirstFar points [] limit) (map leaf_of new.leaves.items)) (omega (arith, is_low))
-      (subst (λ ls. All (IsFirstFar points [] side) (map leaf_of ls)) (sym refuted.appended) (refuted.earliest (omega (arith, one))));
+  earliest = λ one.
+      let first = refuted.earliest (omega (arith, one)) in
+      subst (λ limit. All (IsFirstFar points [] limit) (map leaf_of new.leaves.items)) (omega (arith, is_low)) (subst (λ ls. All (IsFirstFar points [] side) (map leaf_of ls)) (sym first.1) first.2);
 }
   where
     leaves : AreLeavesAt side (count - 1) points points (map leaf_of new.leaves.items)
-    leaves = subst (λ ls. AreLeavesAt side (count - 1) points points (map leaf_of ls)) (sym refuted.appended) refuted.refuted
+    leaves = subst (λ ls. AreLeavesAt side (count - 1) points points (map leaf_of ls)) (sym refuted.refuted.appended) refuted.refuted.refuted
 
     one_more : new.low ≡ suc side
     one_more = omega (arith, is_low)

@@ -9,7 +9,7 @@ use Rattle.corner_squares.specs.Squares.{square_of, IsCovered}
 use Rattle.corner_squares.specs.Trees.{NamesPoints}
 use Rattle.corner_squares.proofs.Covering.{between_sides}
 use Rattle.corner_squares.proofs.LeftOver.{none_covered}
-use Rattle.p_centres.specs.Covers.{IsCover}
+use Rattle.corner_squares.specs.Covers.{IsCover}
 use Rattle.p_centres.specs.Surveys.{IsFirstFarIn, IsFirstFar}
 use Rattle.p_centres.specs.Leaves.{later, IsAlong, IsOnlyLeaf}
 use Rattle.p_centres.proofs.Ends.{first_least, first_greatest}

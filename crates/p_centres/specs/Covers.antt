@@ -1,38 +1,13 @@
--- Squares of one side that cover points, and leaves which show that none do.
-use Rattle.std.specs.Prelude.{◌≡◌, ℕ, ◌≤◌, List, ◌++◌, length, map, All, Contains, pos, neg_ℤ, ◌+ℤ◌, ◌≤ℤ◌}
+-- Leaves which show that no squares cover the points: the one of no square names the first two points far apart.
+use Rattle.std.specs.Prelude.{◌≡◌, ℕ, List, ◌++◌, map, All}
 use Rattle.bounds_model.specs.Plane.{PlanePoint}
 use Rattle.answers.specs.declared.centres.Leaf.{Leaf}
 use Rattle.answers.specs.Answers.{leaf_of}
 use Rattle.corner_squares.specs.declared.square.Square.{Square}
-use Rattle.corner_squares.specs.Squares.{IsCovered, left_over}
-use Rattle.corner_squares.specs.Trees.{AreLeavesAt}
+use Rattle.corner_squares.specs.Covers.{IsRefuted}
 use Rattle.p_centres.specs.Surveys.{IsFirstFar}
 
--- a square of this side that reaches into the bounds of points
-pub record IsPlaced (side : ℕ) (s : Square) : Type 0 where
-  pub wide : s.side ≡ side
-  pub left : s.left ≤ℤ pos 200000
-  pub right : neg_ℤ (pos 200000) ≤ℤ (s.left +ℤ pos side)
-  pub bottom : s.bottom ≤ℤ pos 200000
-  pub top : neg_ℤ (pos 200000) ≤ℤ (s.bottom +ℤ pos side)
-
--- at most so many squares, which contain all points
-pub record IsCover (points : List PlanePoint) (side most : ℕ) (squares : List Square) : Type 0 where
-  pub few : length squares ≤ most
-  pub placed : All (IsPlaced side) squares
-  pub covered : All (IsCovered squares) points
-
 -- the leaves below the placed squares are appended, and the squares stay; one right below them names the first two points far apart
-pub record IsRefuted (points : List PlanePoint) (side depth : ℕ) (placed placed_then : List Square) (leaves leaves_then : List Leaf) : Type 0 where
-  pub stays : placed_then ≡ placed
-  pub own : List Leaf
-  pub appended : leaves_then ≡ leaves ++ own
-  pub refuted : AreLeavesAt side depth points (left_over placed points) (map leaf_of own)
-  pub earliest : depth ≡ 0 → All (IsFirstFar points placed side) (map leaf_of own)
-
--- so many squares, which are the old ones, and then some of them again
-pub record IsFilledUp (count : ℕ) (old new : List Square) : Type 0 where
-  pub as_many : length new ≡ count
-  pub again : List Square
-  pub appended : new ≡ old ++ again
-  pub old_ones : All (Contains old) again
+pub record IsFirstRefuted (points : List PlanePoint) (side depth : ℕ) (placed placed_then : List Square) (leaves leaves_then : List Leaf) : Type 0 where
+  pub refuted : IsRefuted points side depth placed placed_then leaves leaves_then
+  pub earliest : depth ≡ 0 → (own : List Leaf) × (leaves_then ≡ leaves ++ own) × All (IsFirstFar points placed side) (map leaf_of own)

@@ -4,10 +4,11 @@ use Rattle.bounds_model.specs.Plane.{PlanePoint}
 use Rattle.bounds_model.specs.CentresAnswer.{AreLeaves}
 use Rattle.answers.specs.Answers.{leaf_of}
 use Rattle.corner_squares.specs.declared.bounds.Bounds.{Bounds}
+use Rattle.corner_squares.specs.Extents.{IsNoLonger}
 use Rattle.corner_squares.specs.Trees.{NamesPoints}
+use Rattle.corner_squares.specs.Covers.{IsCover}
 use Rattle.p_centres.specs.declared.sides.Bracket.{Bracket}
-use Rattle.p_centres.specs.Covers.{IsCover}
-use Rattle.p_centres.specs.Surveys.{IsNoLonger, IsFirstFar}
+use Rattle.p_centres.specs.Surveys.{IsFirstFar}
 
 -- so many squares of the high side cover the points, and the leaves show that none of a side below the low one do; that of one square names the first two so far apart
 pub record IsBracket (points : List PlanePoint) (count : ℕ) (b : Bracket) : Type 0 where

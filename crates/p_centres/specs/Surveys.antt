@@ -1,24 +1,19 @@
 -- What a pass over the points finds that squares leave over.
-use Rattle.std.specs.Prelude.{◌≡◌, ◌⊎◌, ℕ, ◌+◌, ◌<◌, List, length, All, ℤ, pos, ◌+ℤ◌, ◌≤ℤ◌, ◌<ℤ◌}
+use Rattle.std.specs.Prelude.{◌≡◌, ◌⊎◌, ℕ, ◌+◌, ◌<◌, List, All, ℤ, pos, ◌+ℤ◌, ◌≤ℤ◌, ◌<ℤ◌}
 use Rattle.std.specs.Prelude.{Option, Some, None}
 use Rattle.bounds_model.specs.Plane.{PlanePoint, point_at}
 use Rattle.bounds_model.specs.CentresAnswer as model
-use Rattle.bounds_model.specs.CentresAnswer.{AreFar}
 use Rattle.answers.specs.declared.centres.Leaf.{Leaf}
 use Rattle.answers.specs.Answers.{leaf_of}
 use Rattle.corner_squares.specs.declared.square.Square.{Square}
 use Rattle.corner_squares.specs.declared.extent.Extent.{Extent}
 use Rattle.corner_squares.specs.declared.bounds.Bounds.{Bounds}
 use Rattle.corner_squares.specs.Squares.{IsCovered}
-use Rattle.corner_squares.specs.Extents.{IsBox}
+use Rattle.corner_squares.specs.Extents.{IsRestBox, IsNoLonger, IsBox}
+use Rattle.corner_squares.specs.Covers.{IsFarPair}
 use Rattle.p_centres.specs.Leaves.{later}
 use Rattle.p_centres.specs.declared.surveys.Finding.{Finding}
 use Rattle.p_centres.specs.declared.surveys.Finding.TheVariants.{Nothing, Around, Far}
-
--- the box is at most so long, in x and in y
-pub record IsNoLonger (limit : ℕ) (b : Bounds) : Type 0 where
-  pub in_x : b.across.high ≤ℤ (b.across.low +ℤ pos limit)
-  pub in_y : b.up.high ≤ℤ (b.up.low +ℤ pos limit)
 
 -- the leaf's points are at the ends of an extent that is longer
 pub record AreEnds (limit : ℕ) (e : Extent) (leaf : Leaf) : Type 0 where
@@ -59,23 +54,19 @@ pub record IsFirstFarIn (of beside : PlanePoint → ℤ) (points : List PlanePoi
 abbrev pub IsFirstFar : List PlanePoint → List Square → ℕ → model.Leaf → Type 0
 IsFirstFar points squares limit leaf = IsFirstFarIn (λ p. p.x) (λ p. p.y) points squares limit (later leaf) leaf ⊎ IsFirstFarIn (λ p. p.y) (λ p. p.x) points squares limit (later leaf + 1) leaf
 
--- two points that no square contains and that are far apart: they are points, so the limit is less than what they can be apart
-pub record IsFarPair (points : List PlanePoint) (squares : List Square) (limit : ℕ) (leaf : Leaf) : Type 0 where
-  pub first : leaf.first < length points
-  pub second : leaf.second < length points
-  pub first_free : ¬ IsCovered squares (point_at points leaf.first)
-  pub second_free : ¬ IsCovered squares (point_at points leaf.second)
-  pub far : AreFar limit (point_at points leaf.first) (point_at points leaf.second)
+-- two points that no square contains and that are far apart, the first ones: they are points, so the limit is less than what they can be apart
+pub record IsFirstPair (points : List PlanePoint) (squares : List Square) (limit : ℕ) (leaf : Leaf) : Type 0 where
+  pub pair : IsFarPair points squares limit leaf
   pub earliest : IsFirstFar points squares limit (leaf_of leaf)
   pub short : limit < 400000
 
 -- what is left over
 abbrev pub IsSurvey : List PlanePoint → List Square → ℕ → Finding → Type 0
 IsSurvey points squares limit Nothing = All (IsCovered squares) points
-IsSurvey points squares limit (Around b) = IsBox points squares (length points) b × IsNoLonger limit b
-IsSurvey points squares limit (Far leaf) = IsFarPair points squares limit leaf
+IsSurvey points squares limit (Around b) = IsRestBox points squares b × IsNoLonger limit b
+IsSurvey points squares limit (Far leaf) = IsFirstPair points squares limit leaf
 
 -- the bounding box of what is left over, where there is something
 abbrev pub IsWhole : List PlanePoint → List Square → Option Bounds → Type 0
 IsWhole points squares None = All (IsCovered squares) points
-IsWhole points squares (Some b) = IsBox points squares (length points) b
+IsWhole points squares (Some b) = IsRestBox points squares b

@@ -1,7 +1,7 @@
 //! The bounding box of all points, by passes for the first point of least and of greatest value.
 ghost use Rattle.std.specs.Prelude.{◌≡◌, ◌+◌, ◌*◌, ◌≤◌, [], length};
 ghost use Rattle.bounded_coords.specs.Clouds.{counted_points};
-ghost use Rattle.corner_squares.specs.Extents.{IsBox};
+ghost use Rattle.corner_squares.specs.Extents.{IsRestBox};
 
 use bounded_coords::{Counted, Measure, Point2, Steps};
 use corner_squares::{Bounds, Extent};
@@ -38,7 +38,7 @@ impl Measure<Point2> for Up {
 /// The bounding box, with the number of the first point on each of its sides. Each side is found in a pass of its own, and its
 /// point is read once more.
 pub(crate) fn bounding_box<L: Ledger>(cloud: Counted<'_, Point2>, steps: &mut Steps<L>) -> Bounds
-    ensures bounds { IsBox (counted_points cloud.entry) [] (length (counted_points cloud.entry)) result }
+    ensures bounds { IsRestBox (counted_points cloud.entry) [] result }
     ensures steps { steps.new ≤ steps.old + 8 * length (counted_points cloud.entry) }
 {
     let left = cloud.first_least(&Across, steps);

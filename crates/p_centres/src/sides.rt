@@ -1,7 +1,7 @@
 //! The least side of so many squares that cover the points.
 ghost use Rattle.std.specs.Prelude.{◌≡◌, ◌+◌, ◌*◌, ◌<◌, ◌≤◌, [], length};
 ghost use Rattle.bounded_coords.specs.Clouds.{counted_points};
-ghost use Rattle.corner_squares.specs.Extents.{IsPlaneExtent, IsBox};
+ghost use Rattle.corner_squares.specs.Extents.{IsPlaneExtent, IsRestBox};
 ghost use Rattle.p_centres.specs.Sides.{IsBracket, IsStart, IsTried};
 
 use crate::bounding_box::bounding_box;
@@ -56,7 +56,7 @@ fn first_bracket<L: Ledger>(
 ) -> Bracket
     requires some { 1 ≤ p }
     requires few { p ≤ 3 }
-    requires bounds { IsBox (counted_points cloud) [] (length (counted_points cloud)) bounds }
+    requires bounds { IsRestBox (counted_points cloud) [] bounds }
     ensures bracket { IsBracket (counted_points cloud.entry) p result }
     ensures steps { steps.new ≤ steps.old + 21 * length (counted_points cloud.entry) }
 {
@@ -110,6 +110,7 @@ fn try_side<L: Ledger>(
         bracket.squares = squares;
         return;
     }
+    // What is refuted here is refuted at each smaller side too. The leaves of the last refuted side are the answer's.
     bracket.low = side + 1;
     bracket.leaves = leaves;
 }

@@ -1,18 +1,14 @@
 //! Squares of one size that cover all points.
-ghost use Rattle.std.specs.Prelude.{◌≡◌, ◌+◌, ◌*◌, ◌<◌, ◌≤◌, length, All};
-ghost use Rattle.arrayvec.specs.ArrayVec.{array_vec_len};
+ghost use Rattle.std.specs.Prelude.{◌≡◌, ◌+◌, ◌*◌, ◌≤◌, length, All};
 ghost use Rattle.bounds_model.specs.CentresAnswer.{PassesCentres};
 ghost use Rattle.bounded_coords.specs.Clouds.{counted_points};
 ghost use Rattle.answers.specs.Answers.{centres_of};
-ghost use Rattle.p_centres.specs.Covers.{IsFilledUp};
 ghost use Rattle.p_centres.specs.Leaves.{IsOnlyLeaf};
 
 use crate::sides::least_side;
-use crate::square_answer::answer;
 use answers::CentresAnswer;
-use arrayvec::ArrayVec;
 use bounded_coords::{Counted, Point2, Steps};
-use corner_squares::Square;
+use corner_squares::{filled_up, square_centres, square_radius};
 use std::sync::ledger::Ledger;
 
 /// The least size of `p` squares that cover all points, with such squares, and leaves which show that no smaller ones do:
@@ -26,21 +22,9 @@ pub fn centres<L: Ledger>(cloud: Counted<'_, Point2>, p: u8, steps: &mut Steps<L
 {
     let least = least_side(cloud, p, steps);
     let squares = filled_up(least.squares, p);
-    answer(least.high, squares.as_slice(), least.leaves)
-}
-
-/// As many squares as are asked for: where fewer cover the points, the first one is repeated.
-fn filled_up(squares: ArrayVec<Square, 3>, p: u8) -> ArrayVec<Square, 3>
-    requires some { 0 < array_vec_len squares }
-    requires few { array_vec_len squares ≤ p }
-    requires most { p ≤ 3 }
-    ensures { IsFilledUp p squares.items result.items }
-{
-    let first = squares.as_slice()[0];
-    let mut filled = squares;
-    let some = filled.len();
-    for _i in some..usize::from(p) {
-        filled.push(first);
+    CentresAnswer {
+        size: square_radius(least.high),
+        squares: square_centres(least.high, squares.as_slice()),
+        leaves: least.leaves,
     }
-    filled
 }

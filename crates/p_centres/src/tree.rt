@@ -3,7 +3,8 @@ ghost use Rattle.std.specs.Prelude.{◌≡◌, ◌+◌, ◌*◌, ◌^◌, ◌<�
 ghost use Rattle.arrayvec.specs.ArrayVec.{array_vec_len};
 ghost use Rattle.bounded_coords.specs.Clouds.{counted_points};
 ghost use Rattle.corner_squares.specs.Trees.{nodes};
-ghost use Rattle.p_centres.specs.Covers.{IsPlaced, IsCover, IsRefuted};
+ghost use Rattle.corner_squares.specs.Covers.{IsPlaced, IsCover};
+ghost use Rattle.p_centres.specs.Covers.{IsFirstRefuted};
 
 use crate::surveys::{Finding, survey, whole};
 use answers::Leaf;
@@ -29,7 +30,7 @@ pub(crate) fn cover<L: Ledger>(
     requires leaf_room { array_vec_len leaves.old + 4 ^ depth ≤ 16 }
     ensures covered { IsTrue result → IsCover (counted_points cloud.entry) side (array_vec_len placed.old + depth + 1) placed.new.items }
     ensures refuted { result ≡ false
-        → IsRefuted (counted_points cloud.entry) side depth placed.old.items placed.new.items leaves.old.items leaves.new.items }
+        → IsFirstRefuted (counted_points cloud.entry) side depth placed.old.items placed.new.items leaves.old.items leaves.new.items }
     ensures steps { steps.new ≤ steps.old + nodes depth * length (counted_points cloud.entry) }
 {
     if depth == 0 {
@@ -38,6 +39,8 @@ pub(crate) fn cover<L: Ledger>(
     let Some(bounds) = whole(cloud, placed.as_slice(), steps) else {
         return true;
     };
+    // Of at most three squares that cover what is left over, one can be moved into a corner of its bounding box and still covers all that
+    // it did. So a side at which all four corners fail is refuted.
     for corner in 0..4 {
         placed.push(bounds.corner_square(corner, side));
         if cover(cloud, side, depth - 1, placed, leaves, steps) {
@@ -62,7 +65,7 @@ fn cover_rest<L: Ledger>(
     requires leaf_room { array_vec_len leaves.old < 16 }
     ensures covered { IsTrue result → IsCover (counted_points cloud.entry) side (array_vec_len placed.old + 1) placed.new.items }
     ensures refuted { result ≡ false
-        → IsRefuted (counted_points cloud.entry) side 0 placed.old.items placed.new.items leaves.old.items leaves.new.items }
+        → IsFirstRefuted (counted_points cloud.entry) side 0 placed.old.items placed.new.items leaves.old.items leaves.new.items }
     ensures steps { steps.new ≤ steps.old + length (counted_points cloud.entry) }
 {
     match survey(cloud, placed.as_slice(), side, steps) {

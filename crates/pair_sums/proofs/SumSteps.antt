@@ -1,5 +1,5 @@
 -- Sums over pairs, one pair after another.
-use Rattle.std.proofs.Common.{◌≡◌, sym, ◌∙◌, ap, ap₂, ℕ, ℤ, pos, ◌+ℤ◌, List, [], ◌∷◌, ◌++◌}
+use Rattle.std.proofs.Common.{◌≡◌, sym, ◌∙◌, ap, ap₂, ℕ, pos, ◌+ℤ◌, List, [], ◌∷◌, ◌++◌}
 use Rattle.integers.proofs.Sums.{total-one_more}
 use Rattle.bounds_model.specs.Space.{SpacePoint, point_at, plus, times}
 use Rattle.bounds_model.specs.AnnulusAnswer.{WeightedPair}

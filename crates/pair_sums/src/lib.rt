@@ -6,7 +6,5 @@
 
 mod means;
 mod sums;
-#[cfg(test)]
-mod tests;
 
 pub use sums::PairSums;

@@ -5,23 +5,24 @@ use Rattle.std.proofs.lemmas.Int.{ints}
 use Rattle.std.proofs.lemmas.Bool.{cases_lt}
 use Rattle.integers.proofs.Identities.{den-ring, read, polys}
 use Rattle.integers.proofs.Order.{positive_from_one}
-use Rattle.integers.proofs.Fractions.{fraction_equal, fraction_le_trans}
+use Rattle.integers.proofs.Fractions.{fraction_equal, fraction_lt_equal, fraction_le_trans, fraction_lt_le_trans}
 use Rattle.bounds_model.specs.Plane.{PlanePoint, point_at, squared_length}
 use Rattle.bounds_model.specs.Fractions.{Fraction, SameValue}
 use Rattle.bounds_model.specs.Ranges.{IsFraction}
 use Rattle.bounds_model.specs.Strip.{Span}
-use Rattle.bounds_model.specs.Fans.{HalfFan, HalfCone, half_directions}
-use Rattle.bounds_model.specs.StripAnswer.{PassesStrip, IsNotThinner}
+use Rattle.bounds_model.specs.Fans.{HalfFan, HalfCone, half_directions, IsReduced}
+use Rattle.bounds_model.specs.StripAnswer.{PassesStrip, IsNotThinner, IsThicker}
 use Rattle.parallelogram_strip.specs.FullTurn.{opposite, other_side, cone_at}
 use Rattle.parallelogram_strip.specs.PlainFan.{IsPlainFan}
 use Rattle.parallelogram_strip.specs.Crossings.{reach_of}
-use Rattle.parallelogram_strip.specs.Widths.{IsWidth, IsNotWider}
+use Rattle.parallelogram_strip.specs.Widths.{IsWidth, IsThinner, IsNotWider}
 use Rattle.parallelogram_strip.specs.declared.thinnest.Width.{Width}
 use Rattle.parallelogram_strip.proofs.FullTurn.{IsFullTurn, full_turn_of, direction_at, two_cones}
 use Rattle.directions.proofs.Reaches.{reach_opposite, lowest_long, long_some}
-use Rattle.directions.proofs.SpanBounds.{short_span, AreBounds, bounds_hold, extent_is}
+use Rattle.directions.proofs.SpanBounds.{short_span, AreBounds, bounds_tight, extent_is}
 use Rattle.parallelogram_strip.proofs.Extents.{reach_mixed}
 use Rattle.parallelogram_strip.proofs.Passing.{cone_any}
+use Rattle.model_laws.proofs.CornerLaw.{cross_self}
 use Rattle.bounded_coords.proofs.Ranges.{direction_of_short}
 
 -- the square of the reach times the best's length is at least that of the best's reach times the length, along the direction of this number
@@ -36,6 +37,25 @@ not_thinner_there points fan best w h n = record {
 }
   where
     plain : (a b c d : ℕ) → a * a * d ≤ c * c * b → (pos (a * a) *ℤ pos d) ≤ℤ (pos c *ℤ pos c *ℤ pos b)
+    plain a b c d h = omega (arith, ints)
+
+-- along the direction of this number it is above that
+pub record IsThickerAt (points : List PlanePoint) (fan : HalfFan) (best : Width) (i : ℕ) : Type 0 where
+  pub above : (pos (best.reach * best.reach) *ℤ squared_length (cone_at fan i).direction) <ℤ (reach_of points (cone_at fan i).direction (cone_at fan i) *ℤ reach_of points (cone_at fan i).direction (cone_at fan i) *ℤ pos best.length)
+
+-- what is not below a width is above a thinner one
+pub thicker_than_thinner : (points : List PlanePoint) (fan : HalfFan) (best better : Width) (i : ℕ) → IsFullTurn points (length fan.cones) (cone_at fan) → IsWidth points fan best → IsWidth points fan better → IsThinner better best → i < length fan.cones → IsNotThinnerAt points fan best i → IsThickerAt points fan better i
+thicker_than_thinner points fan best better i turn is_best is_better n l h =
+    let d = (cone_at fan i).direction in
+    record {
+      above = fraction_lt_le_trans (pos (better.reach * better.reach)) (pos better.length) (pos (best.reach * best.reach)) (pos best.length) (reach_of points d (cone_at fan i) *ℤ reach_of points d (cone_at fan i)) (squared_length d)
+          (positive is_better.some) (positive is_best.some) (lowest_long d (turn.lowest i (omega arith))) (plain better.reach better.length best.reach best.length n) h.at_least;
+    }
+  where
+    positive : {n : ℕ} → 0 < n → pos 0 <ℤ pos n
+    positive h = omega (arith, ints)
+
+    plain : (a b c d : ℕ) → a * a * d < c * c * b → (pos (a * a) *ℤ pos d) <ℤ (pos (c * c) *ℤ pos b)
     plain a b c d h = omega (arith, ints)
 
 -- and so is it for a better width
@@ -54,8 +74,21 @@ thinner_more points fan best better i turn is_best is_better n l h =
     plain a b c d h = omega (arith, ints)
 
 -- one of two widths is a width
-pub one_width : (points : List PlanePoint) (fan : HalfFan) (a b c : Width) → IsWidth points fan a → IsWidth points fan b → (c ≡ a) ⊎ (c ≡ b) → IsWidth points fan c
-one_width points fan a b c ha hb one = elim one [ inl e ↦ subst (IsWidth points fan) (sym e) ha | inr e ↦ subst (IsWidth points fan) (sym e) hb ]
+pub one_width : (points : List PlanePoint) (fan : HalfFan) (a b c : Width) → IsWidth points fan a → IsWidth points fan b → (c ≡ a) ⊎ ((c ≡ b) × IsThinner b a) → IsWidth points fan c
+one_width points fan a b c ha hb one = elim one [ inl e ↦ subst (IsWidth points fan) (sym e) ha | inr e ↦ subst (IsWidth points fan) (sym e.0) hb ]
+
+-- all widths before the first of the least are above it, with one more that was looked at
+pub thicker_before : (points : List PlanePoint) (fan : HalfFan) (best next better : Width) (j : ℕ) → IsFullTurn points (length fan.cones) (cone_at fan) → IsWidth points fan best → IsWidth points fan next → next.direction ≡ j
+    → ((k : ℕ) → k < j → IsNotThinnerAt points fan best k) → ((k : ℕ) → k < best.direction → IsThickerAt points fan best k) → (better ≡ best) ⊎ ((better ≡ next) × IsThinner next best) → (k : ℕ) → k < better.direction → IsThickerAt points fan better k
+thicker_before points fan best next better j turn is_best is_next at_j seen before one k l = elim one [
+  | inl e ↦ subst (λ x. IsThickerAt points fan x k) (sym e) (before k (subst (λ (x : Width). k < x.direction) e l))
+  | inr e ↦
+      let low : k < next.direction = subst (λ (x : Width). k < x.direction) e.0 l in
+      subst (λ x. IsThickerAt points fan x k) (sym e.0) (thicker_than_thinner points fan best next k turn is_best is_next e.1 (lower low is_next.listed) (seen k (subst (λ n. k < n) at_j low)))
+]
+  where
+    lower : {k i n : ℕ} → k < i → i < n → k < n
+    lower h g = omega arith
 
 -- at the last direction it is as at the first
 at_last : (points : List PlanePoint) (fan : HalfFan) (best : Width) (m : ℕ) → IsFullTurn points m (cone_at fan) → IsNotThinnerAt points fan best 0 → IsNotThinnerAt points fan best m
@@ -75,10 +108,10 @@ at_last points fan best m turn h =
     same x y = read (x ∷ y ∷ []) (λ xs a b. simp (a, b, polys) (den-ring xs _ _ tt))
 
 -- the strip with the least width of all directions passes
-pub strip_passes : (points : List PlanePoint) (fan : HalfFan) (best : Width) (size : Fraction) (span : Span) → IsPlainFan points fan → IsWidth points fan best → ((k : ℕ) → k < length fan.cones → IsNotThinnerAt points fan best k)
+pub strip_passes : (points : List PlanePoint) (fan : HalfFan) (best : Width) (size : Fraction) (span : Span) → IsPlainFan points fan → IsWidth points fan best → ((k : ℕ) → k < length fan.cones → IsNotThinnerAt points fan best k) → ((k : ℕ) → k < best.direction → IsThickerAt points fan best k)
     → IsFraction size → SameValue size (record { n = pos (best.reach * best.reach); d = pos best.length }) → AreBounds points (cone_at fan best.direction).direction (cone_at fan best.direction).high (cone_at fan best.direction).low span
     → PassesStrip points (record { size = size; direction = (cone_at fan best.direction).direction; bounds = span; fan = fan })
-strip_passes points fan best size span h is_best seen fraction same bounds =
+strip_passes points fan best size span h is_best seen before fraction same bounds =
     let turn = full_turn_of points fan h in
     let j = best.direction in
     let d = (cone_at fan j).direction in
@@ -100,7 +133,15 @@ strip_passes points fan best size span h is_best seen fraction same bounds =
         by_reach i (slice_index_or fan.cones i e) (omega arith) (ap (λ c. reach_of points (cone_at fan i).direction c) (cone_any fan i e l)),
         by_reach (i + 1) (slice_index_or fan.cones i e) (omega arith) (ap (λ c. reach_of points (cone_at fan (i + 1)).direction c) (cone_any fan i e l) ∙ next_reach i l),
       );
-      inside = bounds_hold points d (cone_at fan j).high (cone_at fan j).low span (turn.begins j listed) bounds;
+      first = (
+        j,
+        is_best.listed,
+        record {
+          reduced = subst (λ v. IsReduced v d) (sym (direction_at points fan h j (omega (arith, is_best.listed)))) (record { parallel = cross_self d; ahead = lowest_long d (turn.lowest j listed); lowest = turn.lowest j listed });
+          before = λ i e l m. thicker_there i e l (before i m);
+        },
+      );
+      tight = bounds_tight points d (cone_at fan j).high (cone_at fan j).low span (turn.named j listed).0 (turn.named j listed).1 (turn.begins j listed) bounds;
       size = same_size;
     }
   where
@@ -113,6 +154,16 @@ strip_passes points fan best size span h is_best seen fraction same bounds =
       where
         same_index : (i : ℕ) → i ≤ length fan.cones → length fan.cones ≤ i → length fan.cones ≡ i
         same_index i l n = omega arith
+
+    positive_length : pos 0 <ℤ pos best.length
+    positive_length = let some = is_best.some in omega (arith, ints)
+
+    thicker_there : (i : ℕ) (e : HalfCone) → i < length fan.cones → IsThickerAt points fan best i → IsThicker points size (point_at (half_directions fan) i) (slice_index_or fan.cones i e)
+    thicker_there i e l above =
+        subst (λ v. IsThicker points size v (slice_index_or fan.cones i e)) (sym (direction_at points fan h i (omega (arith, l))))
+        (subst (λ (c : HalfCone). IsThicker points size (cone_at fan i).direction c) (sym (cone_any fan i e l))
+        (fraction_lt_equal (pos (best.reach * best.reach)) (pos best.length) size.n size.d (reach_of points (cone_at fan i).direction (cone_at fan i) *ℤ reach_of points (cone_at fan i).direction (cone_at fan i)) (squared_length (cone_at fan i).direction)
+        positive_length (positive_from_one fraction.lowest.not_negative.denominator) (sym same) above.above))
 
     by_reach : (i : ℕ) (cone : HalfCone) → i ≤ length fan.cones → reach_of points (cone_at fan i).direction cone ≡ reach_of points (cone_at fan i).direction (cone_at fan i) → IsNotThinner points size (point_at (half_directions fan) i) cone
     by_reach i cone l e =

@@ -15,6 +15,10 @@ pub record IsWidth (points : List PlanePoint) (fan : HalfFan) (w : Width) : Type
   pub reach_limit : w.reach ≤ 320000000000
   pub length_limit : w.length ≤ 320000000000
 
+-- the width of the one is below that of the other
+abbrev pub IsThinner : Width → Width → Type 0
+IsThinner a b = a.reach * a.reach * b.length < b.reach * b.reach * a.length
+
 -- the width of the one is not above that of the other
 abbrev pub IsNotWider : Width → Width → Type 0
 IsNotWider a b = a.reach * a.reach * b.length ≤ b.reach * b.reach * a.length

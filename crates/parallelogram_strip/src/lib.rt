@@ -17,8 +17,6 @@ mod crossing;
 mod flat;
 mod smallest;
 mod solvers;
-#[cfg(test)]
-mod tests;
 mod thinnest;
 
 pub use solvers::{parallelogram, strip};

@@ -4,7 +4,7 @@ ghost use Rattle.bounds_model.specs.StripAnswer.{PassesStrip};
 ghost use Rattle.bounded_coords.specs.Clouds.{points_of};
 ghost use Rattle.answers.specs.Answers.{half_fan_of, strip_of};
 ghost use Rattle.parallelogram_strip.specs.PlainFan.{IsPlainFan};
-ghost use Rattle.parallelogram_strip.specs.Widths.{IsWidth, IsNotWider};
+ghost use Rattle.parallelogram_strip.specs.Widths.{IsWidth, IsThinner, IsNotWider};
 
 use answers::{HalfFan, StripAnswer};
 use bounded_coords::Cloud2;
@@ -34,13 +34,13 @@ fn width_at(cloud: Cloud2<'_>, fan: &HalfFan, j: u32) -> Width
     }
 }
 
-/// The one with the smaller width.
+/// The one with the smaller width, the first of two that are equal.
 fn thinner(a: Width, b: Width) -> Width
     requires a_reach { a.reach ≤ 320000000000 }
     requires a_length { a.length ≤ 320000000000 }
     requires b_reach { b.reach ≤ 320000000000 }
     requires b_length { b.length ≤ 320000000000 }
-    ensures one { (result ≡ a) ⊎ (result ≡ b) }
+    ensures one { (result ≡ a) ⊎ ((result ≡ b) × IsThinner b a) }
     ensures not_wider_a { IsNotWider result a }
     ensures not_wider_b { IsNotWider result b }
 {
@@ -49,7 +49,8 @@ fn thinner(a: Width, b: Width) -> Width
     if q < p { b } else { a }
 }
 
-/// The strip of least width along a direction of the fan, which no strip around the points is below.
+/// The strip of least width along a direction of the fan, the first of them where several are least: no strip around the points is
+/// below it, and none as thin comes before it.
 pub(crate) fn strip_of_fan(cloud: Cloud2<'_>, fan: HalfFan) -> StripAnswer
     requires { IsPlainFan (points_of cloud) (half_fan_of fan) }
     ensures { PassesStrip (points_of cloud.entry) (strip_of result) }

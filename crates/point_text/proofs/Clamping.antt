@@ -7,9 +7,9 @@ use Rattle.byte_tools.proofs.Clamping.{within_or_not}
 use Rattle.point_text.specs.Clamps.{clamped}
 
 -- what a coordinate in bounds leads to, and anything else, does not change where the coordinate is clamped
-through_clamp : {A : Type 0} (limit : ℕ) (z : ℤ) → limit ≤ 200000 → (inside : ℤ → A) (outside : A)
+through_clamp : {A : Type 0} (limit : ℕ) (z : ℤ) → limit ≤ plane_limit → (inside : ℤ → A) (outside : A)
     → cond (is_within limit (clamped z)) (inside (clamped z)) outside ≡ cond (is_within limit z) (inside z) outside
-through_clamp limit z small inside outside = within_or_not 200000 limit z small inside outside
+through_clamp limit z small inside outside = within_or_not plane_limit limit z small inside outside
 
 -- ---- points of clamped coordinates
 

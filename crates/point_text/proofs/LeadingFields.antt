@@ -9,11 +9,12 @@ use Rattle.std.proofs.lemmas.List.Elements.{All-head, All-tail, All-cons}
 use Rattle.std.specs.Char.{is_ascii_digit}
 use Rattle.std.specs.List.{All, list_all, position_from, position_or_len, before_first, after_first}
 use Rattle.std.specs.Option.{option_map}
+use Rattle.bounds_model.specs.Plane.{plane_limit}
 use Rattle.bounds_model.specs.PointText.{is_blank, is_comment_sign, fields_of, number, bad_form, plane_meaning, space_meaning}
 use Rattle.point_text.specs.Clamps.{clamped_size, clamped}
 use Rattle.byte_tools.specs.LeadingDigits.{number_behind, BeginsWithNoDigit}
 use Rattle.point_text.specs.Fields.{clamped_number}
-use Rattle.point_text.specs.InHand.{Write}
+use Rattle.point_text.specs.Fields.{Write}
 use Rattle.point_text.specs.Lines.{numbers_of, uncommented, is_field_end, first_field, are_behind_field, IsUnsigned, HasNoNumber}
 use Rattle.point_text.proofs.Bytewise.{natural_all, natural_none, no_digit, unsigned_number, plus_number, minus_number}
 use Rattle.point_text.proofs.Clamping.{plane_clamped}
@@ -199,7 +200,7 @@ fields_parted xs some = fields_of-first (uncommented xs) some ∙ ap (λ f. f �
 
 pub numbers_some : (xs rest : List ℕ) (x : ℤ) → LeadsTo xs x rest → (z : ℤ) × (x ≡ clamped z) × (numbers_of (uncommented xs) ≡ Some z ∷ numbers_of (uncommented rest))
 numbers_some xs rest x (is, parts) =
-    let read = number_found 200000 (number (first_field xs)) x (sym is) in
+    let read = number_found plane_limit (number (first_field xs)) x (sym is) in
     let behind : fields_of (after_first is_blank (uncommented xs)) ≡ fields_of (uncommented rest) = behind_first xs ∙ ap (λ ys. fields_of (uncommented ys)) (sym (rest_is xs rest parts)) in
     let fields : fields_of (uncommented xs) ≡ first_field xs ∷ fields_of (uncommented rest) = fields_parted xs (some (position_or_len is_blank (uncommented xs)) refl) ∙ ap (λ fs. first_field xs ∷ fs) behind in
     (read.0, read.1, ap (map number) fields ∙ ap (λ a. a ∷ numbers_of (uncommented rest)) read.2)

@@ -3,6 +3,7 @@ pub mod Clamping
 pub mod FieldLaws
 pub mod Points
 pub mod SetLaws
+pub mod ScaleLaws
 pub mod Splits
 pub mod KeptPoints
 pub mod Refusing
@@ -11,9 +12,11 @@ pub mod Judging
 pub mod TextLines
 pub mod Bytewise
 pub mod Linewise
-pub mod SuitedSets
+pub mod ShapedSets
 pub mod Pieces
 pub mod PassedLines
 pub mod LeadingFields
 pub mod Runs
+pub mod SaidLines
+pub mod Outcomes
 mod Examples

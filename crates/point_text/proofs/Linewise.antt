@@ -1,5 +1,5 @@
 -- A line, as one more byte is read.
-use Rattle.std.proofs.Common.{◌≡◌, ◌∙◌, refl, sym, ap, ℕ, ◌-◌, ◌==◌, Bool, true, false, cond, List, [], ◌∷◌, ◌++◌, length, length-append, take, get_or, nat_le, codes, append_assoc, arith, inl, inr, None}
+use Rattle.std.proofs.Common.{◌≡◌, ◌∙◌, refl, sym, ap, ℕ, zero, suc, ◌≤◌, ◌-◌, ◌==◌, Bool, true, false, cond, List, [], ◌∷◌, ◌++◌, length, length-append, take, get_or, nat_le, codes, append_assoc, arith, None}
 use Rattle.std.specs.List.{before_first}
 use Rattle.std.specs.Str.Lines.{strip_carriage_return}
 use Rattle.std.proofs.Math.Seq.{take-append_seam, get_or-append_seam}
@@ -7,23 +7,36 @@ use Rattle.std.proofs.lemmas.Bool.Decides.{nat_tests}
 use Rattle.std.proofs.lemmas.List.Elements.{filter-append, All-append, All-cons}
 use Rattle.bounds_model.specs.PointText.{is_comment_sign, content, number}
 use Rattle.point_text.specs.declared.field_in_hand.FieldInHand.{FieldInHand}
-use Rattle.point_text.specs.declared.field_in_hand.FieldInHand.TheVariants.{Empty, Plus, Minus, TwoDashes, ThreeDashes, Positive, Negative, Other}
+use Rattle.point_text.specs.declared.field_in_hand.FieldInHand.TheVariants.{Empty, Plus, Digits, Word, Other}
+use Rattle.point_text.specs.declared.number.Sign.{Sign}
+use Rattle.point_text.specs.declared.number.Sign.TheVariants as signs
+use Rattle.point_text.specs.declared.fields.Keyword.{Keyword}
+use Rattle.point_text.specs.declared.fields.Keyword.TheVariants.{Separator, Scale}
+use Rattle.point_text.specs.Fields.{Write, sign_bytes, letters}
 use Rattle.point_text.specs.declared.line_in_hand.LineInHand.TheVariants.{Commented}
 use Rattle.point_text.specs.declared.line_in_hand.ContentInHand.{ContentInHand}
 use Rattle.point_text.specs.InHand.{IsFieldInHand, IsLineInHand, HasNoComment, filled}
 use Rattle.point_text.proofs.Bytewise.{write_some}
 use Rattle.byte_tools.proofs.FirstIndices.{before_first_all, before_first_at}
 
+-- a sign or none, and digits, have a byte
+digits_some : (sign : Sign) (bytes digits : List ℕ) (size : ℕ) → bytes ≡ sign_bytes sign ++ digits → Write digits size → nat_le 1 (length bytes) ≡ true
+digits_some signs.Absent bytes digits size is write = rw is (write_some digits size write)
+digits_some signs.Plus bytes digits size is write = rw is (grind (arith, nat_tests))
+digits_some signs.Minus bytes digits size is write = rw is (grind (arith, nat_tests))
+
+-- so have some bytes of a word
+word_some : (word : Keyword) (seen : ℕ) (bytes : List ℕ) → bytes ≡ take seen (letters word) → 1 ≤ seen → nat_le 1 (length bytes) ≡ true
+word_some word zero bytes is some = absurd (omega (arith, some))
+word_some Separator (suc n) bytes is some = rw is (grind (arith, nat_tests))
+word_some Scale (suc n) bytes is some = rw is (grind (arith, nat_tests))
+
 -- a field in hand other than the empty one has a byte
 pub field_some : (f : FieldInHand) (bytes : List ℕ) → IsFieldInHand f bytes → (f ≡ Empty → ⊥) → nat_le 1 (length bytes) ≡ true
 field_some Empty bytes is some = absurd (some refl)
 field_some Plus bytes is some = rw is refl
-field_some Minus bytes is some = rw is refl
-field_some TwoDashes bytes is some = rw is refl
-field_some ThreeDashes bytes is some = rw is refl
-field_some (Positive size) bytes (digits, inl is, write) some = rw is (write_some digits size write)
-field_some (Positive size) bytes (digits, inr is, write) some = rw is (grind (arith, nat_tests))
-field_some (Negative size) bytes (digits, is, write) some = rw is (grind (arith, nat_tests))
+field_some (Digits sign size) bytes (digits, is, write) some = digits_some sign bytes digits size is write
+field_some (Word word seen) bytes (is, least, most) some = word_some word seen bytes is least
 field_some Other [] is some = let wrong : number (codes "1") ≡ None = (is (codes "1")).0 in cc
 field_some Other (b ∷ bytes) is some = grind (arith, nat_tests)
 

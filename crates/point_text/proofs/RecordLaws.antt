@@ -10,7 +10,7 @@ use Rattle.csv.specs.declared.parser.Action.TheVariants as act
 use Rattle.csv.specs.declared.reader.Reader.{Reader}
 use Rattle.csv.specs.declared.reader.Trim.TheVariants as trim
 use Rattle.csv.proofs.ReadFacts.{rows-more, rows-end}
-use Rattle.bounds_model.specs.Asks.{Ask}
+use Rattle.bounds_model.specs.Asks.{Shape}
 use Rattle.point_text.specs.declared.judgement.Judgement.{Judgement}
 use Rattle.point_text.specs.Files.{records_of}
 use Rattle.point_text.specs.Judged.{IsJudgement, lines_judged}
@@ -160,7 +160,7 @@ abbrev known : Bor (List ℕ) → Option (List ℕ)
 known bytes = Some bytes.now
 
 -- the reader stands between records, and those before it were judged
-pub record Judges (ask : Ask) (bytes : List ℕ) (reader : Reader (Bor (List ℕ))) (judgement : Judgement) : Type 0 where
+pub record Judges (shape : Shape) (bytes : List ℕ) (reader : Reader (Bor (List ℕ))) (judgement : Judgement) : Type 0 where
   pub untrimmed : reader.trim ≡ trim.None
   pub ready : Ready reader
   pub config : reader.config ≡ default_config
@@ -168,12 +168,12 @@ pub record Judges (ask : Ask) (bytes : List ℕ) (reader : Reader (Bor (List ℕ
   pub source : source_of known reader ≡ Some rest
   pub before : List (List (List ℕ))
   pub left : Left bytes reader.state rest before
-  pub judged : IsJudgement judgement ask before
+  pub judged : IsJudgement judgement shape before
   pub few : lines_judged judgement + length rest ≤ length bytes
 
-pub judges_none : (ask : Ask) (bytes : List ℕ) (reader : Reader (Bor (List ℕ))) (judgement : Judgement) → reader.trim ≡ trim.None → Ready reader → reader.config ≡ default_config
-    → source_of known reader ≡ Some (strip_bom bytes) → reader.state ≡ st.StartRecord → IsJudgement judgement ask [] → lines_judged judgement ≡ 0 → Judges ask bytes reader judgement
-judges_none ask bytes reader judgement untrimmed ready config source start judged none = record {
+pub judges_none : (shape : Shape) (bytes : List ℕ) (reader : Reader (Bor (List ℕ))) (judgement : Judgement) → reader.trim ≡ trim.None → Ready reader → reader.config ≡ default_config
+    → source_of known reader ≡ Some (strip_bom bytes) → reader.state ≡ st.StartRecord → IsJudgement judgement shape [] → lines_judged judgement ≡ 0 → Judges shape bytes reader judgement
+judges_none shape bytes reader judgement untrimmed ready config source start judged none = record {
   untrimmed = untrimmed;
   ready = ready;
   config = config;
@@ -198,10 +198,10 @@ row_read reader next row rest config source read =
     (p, is, fields, state, rw left source')
 
 -- a record that was read
-pub judges_more : (ask : Ask) (bytes : List ℕ) (reader next : Reader (Bor (List ℕ))) (judgement judgement' : Judgement) (row : List (List ℕ)) (is : Judges ask bytes reader judgement)
-    → ReadRecord known reader next true row → next.first ≡ true → IsJudgement judgement' ask (is.before ++ row ∷ []) → lines_judged judgement' ≤ lines_judged judgement + 1
-    → Judges ask bytes next judgement'
-judges_more ask bytes reader next judgement judgement' row is read first judged more =
+pub judges_more : (shape : Shape) (bytes : List ℕ) (reader next : Reader (Bor (List ℕ))) (judgement judgement' : Judgement) (row : List (List ℕ)) (is : Judges shape bytes reader judgement)
+    → ReadRecord known reader next true row → next.first ≡ true → IsJudgement judgement' shape (is.before ++ row ∷ []) → lines_judged judgement' ≤ lines_judged judgement + 1
+    → Judges shape bytes next judgement'
+judges_more shape bytes reader next judgement judgement' row is read first judged more =
     let (p, is_next, fields, state, source) = row_read reader next row is.rest is.config is.source read in
     let left = left_more bytes reader.state is.rest is.before p is.left is_next in
     record {
@@ -217,7 +217,7 @@ judges_more ask bytes reader next judgement judgement' row is read first judged 
     }
 
 -- no further record was read
-pub judges_all : (ask : Ask) (bytes : List ℕ) (reader next : Reader (Bor (List ℕ))) (judgement : Judgement) (is : Judges ask bytes reader judgement)
+pub judges_all : (shape : Shape) (bytes : List ℕ) (reader next : Reader (Bor (List ℕ))) (judgement : Judgement) (is : Judges shape bytes reader judgement)
     → ReadRecord known reader next false [] → records_of bytes ≡ is.before
-judges_all ask bytes reader next judgement is read =
+judges_all shape bytes reader next judgement is read =
     left_none bytes reader.state is.rest is.before is.left (rows-end known reader next [] default_config is.rest is.config is.source read)

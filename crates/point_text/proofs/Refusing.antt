@@ -1,9 +1,10 @@
 -- The first refused line of lines to which one more was added.
-use Rattle.std.proofs.Common.{◌≡◌, ◌∙◌, refl, sym, ap, ℕ, ◌+◌, ◌<◌, true, false, cond, nat_le, arith, Option, Some, None, Result, List, [], ◌∷◌, ◌++◌, length, length-append, append_assoc, append-nil, MatchOption}
+use Rattle.std.proofs.Common.{◌≡◌, ◌∙◌, refl, sym, ap, ℕ, ◌+◌, ◌<◌, Bool, true, false, cond, nat_le, arith, Option, Some, None, Result, List, [], ◌∷◌, ◌++◌, length, length-append, append_assoc, append-nil, MatchOption}
 use Rattle.std.specs.Option.{option_or, is_some}
+use Rattle.std.specs.List.{list_any}
 use Rattle.std.proofs.lemmas.Bool.Decides.{nat_tests}
 use Rattle.bounds_model.specs.Asks.{Sets}
-use Rattle.bounds_model.specs.PointText.{Meaning, Refusal, says_point, says_nothing, too_many, most_points, sets_of, last_set, line_refusal, first_refusal, unless_refused, judged}
+use Rattle.bounds_model.specs.PointText.{Meaning, Refusal, says_point, says_nothing, too_many, most_points, sets_of, last_set, scale_of, begins, line_refusal, first_refusal, at_scale, unless_refused, judged}
 use Rattle.point_text.specs.declared.kept.KeptSets.{KeptSets}
 use Rattle.point_text.specs.declared.text.TextFault.{TextFault}
 use Rattle.point_text.specs.Refusals.{refusal_of}
@@ -12,6 +13,7 @@ use Rattle.point_text.specs.Judged.{Accepts, IsFaultOf}
 use Rattle.point_text.specs.Keeping.{keeps_point}
 use Rattle.point_text.proofs.KeptPoints.{keeps_more}
 use Rattle.point_text.proofs.SetLaws.{sets_of-nothing}
+use Rattle.point_text.proofs.ScaleLaws.{scale_of-more}
 
 or_assoc : (a b c : Option Refusal) → option_or a (option_or b c) ≡ option_or (option_or a b) c
 or_assoc None b c = refl
@@ -52,12 +54,15 @@ module _ {P : Type 0} where
   fault_stays (Some f) lines more A B some is = stays (refusal_of f) lines more is
 
   -- one more line is accepted
-  pub accepts_next : (kept next : KeptSets P) (count : ℕ) (lines : List (Meaning P)) (m : Meaning P) → Accepts kept count lines → line_refusal lines m ≡ None
-      → Keeps next (sets_of (lines ++ m ∷ [])) → Accepts next (count + 1) (lines ++ m ∷ [])
-  accepts_next kept next count lines m is good keeps = record {
+  pub accepts_next : (kept next : KeptSets P) (count scale now : ℕ) (begun later : Bool) (lines : List (Meaning P)) (m : Meaning P) → Accepts kept count scale begun lines
+      → line_refusal lines m ≡ None → Keeps next (sets_of (lines ++ m ∷ [])) → scale_of (lines ++ m ∷ []) ≡ now → list_any begins (lines ++ m ∷ []) ≡ later
+      → Accepts next (count + 1) now later (lines ++ m ∷ [])
+  accepts_next kept next count scale now begun later lines m is good keeps scale_is begun_is = record {
     accepted = refusal_of_next lines m is.accepted ∙ good;
     as_many = length-append lines (m ∷ []) ∙ ap (λ n. n + 1) is.as_many;
     keeps = keeps;
+    scale = scale_is;
+    begun = begun_is;
   }
 
 -- where no fault was found
@@ -72,8 +77,10 @@ without_fault (Some f) A B none is = cc
 -- a line that says nothing changes nothing
 pub judged_nothing : {P : Type 0} (judge : List (List P) → Result Sets Refusal) (lines : List (Meaning P)) → judged judge (lines ++ says_nothing ∷ []) ≡ judged judge lines
 judged_nothing judge lines =
-    ap (λ sets. unless_refused (first_refusal [] (lines ++ says_nothing ∷ [])) (judge sets)) (sets_of-nothing lines)
-    ∙ ap (λ refusal. unless_refused refusal (judge (sets_of lines))) (first_refusal-append [] lines (says_nothing ∷ []) ∙ or_none (first_refusal [] lines))
+    let more = lines ++ says_nothing ∷ [] in
+    ap (λ sets. unless_refused (first_refusal [] more) (at_scale (scale_of more) (judge sets))) (sets_of-nothing lines)
+    ∙ (ap (λ scale. unless_refused (first_refusal [] more) (at_scale scale (judge (sets_of lines)))) (scale_of-more lines (says_nothing ∷ []) refl)
+    ∙ ap (λ refusal. unless_refused refusal (at_scale (scale_of lines) (judge (sets_of lines)))) (first_refusal-append [] lines (says_nothing ∷ []) ∙ or_none (first_refusal [] lines)))
 
 -- ---- a line that says a point
 

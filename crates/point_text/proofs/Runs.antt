@@ -1,5 +1,5 @@
 -- Digits that are added at once to a field, a content or a line in hand.
-use Rattle.std.proofs.Common.{◌≡◌, ◌∙◌, refl, sym, ap, ℕ, ◌&&◌, min, Bool, true, false, List, [], ◌∷◌, ◌++◌, append_assoc, append-nil, inl, inr, arith}
+use Rattle.std.proofs.Common.{◌≡◌, ◌∙◌, refl, sym, ap, ℕ, ◌&&◌, Bool, true, false, List, [], ◌∷◌, ◌++◌, append_assoc, append-nil, arith}
 use Rattle.std.specs.Char.{is_ascii_digit}
 use Rattle.std.specs.List.{All, list_all}
 use Rattle.std.specs.Str.Lines.{strip_carriage_return}
@@ -8,7 +8,11 @@ use Rattle.bounds_model.specs.PointText.{is_blank, is_comment_sign}
 use Rattle.byte_tools.specs.LeadingDigits.{AreCut}
 use Rattle.point_text.specs.InHand.{IsFieldInHand, IsContentInHand, IsLineInHand, Adds, AddsDigits}
 use Rattle.point_text.specs.declared.field_in_hand.FieldInHand.{FieldInHand}
-use Rattle.point_text.specs.declared.field_in_hand.FieldInHand.TheVariants.{Positive, Negative}
+use Rattle.point_text.specs.declared.field_in_hand.FieldInHand.TheVariants.{Digits}
+use Rattle.point_text.specs.declared.number.Sign.{Sign}
+use Rattle.point_text.specs.Fields.{sign_bytes}
+use Rattle.point_text.specs.Clamps.{clamped_size}
+use Rattle.bounds_model.specs.Plane.{plane_limit}
 use Rattle.point_text.specs.declared.line_in_hand.ContentInHand.{ContentInHand}
 use Rattle.point_text.specs.declared.line_in_hand.LineInHand.{LineInHand}
 use Rattle.point_text.specs.declared.line_in_hand.LineInHand.TheVariants.{Open}
@@ -22,26 +26,15 @@ adds_none IsInHand held text = record { adds = record { added = []; text_is = re
 
 -- ---- to a field
 
-pub adds_positive : (size least written : ℕ) (text rest : List ℕ) → least ≡ min size 200001 → AreCut 200000 least text written rest → AddsDigits IsFieldInHand (Positive size) (Positive written) text rest
-adds_positive size least written text rest is cut = record {
-  adds = record {
-    added = cut.digits;
-    text_is = cut.text_is;
-    stands = λ bytes (digits, form, write).
-        let more = write_digits digits cut.digits size written write cut.are_digits (rw is at cut.number) in
-        (digits ++ cut.digits, elim form [ inl same ↦ inl (ap (λ bs. bs ++ cut.digits) same) | inr same ↦ inr (ap (λ bs. bs ++ cut.digits) same) ], more);
-  };
-  digits = cut.are_digits;
-}
-
-pub adds_negative : (size least written : ℕ) (text rest : List ℕ) → least ≡ min size 200001 → AreCut 200000 least text written rest → AddsDigits IsFieldInHand (Negative size) (Negative written) text rest
-adds_negative size least written text rest is cut = record {
+pub adds_digits : (sign : Sign) (size least written : ℕ) (text rest : List ℕ) → least ≡ clamped_size size → AreCut plane_limit least text written rest
+    → AddsDigits IsFieldInHand (Digits sign size) (Digits sign written) text rest
+adds_digits sign size least written text rest is cut = record {
   adds = record {
     added = cut.digits;
     text_is = cut.text_is;
     stands = λ bytes (digits, same, write).
         let more = write_digits digits cut.digits size written write cut.are_digits (rw is at cut.number) in
-        (digits ++ cut.digits, ap (λ bs. bs ++ cut.digits) same, more);
+        (digits ++ cut.digits, ap (λ bs. bs ++ cut.digits) same ∙ append_assoc (sign_bytes sign) digits cut.digits, more);
   };
   digits = cut.are_digits;
 }

@@ -1,7 +1,7 @@
 -- The sets of points that lines say, as one more line is read.
 use Rattle.std.proofs.Common.{◌≡◌, ◌∙◌, refl, ap, ℕ, zero, suc, ◌+◌, ◌<◌, List, [], ◌∷◌, ◌++◌, length, get_or, arith}
 use Rattle.std.specs.List.{onto_first}
-use Rattle.bounds_model.specs.PointText.{Meaning, says_nothing, ends_set, says_point, bad_form, out_of_bounds, sets_of, last_set}
+use Rattle.bounds_model.specs.PointText.{Meaning, says_nothing, ends_set, says_point, says_scale, bad_form, out_of_bounds, sets_of, last_set}
 use Rattle.point_text.specs.Kept.{with_point}
 
 module _ {P : Type 0} where
@@ -50,16 +50,25 @@ module _ {P : Type 0} where
   sets_of-some (says_nothing ∷ rest) = sets_of-some rest
   sets_of-some (ends_set ∷ rest) = omega arith
   sets_of-some (says_point p ∷ rest) = length-onto_first p (sets_of rest)
+  sets_of-some (says_scale scale ∷ rest) = sets_of-some rest
   sets_of-some (bad_form ∷ rest) = sets_of-some rest
   sets_of-some (out_of_bounds ∷ rest) = sets_of-some rest
 
+  -- lines that say no point and end no set
+  sets_of-more : (before more : List (Meaning P)) → sets_of more ≡ [] ∷ [] → sets_of (before ++ more) ≡ sets_of before
+  sets_of-more [] more none = none
+  sets_of-more (says_nothing ∷ rest) more none = sets_of-more rest more none
+  sets_of-more (ends_set ∷ rest) more none = ap (λ sets. [] ∷ sets) (sets_of-more rest more none)
+  sets_of-more (says_point p ∷ rest) more none = ap (onto_first p) (sets_of-more rest more none)
+  sets_of-more (says_scale scale ∷ rest) more none = sets_of-more rest more none
+  sets_of-more (bad_form ∷ rest) more none = sets_of-more rest more none
+  sets_of-more (out_of_bounds ∷ rest) more none = sets_of-more rest more none
+
   pub sets_of-nothing : (before : List (Meaning P)) → sets_of (before ++ says_nothing ∷ []) ≡ sets_of before
-  sets_of-nothing [] = refl
-  sets_of-nothing (says_nothing ∷ rest) = sets_of-nothing rest
-  sets_of-nothing (ends_set ∷ rest) = ap (λ sets. [] ∷ sets) (sets_of-nothing rest)
-  sets_of-nothing (says_point p ∷ rest) = ap (onto_first p) (sets_of-nothing rest)
-  sets_of-nothing (bad_form ∷ rest) = sets_of-nothing rest
-  sets_of-nothing (out_of_bounds ∷ rest) = sets_of-nothing rest
+  sets_of-nothing before = sets_of-more before (says_nothing ∷ []) refl
+
+  pub sets_of-scale : (before : List (Meaning P)) (scale : ℕ) → sets_of (before ++ says_scale scale ∷ []) ≡ sets_of before
+  sets_of-scale before scale = sets_of-more before (says_scale scale ∷ []) refl
 
   pub onto_first-end : (p : P) (sets : List (List P)) → 0 < length sets → onto_first p (sets ++ [] ∷ []) ≡ onto_first p sets ++ [] ∷ []
   onto_first-end p [] some = absurd (omega arith)
@@ -70,6 +79,7 @@ module _ {P : Type 0} where
   sets_of-end (says_nothing ∷ rest) = sets_of-end rest
   sets_of-end (ends_set ∷ rest) = ap (λ sets. [] ∷ sets) (sets_of-end rest)
   sets_of-end (says_point p ∷ rest) = ap (onto_first p) (sets_of-end rest) ∙ onto_first-end p (sets_of rest) (sets_of-some rest)
+  sets_of-end (says_scale scale ∷ rest) = sets_of-end rest
   sets_of-end (bad_form ∷ rest) = sets_of-end rest
   sets_of-end (out_of_bounds ∷ rest) = sets_of-end rest
 
@@ -87,5 +97,6 @@ module _ {P : Type 0} where
   sets_of-point (says_nothing ∷ rest) p = sets_of-point rest p
   sets_of-point (ends_set ∷ rest) p = ap (λ sets. [] ∷ sets) (sets_of-point rest p) ∙ with_point-after p (sets_of rest) (sets_of-some rest)
   sets_of-point (says_point q ∷ rest) p = ap (onto_first q) (sets_of-point rest p) ∙ onto_first-with_point q p (sets_of rest) (sets_of-some rest)
+  sets_of-point (says_scale scale ∷ rest) p = sets_of-point rest p
   sets_of-point (bad_form ∷ rest) p = sets_of-point rest p
   sets_of-point (out_of_bounds ∷ rest) p = sets_of-point rest p

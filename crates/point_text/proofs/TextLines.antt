@@ -3,9 +3,9 @@ use Rattle.std.proofs.Common.{◌≡◌, ◌∙◌, refl, sym, ap, ℕ, ◌<◌,
 use Rattle.std.specs.List.{onto_first, slice_split}
 use Rattle.std.proofs.lemmas.List.{map-append}
 use Rattle.std.proofs.lemmas.List.Splits.{length-slice_split}
-use Rattle.bounds_model.specs.Asks.{Ask}
-use Rattle.bounds_model.specs.PointText.{is_line_feed, text_lines, sets_of_text}
-use Rattle.point_text.specs.Files.{sets_of_fields}
+use Rattle.bounds_model.specs.Asks.{Shape}
+use Rattle.bounds_model.specs.PointText.{is_line_feed, text_lines, file_of_text}
+use Rattle.point_text.specs.Files.{file_of_fields}
 use Rattle.point_text.specs.Reading.{line_fields}
 use Rattle.point_text.specs.Keeping.{fields_keep_point, KeepsPoint}
 use Rattle.point_text.proofs.Judging.{text_fields, fields_nothing}
@@ -57,30 +57,30 @@ text_lines-of_parts : (bytes : List ℕ) (whole : List (List ℕ)) (last : List 
 text_lines-of_parts bytes whole last is = text_lines-parts bytes ∙ ap lines_of_parts is
 
 -- of a text a point is kept where one is of its whole lines
-pub text_keeps : (ask : Ask) (bytes : List ℕ) (whole : List (List ℕ)) (last : List ℕ) → slice_split is_line_feed bytes ≡ whole ++ last ∷ []
-    → fields_keep_point ask (map line_fields whole) ≡ true → KeepsPoint ask bytes
-text_keeps ask bytes whole [] is keeps =
+pub text_keeps : (shape : Shape) (bytes : List ℕ) (whole : List (List ℕ)) (last : List ℕ) → slice_split is_line_feed bytes ≡ whole ++ last ∷ []
+    → fields_keep_point shape (map line_fields whole) ≡ true → KeepsPoint shape bytes
+text_keeps shape bytes whole [] is keeps =
     let lines : text_lines bytes ≡ whole = text_lines-of_parts bytes whole [] is ∙ lines_before_none whole in
-    ap (λ ls. fields_keep_point ask (map line_fields ls)) lines ∙ keeps
-text_keeps ask bytes whole (b ∷ last) is keeps =
+    ap (λ ls. fields_keep_point shape (map line_fields ls)) lines ∙ keeps
+text_keeps shape bytes whole (b ∷ last) is keeps =
     let lines : text_lines bytes ≡ whole ++ (b ∷ last) ∷ [] = text_lines-of_parts bytes whole (b ∷ last) is ∙ lines_before_some b last whole in
-    ap (λ ls. fields_keep_point ask (map line_fields ls)) lines
-    ∙ (ap (fields_keep_point ask) (map-append line_fields whole ((b ∷ last) ∷ [])) ∙ fields_keep_more ask (map line_fields whole) (line_fields (b ∷ last) ∷ []) keeps)
+    ap (λ ls. fields_keep_point shape (map line_fields ls)) lines
+    ∙ (ap (fields_keep_point shape) (map-append line_fields whole ((b ∷ last) ∷ [])) ∙ fields_keep_more shape (map line_fields whole) (line_fields (b ∷ last) ∷ []) keeps)
 
 -- so it is where one is of all its parts: an empty one keeps none
-pub text_keeps-last : (ask : Ask) (bytes : List ℕ) (whole : List (List ℕ)) (last : List ℕ) → slice_split is_line_feed bytes ≡ whole ++ last ∷ []
-    → fields_keep_point ask (map line_fields whole ++ line_fields last ∷ []) ≡ true → KeepsPoint ask bytes
-text_keeps-last ask bytes whole [] is keeps = text_keeps ask bytes whole [] is (sym (fields_keep_nothing ask (map line_fields whole)) ∙ keeps)
-text_keeps-last ask bytes whole (b ∷ last) is keeps =
+pub text_keeps-last : (shape : Shape) (bytes : List ℕ) (whole : List (List ℕ)) (last : List ℕ) → slice_split is_line_feed bytes ≡ whole ++ last ∷ []
+    → fields_keep_point shape (map line_fields whole ++ line_fields last ∷ []) ≡ true → KeepsPoint shape bytes
+text_keeps-last shape bytes whole [] is keeps = text_keeps shape bytes whole [] is (sym (fields_keep_nothing shape (map line_fields whole)) ∙ keeps)
+text_keeps-last shape bytes whole (b ∷ last) is keeps =
     let lines : text_lines bytes ≡ whole ++ (b ∷ last) ∷ [] = text_lines-of_parts bytes whole (b ∷ last) is ∙ lines_before_some b last whole in
-    ap (λ ls. fields_keep_point ask (map line_fields ls)) lines ∙ (ap (fields_keep_point ask) (map-append line_fields whole ((b ∷ last) ∷ [])) ∙ keeps)
+    ap (λ ls. fields_keep_point shape (map line_fields ls)) lines ∙ (ap (fields_keep_point shape) (map-append line_fields whole ((b ∷ last) ∷ [])) ∙ keeps)
 
 -- a text is judged as its parts are, the last one too where it is empty
-pub text_parts : (ask : Ask) (bytes : List ℕ) (whole : List (List ℕ)) (last : List ℕ) → slice_split is_line_feed bytes ≡ whole ++ last ∷ []
-    → sets_of_text ask bytes ≡ sets_of_fields ask (map line_fields whole ++ line_fields last ∷ [])
-text_parts ask bytes whole [] is =
+pub text_parts : (shape : Shape) (bytes : List ℕ) (whole : List (List ℕ)) (last : List ℕ) → slice_split is_line_feed bytes ≡ whole ++ last ∷ []
+    → file_of_text shape bytes ≡ file_of_fields shape (map line_fields whole ++ line_fields last ∷ [])
+text_parts shape bytes whole [] is =
     let lines : text_lines bytes ≡ whole = text_lines-parts bytes ∙ (ap lines_of_parts is ∙ lines_before_none whole) in
-    text_fields ask bytes ∙ (ap (λ ls. sets_of_fields ask (map line_fields ls)) lines ∙ sym (fields_nothing ask (map line_fields whole)))
-text_parts ask bytes whole (b ∷ last) is =
+    text_fields shape bytes ∙ (ap (λ ls. file_of_fields shape (map line_fields ls)) lines ∙ sym (fields_nothing shape (map line_fields whole)))
+text_parts shape bytes whole (b ∷ last) is =
     let lines : text_lines bytes ≡ whole ++ (b ∷ last) ∷ [] = text_lines-parts bytes ∙ (ap lines_of_parts is ∙ lines_before_some b last whole) in
-    text_fields ask bytes ∙ (ap (λ ls. sets_of_fields ask (map line_fields ls)) lines ∙ ap (sets_of_fields ask) (map-append line_fields whole ((b ∷ last) ∷ [])))
+    text_fields shape bytes ∙ (ap (λ ls. file_of_fields shape (map line_fields ls)) lines ∙ ap (file_of_fields shape) (map-append line_fields whole ((b ∷ last) ∷ [])))

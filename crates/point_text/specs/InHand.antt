@@ -1,37 +1,31 @@
 -- What the bytes so far of a field and of a line come to.
-use Rattle.std.specs.Prelude.{◌≡◌, ◌⊎◌, ℕ, false, true, List, [], ◌∷◌, ◌++◌, codes, nat_le, length, filter}
-use Rattle.std.specs.declared.option.Option.TheVariants.{Some, None}
-use Rattle.std.specs.Option.{option_map}
+use Rattle.std.specs.Prelude.{◌≡◌, ◌≤◌, ◌==◌, ◌&&◌, ℕ, Bool, false, true, List, [], ◌∷◌, ◌++◌, codes, nat_le, nat_lt, length, filter, take, slice_index_or}
 use Rattle.std.specs.List.{All, list_all, slice_split}
 use Rattle.std.specs.Char.{is_ascii_digit}
-use Rattle.std.specs.Str.{bytes_eq}
 use Rattle.std.specs.Str.Lines.{strip_carriage_return}
-use Rattle.bounds_model.specs.PointText.{is_blank, is_comment_sign, natural, number}
+use Rattle.bounds_model.specs.PointText.{is_blank, is_comment_sign}
 use Rattle.point_text.specs.declared.field_in_hand.FieldInHand.{FieldInHand}
-use Rattle.point_text.specs.declared.field_in_hand.FieldInHand.TheVariants.{Empty, Plus, Minus, TwoDashes, ThreeDashes, Positive, Negative, Other}
+use Rattle.point_text.specs.declared.field_in_hand.FieldInHand.TheVariants.{Empty, Plus, Digits, Word, Other}
 use Rattle.point_text.specs.declared.line_in_hand.ContentInHand.{ContentInHand}
 use Rattle.point_text.specs.declared.line_in_hand.LineInHand.{LineInHand}
 use Rattle.point_text.specs.declared.line_in_hand.LineInHand.TheVariants.{Open, Returned, Commented}
-use Rattle.point_text.specs.Clamps.{clamped_size}
-use Rattle.point_text.specs.Fields.{AreFields}
+use Rattle.point_text.specs.declared.fields.Keyword.{Keyword}
+use Rattle.point_text.specs.Fields.{AreFields, IsUnknown, Write, sign_bytes, letters}
 
--- the digits write this number, clamped
-abbrev pub Write : List ℕ → ℕ → Type 0
-Write digits size = option_map clamped_size (natural digits) ≡ Some size
-
--- whatever bytes follow these, the field is neither a number nor `---`
+-- whatever bytes follow these, the field is neither a number nor a word
 abbrev pub IsOther : List ℕ → Type 0
-IsOther bytes = (more : List ℕ) → (number (bytes ++ more) ≡ None) × (bytes_eq (bytes ++ more) (codes "---") ≡ false)
+IsOther bytes = (more : List ℕ) → IsUnknown (bytes ++ more)
+
+-- the byte follows so many first ones of the word
+abbrev pub is_next_letter : Keyword → ℕ → ℕ → Bool
+is_next_letter word seen byte = nat_lt seen (length (letters word)) && (slice_index_or (letters word) seen 0 == byte)
 
 -- the bytes so far of a field
 abbrev pub IsFieldInHand : FieldInHand → List ℕ → Type 0
 IsFieldInHand Empty bytes = bytes ≡ []
 IsFieldInHand Plus bytes = bytes ≡ codes "+"
-IsFieldInHand Minus bytes = bytes ≡ codes "-"
-IsFieldInHand TwoDashes bytes = bytes ≡ codes "--"
-IsFieldInHand ThreeDashes bytes = bytes ≡ codes "---"
-IsFieldInHand (Positive size) bytes = (digits : List ℕ) × ((bytes ≡ digits) ⊎ (bytes ≡ codes "+" ++ digits)) × Write digits size
-IsFieldInHand (Negative size) bytes = (digits : List ℕ) × (bytes ≡ codes "-" ++ digits) × Write digits size
+IsFieldInHand (Digits sign size) bytes = (digits : List ℕ) × (bytes ≡ sign_bytes sign ++ digits) × Write digits size
+IsFieldInHand (Word word seen) bytes = (bytes ≡ take seen (letters word)) × (1 ≤ seen) × (seen ≤ length (letters word))
 IsFieldInHand Other bytes = IsOther bytes
 
 -- the fields that have a byte

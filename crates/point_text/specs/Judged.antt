@@ -1,28 +1,30 @@
 -- What was judged of the lines so far.
-use Rattle.std.specs.Prelude.{◌≡◌, ℕ, Bool, true, List, [], length, map, MatchOption}
+use Rattle.std.specs.Prelude.{◌≡◌, ℕ, Bool, true, false, List, [], length, map, MatchOption}
 use Rattle.std.specs.declared.option.Option.{Option}
 use Rattle.std.specs.declared.option.Option.TheVariants.{Some, None}
 use Rattle.std.specs.declared.result.Result.{Result}
 use Rattle.bounds_model.specs.Plane.{PlanePoint}
 use Rattle.bounds_model.specs.Space.{SpacePoint}
-use Rattle.bounds_model.specs.Asks.{Ask, Sets}
-use Rattle.bounds_model.specs.PointText.{Meaning, Refusal, fields_meaning, plane_meaning, space_meaning, judged, plane_set, plane_set_or_bare, space_set, space_sets, sets_of, first_refusal}
+use Rattle.bounds_model.specs.Asks.{Sets, Shape, one_plane, plane_or_bare, one_space, two_space}
+use Rattle.bounds_model.specs.PointText.{Meaning, Refusal, fields_meaning, plane_meaning, space_meaning, plane_set, plane_set_or_bare, space_set, space_sets, sets_of, scale_of, begins, first_refusal}
+use Rattle.std.specs.List.{list_any}
 use Rattle.point_text.specs.declared.judge.Judge.{Judge}
 use Rattle.point_text.specs.declared.judgement.Judgement.{Judgement}
 use Rattle.point_text.specs.declared.kept.KeptSets.{KeptSets}
-use Rattle.point_text.specs.declared.judgement.Judgement.TheVariants.{PlaneSet, PlaneSetOrBare, SpaceSet, SpaceSets}
+use Rattle.point_text.specs.declared.judgement.Judgement.TheVariants.{Plane, Space}
 use Rattle.point_text.specs.declared.text.TextFault.{TextFault}
 use Rattle.point_text.specs.declared.text.TextFault.TheVariants.{OutOfMemory}
 use Rattle.point_text.specs.Refusals.{refusal_of}
 use Rattle.point_text.specs.Kept.{Keeps}
-use Rattle.point_text.specs.Files.{sets_of_fields}
-use Rattle.point_text.specs.Keeping.{keeps_point, fields_keep_point}
+use Rattle.point_text.specs.Keeping.{keeps_point}
 
--- none of these lines is refused, there are so many, and their sets are kept
-pub record Accepts {P : Type 0} (kept : KeptSets P) (count : ℕ) (lines : List (Meaning P)) : Type 0 where
+-- none of these lines is refused, there are so many, and their sets and their scale are kept, and whether a scale may still follow
+pub record Accepts {P : Type 0} (kept : KeptSets P) (count units : ℕ) (late : Bool) (lines : List (Meaning P)) : Type 0 where
   pub accepted : first_refusal [] lines ≡ None
   pub as_many : length lines ≡ count
   pub keeps : Keeps kept (sets_of lines)
+  pub scale : scale_of lines ≡ units
+  pub begun : list_any begins lines ≡ late
 
 -- the fault is that of the first refused line, or memory was refused, which is so at a point that would be kept
 abbrev pub IsFaultOf : {P : Type 0} → TextFault → List (Meaning P) → Type 0
@@ -30,7 +32,7 @@ IsFaultOf fault lines = MatchOption (refusal_of fault) (keeps_point lines ≡ tr
 
 -- the lines are accepted, or there is a fault of theirs
 abbrev pub HasJudged : {P : Type 0} → Judge P → List (Meaning P) → Type 0
-HasJudged judge lines = MatchOption judge.fault (Accepts judge.sets judge.lines lines) (λ fault. IsFaultOf fault lines)
+HasJudged judge lines = MatchOption judge.fault (Accepts judge.sets judge.lines judge.scale judge.begun lines) (λ fault. IsFaultOf fault lines)
 
 abbrev pub plane_meanings : List (List (List ℕ)) → List (Meaning PlanePoint)
 plane_meanings lines = map (fields_meaning plane_meaning) lines
@@ -38,38 +40,42 @@ plane_meanings lines = map (fields_meaning plane_meaning) lines
 abbrev pub space_meanings : List (List (List ℕ)) → List (Meaning SpacePoint)
 space_meanings lines = map (fields_meaning space_meaning) lines
 
--- the ask calls for sets that are judged so
-abbrev pub CallsFor : Ask → (List (List (List ℕ)) → Result Sets Refusal) → Type 0
-CallsFor ask outcome = (lines : List (List (List ℕ))) → sets_of_fields ask lines ≡ outcome lines
+-- the shape of one set of the plane, which may have no points, or not
+abbrev pub plane_shape : Bool → Shape
+plane_shape true = plane_or_bare
+plane_shape false = one_plane
 
--- for the ask, points are kept so
-abbrev pub KeepsBy : Ask → (List (List (List ℕ)) → Bool) → Type 0
-KeepsBy ask keeps = (lines : List (List (List ℕ))) → fields_keep_point ask lines ≡ keeps lines
+-- the one set of these, which may have no points, or not
+abbrev pub plane_outcome : Bool → List (List PlanePoint) → Result Sets Refusal
+plane_outcome true sets = plane_set_or_bare sets
+plane_outcome false sets = plane_set sets
 
--- lines of these fields were judged for this ask
-abbrev pub IsJudgement : Judgement → Ask → List (List (List ℕ)) → Type 0
-IsJudgement (PlaneSet judge) ask lines = CallsFor ask (λ all. judged plane_set (plane_meanings all)) × HasJudged judge (plane_meanings lines) × KeepsBy ask (λ all. keeps_point (plane_meanings all))
-IsJudgement (PlaneSetOrBare judge) ask lines = CallsFor ask (λ all. judged plane_set_or_bare (plane_meanings all)) × HasJudged judge (plane_meanings lines) × KeepsBy ask (λ all. keeps_point (plane_meanings all))
-IsJudgement (SpaceSet judge) ask lines = CallsFor ask (λ all. judged space_set (space_meanings all)) × HasJudged judge (space_meanings lines) × KeepsBy ask (λ all. keeps_point (space_meanings all))
-IsJudgement (SpaceSets judge) ask lines = CallsFor ask (λ all. judged space_sets (space_meanings all)) × HasJudged judge (space_meanings lines) × KeepsBy ask (λ all. keeps_point (space_meanings all))
+-- the two sets of these, or the one
+abbrev pub space_outcome : Bool → List (List SpacePoint) → Result Sets Refusal
+space_outcome true sets = space_sets sets
+space_outcome false sets = space_set sets
+
+-- the shape of two sets of space, or of one
+abbrev pub space_shape : Bool → Shape
+space_shape true = two_space
+space_shape false = one_space
+
+-- lines of these fields were judged for sets of this shape
+abbrev pub IsJudgement : Judgement → Shape → List (List (List ℕ)) → Type 0
+IsJudgement (Plane judge may_be_bare) shape lines = (shape ≡ plane_shape may_be_bare) × HasJudged judge (plane_meanings lines)
+IsJudgement (Space judge are_two) shape lines = (shape ≡ space_shape are_two) × HasJudged judge (space_meanings lines)
 
 -- how many lines were judged, up to the first refused one
 abbrev pub lines_judged : Judgement → ℕ
-lines_judged (PlaneSet judge) = judge.lines
-lines_judged (PlaneSetOrBare judge) = judge.lines
-lines_judged (SpaceSet judge) = judge.lines
-lines_judged (SpaceSets judge) = judge.lines
+lines_judged (Plane judge may_be_bare) = judge.lines
+lines_judged (Space judge are_two) = judge.lines
 
 -- the fault of the lines so far
 abbrev pub fault_of : Judgement → Option TextFault
-fault_of (PlaneSet judge) = judge.fault
-fault_of (PlaneSetOrBare judge) = judge.fault
-fault_of (SpaceSet judge) = judge.fault
-fault_of (SpaceSets judge) = judge.fault
+fault_of (Plane judge may_be_bare) = judge.fault
+fault_of (Space judge are_two) = judge.fault
 
 -- memory was refused
 abbrev pub WantsMemory : Judgement → Type 0
-WantsMemory (PlaneSet judge) = judge.fault ≡ Some OutOfMemory
-WantsMemory (PlaneSetOrBare judge) = judge.fault ≡ Some OutOfMemory
-WantsMemory (SpaceSet judge) = judge.fault ≡ Some OutOfMemory
-WantsMemory (SpaceSets judge) = judge.fault ≡ Some OutOfMemory
+WantsMemory (Plane judge may_be_bare) = judge.fault ≡ Some OutOfMemory
+WantsMemory (Space judge are_two) = judge.fault ≡ Some OutOfMemory

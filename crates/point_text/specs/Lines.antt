@@ -3,17 +3,19 @@ use Rattle.std.specs.Prelude.{◌≡◌, ◌⊎◌, ⊤, ℕ, ℤ, Bool, true, f
 use Rattle.std.specs.declared.option.Option.{Option}
 use Rattle.std.specs.declared.option.Option.TheVariants.{Some}
 use Rattle.std.specs.List.{before_first}
-use Rattle.bounds_model.specs.PointText.{Meaning, says_nothing, ends_set, says_point, bad_form, out_of_bounds, is_blank, is_comment_sign, is_minus, is_plus, fields_of, number}
+use Rattle.bounds_model.specs.PointText.{Meaning, says_nothing, ends_set, says_point, says_scale, bad_form, out_of_bounds, is_blank, is_comment_sign, is_minus, is_plus, fields_of, number}
 use Rattle.point_text.specs.declared.line.Line.{Line}
-use Rattle.point_text.specs.declared.line.Line.TheVariants.{Nothing, EndOfSet, Point, Bad, OutOfRange}
+use Rattle.point_text.specs.declared.line.Line.TheVariants.{Nothing, EndOfSet, Scale, Point, Bad, OutOfRange}
+use Rattle.point_text.specs.Clamps.{clamped_size}
 
--- the line's meaning in the model
-abbrev pub meaning_of : {P : Type 0} → Line P → Meaning P
-meaning_of Nothing = says_nothing
-meaning_of EndOfSet = ends_set
-meaning_of (Point p) = says_point p
-meaning_of Bad = bad_form
-meaning_of OutOfRange = out_of_bounds
+-- the line has this meaning in the model; the number of a scale is clamped
+abbrev pub Means : {P : Type 0} → Line P → Meaning P → Type 0
+Means Nothing meaning = says_nothing ≡ meaning
+Means EndOfSet meaning = ends_set ≡ meaning
+Means (Scale size) meaning = (scale : ℕ) × (says_scale scale ≡ meaning) × (size ≡ clamped_size scale)
+Means (Point p) meaning = says_point p ≡ meaning
+Means Bad meaning = bad_form ≡ meaning
+Means OutOfRange meaning = out_of_bounds ≡ meaning
 
 -- the numbers of the fields, none where a field has another form
 abbrev pub numbers_of : List ℕ → List (Option ℤ)

@@ -1,7 +1,7 @@
 -- What a reader of pieces has read.
 use Rattle.std.specs.Prelude.{◌≡◌, ℕ, ◌+◌, false, List, [], ◌∷◌, ◌++◌, length, map}
 use Rattle.std.specs.List.{slice_split}
-use Rattle.bounds_model.specs.Asks.{Ask}
+use Rattle.bounds_model.specs.Asks.{Shape}
 use Rattle.bounds_model.specs.PointText.{is_line_feed, content, fields_of}
 use Rattle.point_text.specs.declared.reader.Reader.{Reader}
 use Rattle.point_text.specs.InHand.{IsLineInHand}
@@ -19,13 +19,13 @@ HasFailed reader = WantsMemory reader.judgement
 abbrev pub line_fields : List ℕ → List (List ℕ)
 line_fields line = fields_of (content line)
 
--- for this ask, the reader took these bytes: line feeds part them into whole lines, which were judged, and the line in hand
-pub record StandsFor (reader : Reader) (ask : Ask) (bytes : List ℕ) : Type 0 where
+-- for sets of this shape, the reader took these bytes: line feeds part them into whole lines, which were judged, and the line in hand
+pub record StandsFor (reader : Reader) (shape : Shape) (bytes : List ℕ) : Type 0 where
   pub taken : reader.taken ≡ length bytes
   pub whole : List (List ℕ)
   pub last : List ℕ
   pub lines : slice_split is_line_feed bytes ≡ whole ++ last ∷ []
-  pub judged : IsJudgement reader.judgement ask (map line_fields whole)
+  pub judged : IsJudgement reader.judgement shape (map line_fields whole)
   pub in_hand : IsLineInHand reader.line last
   pub begun : reader.begun ≡ false → last ≡ []
 
@@ -34,5 +34,5 @@ pub record Reads (old now : Reader) (piece rest : List ℕ) : Type 0 where
   pub done : List ℕ
   pub all : piece ≡ done ++ rest
   pub taken : now.taken ≡ old.taken + length done
-  pub stands : (ask : Ask) (bytes : List ℕ) → StandsFor old ask bytes → StandsFor now ask (bytes ++ done)
+  pub stands : (shape : Shape) (bytes : List ℕ) → StandsFor old shape bytes → StandsFor now shape (bytes ++ done)
   pub stays : HasFailed old → HasFailed now

@@ -4,7 +4,7 @@ use Rattle.std.specs.declared.option.Option.{Option}
 use Rattle.std.specs.declared.option.Option.TheVariants.{Some, None}
 use Rattle.std.specs.declared.result.Result.{Result}
 use Rattle.std.specs.declared.result.Result.TheVariants.{Ok, Err}
-use Rattle.bounds_model.specs.Asks.{Sets}
+use Rattle.bounds_model.specs.Asks.{PointFile}
 use Rattle.bounds_model.specs.PointText.{Refusal, bad_line, out_of_range, too_many, no_points, wrong_sets}
 use Rattle.point_text.specs.declared.text.TextFault.{TextFault}
 use Rattle.point_text.specs.declared.text.TextFault.TheVariants.{BadLine, OutOfRange, TooMany, NoPoints, WrongSets, OutOfMemory}
@@ -19,6 +19,6 @@ refusal_of (WrongSets count) = Some (wrong_sets count)
 refusal_of OutOfMemory = None
 
 -- the outcome is what was judged, or memory was refused
-abbrev pub Answers : Result Sets TextFault → Result Sets Refusal → Type 0
-Answers (Ok sets) judged = judged ≡ Ok sets
+abbrev pub Answers : Result PointFile TextFault → Result PointFile Refusal → Type 0
+Answers (Ok file) judged = judged ≡ Ok file
 Answers (Err fault) judged = IfSome (refusal_of fault) (λ refusal. judged ≡ Err refusal)

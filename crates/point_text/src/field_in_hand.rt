@@ -1,13 +1,13 @@
 //! A field, read byte by byte.
-ghost use Rattle.std.specs.Prelude.{◌≡◌, ◌≢◌, ◌≤◌, ◌+◌, ◌*◌, min, List, ℕ, [], ◌∷◌, ◌++◌, true, false, MatchOption};
+ghost use Rattle.std.specs.Prelude.{◌≡◌, ◌≤◌, ◌+◌, ◌*◌, List, ℕ, [], ◌∷◌, ◌++◌, take, length, true, false, MatchOption};
 ghost use Rattle.std.specs.Char.{is_ascii_digit};
 ghost use Rattle.bounds_model.specs.PointText.{digit_size};
-ghost use Rattle.point_text.specs.declared.field_in_hand.FieldInHand.TheVariants as field;
-ghost use Rattle.point_text.specs.Fields.{IsField};
-ghost use Rattle.point_text.specs.InHand.{IsFieldInHand, AddsDigits};
+ghost use Rattle.point_text.specs.Clamps.{clamped_size};
+ghost use Rattle.point_text.specs.Fields.{IsField, letters};
+ghost use Rattle.point_text.specs.InHand.{IsFieldInHand, AddsDigits, is_next_letter};
 
-use crate::fields::Field;
-use crate::number::{FAR, LIMIT};
+use crate::fields::{Field, Keyword};
+use crate::number::{FAR, LIMIT, Sign};
 use byte_tools::cut_digits;
 
 /// The bytes so far of a field.
@@ -17,16 +17,10 @@ pub(crate) enum FieldInHand {
     Empty,
     /// `+`.
     Plus,
-    /// `-`.
-    Minus,
-    /// `--`.
-    TwoDashes,
-    /// `---`.
-    ThreeDashes,
-    /// Digits, with or without a plus sign before them, that write this number, or one past it where it is `FAR`.
-    Positive(u32),
-    /// Such digits behind a minus sign.
-    Negative(u32),
+    /// Digits behind this sign that write this number, or one past it where it is `FAR`.
+    Digits(Sign, u32),
+    /// So many of a word's first bytes, one at least. The first of `---` may still be a minus.
+    Word(Keyword, u8),
     /// Something else, which stays so whatever bytes follow.
     Other,
 }
@@ -45,20 +39,29 @@ fn digit(byte: u8) -> Option<u32>
 /// The number with one more digit, or `FAR` where that is greater.
 fn with_digit(size: u32, digit: u32) -> u32
     requires { digit ≤ 9 }
-    ensures { result ≡ min (10 * min size 200001 + digit) 200001 }
+    ensures { result ≡ clamped_size (10 * clamped_size size + digit) }
 {
     (10 * size.min(FAR) + digit).min(FAR)
 }
 
-/// This field where the byte is a dash, and else another one.
-fn dashed(byte: u8, dashes: FieldInHand) -> FieldInHand
-    ensures dash { byte ≡ 45 → result ≡ dashes }
-    ensures other { byte ≢ 45 → result ≡ field.Other }
+/// Whether this byte is the next one of a word, of which so many were seen.
+fn is_next(word: Keyword, seen: u8, byte: u8) -> bool
+    ensures next { result ≡ is_next_letter word seen byte }
+    ensures within { result ≡ true → seen ≤ 4 }
 {
-    if byte == b'-' {
-        dashes
+    let index = usize::from(seen);
+    let bytes = word.bytes();
+    index < bytes.len() && bytes[index] == byte
+}
+
+/// What a word is, of which so many bytes were seen, where it ends here.
+fn ended_word(word: Keyword, seen: u8) -> Field
+    ensures { 1 ≤ seen → seen ≤ length (letters word) → IsField result (take seen (letters word)) }
+{
+    if usize::from(seen) == word.bytes().len() {
+        Field::Word(word)
     } else {
-        FieldInHand::Other
+        Field::Other
     }
 }
 
@@ -68,11 +71,29 @@ fn started(byte: u8) -> FieldInHand
 {
     match byte {
         b'+' => FieldInHand::Plus,
-        b'-' => FieldInHand::Minus,
+        b'-' => FieldInHand::Word(Keyword::Separator, 1),
+        b's' => FieldInHand::Word(Keyword::Scale, 1),
         _ => match digit(byte) {
-            Some(size) => FieldInHand::Positive(size),
+            Some(size) => FieldInHand::Digits(Sign::Absent, size),
             None => FieldInHand::Other,
         },
+    }
+}
+
+/// The field of a word's first bytes, with one more.
+fn with_word(word: Keyword, seen: u8, byte: u8) -> FieldInHand
+    ensures { 1 ≤ seen → seen ≤ length (letters word) → IsFieldInHand result (take seen (letters word) ++ byte ∷ []) }
+{
+    if is_next(word, seen, byte) {
+        return FieldInHand::Word(word, seen + 1);
+    }
+    // A dash may be the minus of a number.
+    match word {
+        Keyword::Separator if seen == 1 => match digit(byte) {
+            Some(size) => FieldInHand::Digits(Sign::Minus, size),
+            None => FieldInHand::Other,
+        },
+        _ => FieldInHand::Other,
     }
 }
 
@@ -84,23 +105,15 @@ impl FieldInHand {
         match self {
             FieldInHand::Empty => started(byte),
             FieldInHand::Plus => match digit(byte) {
-                Some(digit) => FieldInHand::Positive(digit),
+                Some(digit) => FieldInHand::Digits(Sign::Plus, digit),
                 None => FieldInHand::Other,
             },
-            FieldInHand::Minus => match digit(byte) {
-                Some(digit) => FieldInHand::Negative(digit),
-                None => dashed(byte, FieldInHand::TwoDashes),
-            },
-            FieldInHand::TwoDashes => dashed(byte, FieldInHand::ThreeDashes),
-            FieldInHand::Positive(size) => match digit(byte) {
-                Some(digit) => FieldInHand::Positive(with_digit(size, digit)),
+            FieldInHand::Digits(sign, size) => match digit(byte) {
+                Some(digit) => FieldInHand::Digits(sign, with_digit(size, digit)),
                 None => FieldInHand::Other,
             },
-            FieldInHand::Negative(size) => match digit(byte) {
-                Some(digit) => FieldInHand::Negative(with_digit(size, digit)),
-                None => FieldInHand::Other,
-            },
-            FieldInHand::ThreeDashes | FieldInHand::Other => FieldInHand::Other,
+            FieldInHand::Word(word, seen) => with_word(word, seen, byte),
+            FieldInHand::Other => FieldInHand::Other,
         }
     }
 
@@ -109,13 +122,9 @@ impl FieldInHand {
         ensures { AddsDigits IsFieldInHand self result.0 text.now result.1.now }
     {
         match self {
-            FieldInHand::Positive(size) => {
+            FieldInHand::Digits(sign, size) => {
                 let (size, rest) = cut_digits(LIMIT, size.min(FAR), text);
-                (FieldInHand::Positive(size), rest)
-            }
-            FieldInHand::Negative(size) => {
-                let (size, rest) = cut_digits(LIMIT, size.min(FAR), text);
-                (FieldInHand::Negative(size), rest)
+                (FieldInHand::Digits(sign, size), rest)
             }
             field => (field, text),
         }
@@ -126,9 +135,8 @@ impl FieldInHand {
         ensures { (bytes : List ℕ) → IsFieldInHand self bytes → IsField result bytes }
     {
         match self {
-            FieldInHand::Positive(size) => Field::Number(i64::from(size)),
-            FieldInHand::Negative(size) => Field::Number(-i64::from(size)),
-            FieldInHand::ThreeDashes => Field::Separator,
+            FieldInHand::Digits(sign, size) => Field::Number(sign, size),
+            FieldInHand::Word(word, seen) => ended_word(word, seen),
             _ => Field::Other,
         }
     }

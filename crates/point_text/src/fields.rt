@@ -1,16 +1,41 @@
 //! What the fields of a line or of a record come to.
-ghost use Rattle.std.specs.Prelude.{ℕ, List, [], ◌∷◌, ◌++◌};
-ghost use Rattle.point_text.specs.Fields.{IsField, AreFields};
+ghost use Rattle.std.specs.Prelude.{◌≡◌, ℕ, List, [], ◌∷◌, ◌++◌, codes, false, None, MatchOption};
+ghost use Rattle.std.specs.Str.{bytes_eq};
+ghost use Rattle.bounds_model.specs.PointText.{number};
+ghost use Rattle.point_text.specs.declared.number.Sign.TheVariants as signs;
+ghost use Rattle.point_text.specs.Fields.{IsField, AreFields, Write, sign_bytes, letters};
+ghost use Rattle.point_text.specs.Lines.{BeginsWithNoSign};
 
-use crate::number::read_number;
+use crate::number::{Sign, digits_size};
+
+/// A word that a line begins with which is no point.
+#[derive(Clone, Copy, Debug, PartialEq, Eq)]
+pub(crate) enum Keyword {
+    /// `---`, which ends a set.
+    Separator,
+    /// `scale`, before the number of units.
+    Scale,
+}
+
+impl Keyword {
+    /// The bytes of the word.
+    pub(crate) fn bytes(self) -> &'static [u8]
+        ensures { result.now ≡ letters self }
+    {
+        match self {
+            Keyword::Separator => b"---",
+            Keyword::Scale => b"scale",
+        }
+    }
+}
 
 /// What a whole field is.
 #[derive(Clone, Copy)]
 pub(crate) enum Field {
-    /// This number, or the nearest one that is out of every bound, where it is further out.
-    Number(i64),
-    /// `---`.
-    Separator,
+    /// Digits of this number, with or without a sign before them. A number past every bound is read as the first one past all.
+    Number(Sign, u32),
+    /// A word.
+    Word(Keyword),
     /// Something else.
     Other,
 }
@@ -20,8 +45,10 @@ pub(crate) enum Field {
 pub(crate) enum Fields {
     /// There are none.
     Empty,
-    /// The one field `---`.
-    Separator,
+    /// This one word.
+    Word(Keyword),
+    /// `scale` and this number without a sign.
+    Scale(u32),
     /// One number.
     One(i64),
     /// Two numbers.
@@ -32,16 +59,66 @@ pub(crate) enum Fields {
     Other,
 }
 
+/// The sign that a field begins with, and what stands behind it.
+fn parted_sign(bytes: &[u8]) -> (Sign, &[u8])
+    ensures parts { bytes.now ≡ sign_bytes result.0 ++ result.1.now }
+    ensures plain { result.0 ≡ signs.Absent → BeginsWithNoSign result.1.now }
+{
+    match bytes {
+        [b'-', digits @ ..] => (Sign::Minus, digits),
+        [b'+', digits @ ..] => (Sign::Plus, digits),
+        digits => (Sign::Absent, digits),
+    }
+}
+
+/// The word of these bytes, or None where they are none.
+fn read_word(bytes: &[u8]) -> Option<Keyword>
+    ensures { MatchOption result ((bytes_eq bytes.now (codes "---") ≡ false) × (bytes_eq bytes.now (codes "scale") ≡ false)) (λ word. bytes.now ≡ letters word) }
+{
+    if bytes == b"---".as_slice() {
+        return Some(Keyword::Separator);
+    }
+    if bytes == b"scale".as_slice() {
+        return Some(Keyword::Scale);
+    }
+    None
+}
+
+/// The sign and the number that these bytes write, or None where they write none.
+fn signed_digits(bytes: &[u8]) -> Option<(Sign, u32)>
+    ensures { MatchOption result (number bytes.now ≡ None)
+        (λ parts. (digits : List ℕ) × (bytes.now ≡ sign_bytes parts.0 ++ digits) × Write digits parts.1) }
+{
+    let (sign, digits) = parted_sign(bytes);
+    match digits_size(digits) {
+        Some(size) => Some((sign, size)),
+        None => None,
+    }
+}
+
 /// What a field of these bytes is.
 pub(crate) fn read_field(bytes: &[u8]) -> Field
     ensures { IsField result bytes.now }
 {
-    if bytes == b"---".as_slice() {
-        return Field::Separator;
+    match read_word(bytes) {
+        Some(word) => Field::Word(word),
+        None => match signed_digits(bytes) {
+            Some((sign, size)) => Field::Number(sign, size),
+            None => Field::Other,
+        },
     }
-    match read_number(bytes) {
-        Some(number) => Field::Number(number),
-        None => Field::Other,
+}
+
+/// What a word and a field behind it come to: a scale is written without a sign.
+fn behind_word(word: Keyword, field: Field) -> Fields
+    ensures { (next : List ℕ) → IsField field next → AreFields result (letters word ∷ next ∷ []) }
+{
+    match word {
+        Keyword::Separator => Fields::Other,
+        Keyword::Scale => match field {
+            Field::Number(Sign::Absent, size) => Fields::Scale(size),
+            _ => Fields::Other,
+        },
     }
 }
 
@@ -52,16 +129,17 @@ impl Fields {
     {
         match self {
             Fields::Empty => match field {
-                Field::Number(x) => Fields::One(x),
-                Field::Separator => Fields::Separator,
+                Field::Number(sign, size) => Fields::One(sign.signed(size)),
+                Field::Word(word) => Fields::Word(word),
                 Field::Other => Fields::Other,
             },
+            Fields::Word(word) => behind_word(word, field),
             Fields::One(x) => match field {
-                Field::Number(y) => Fields::Two(x, y),
+                Field::Number(sign, size) => Fields::Two(x, sign.signed(size)),
                 _ => Fields::Other,
             },
             Fields::Two(x, y) => match field {
-                Field::Number(z) => Fields::Three(x, y, z),
+                Field::Number(sign, size) => Fields::Three(x, y, sign.signed(size)),
                 _ => Fields::Other,
             },
             _ => Fields::Other,

@@ -1,5 +1,6 @@
 //! The sets of a text as far as it was read.
 ghost use Rattle.std.specs.Prelude.{◌≤◌};
+ghost use Rattle.bounds_model.specs.PointText.{most_points};
 
 use bounded_coords::{Points, PushFault};
 use std::alloc::Global;
@@ -16,13 +17,13 @@ pub(crate) struct KeptSets<P> {
     pub(crate) count: u32,
     later: u32,
     ghost begun: { 1 ≤ count },
-    ghost limited: { later ≤ 10000 },
+    ghost limited: { later ≤ most_points },
 }
 
 impl<P: Copy> KeptSets<P> {
     ghost use Rattle.std.specs.Prelude.{◌≡◌, ◌↔◌, ◌+◌, ◌^◌, ◌<◌, List, [], ◌∷◌, ◌++◌, length, OnOk, Err};
     ghost use Rattle.bounded_coords.specs.declared.points.PushFault.TheVariants.{Full};
-    ghost use Rattle.bounds_model.specs.PointText.{last_set};
+    ghost use Rattle.bounds_model.specs.PointText.{last_set, most_points};
     ghost use Rattle.point_text.specs.Kept.{Keeps, with_point};
 
     /// One set without points.
@@ -51,7 +52,7 @@ impl<P: Copy> KeptSets<P> {
     pub(crate) fn add(&mut self, p: P) -> Result<(), PushFault>
         ensures sets { OnOk result ((sets : List (List P)) → Keeps self.old sets → Keeps self.new (with_point p sets)) }
         ensures count { self.new.count ≡ self.old.count }
-        ensures full { (sets : List (List P)) → Keeps self.old sets → (result ≡ Err Full) ↔ (length (last_set sets) ≡ 10000) }
+        ensures full { (sets : List (List P)) → Keeps self.old sets → (result ≡ Err Full) ↔ (length (last_set sets) ≡ most_points) }
     {
         match self.count {
             1 => self.first.push(p),

@@ -1,13 +1,14 @@
 //! What one line says.
 ghost use Rattle.std.specs.Prelude.{◌≡◌, ◌∷◌, [], ◌++◌, refl, if◌then◌else◌, List, Option, ℕ, ℤ, pos, neg_ℤ, map, Some, None, MatchOption};
-ghost use Rattle.bounds_model.specs.PointText.{Meaning, bad_form, number, fields_of, fields_meaning, line_meaning, plane_meaning, space_meaning};
-ghost use Rattle.point_text.specs.Fields.{AreFields, clamped_number};
+ghost use Rattle.bounds_model.specs.PointText.{Meaning, bad_form, number, fields_of, fields_meaning};
+ghost use Rattle.bounds_model.specs.PointText.{line_meaning, plane_meaning, space_meaning, scale_meaning};
+ghost use Rattle.point_text.specs.Fields.{AreFields, clamped_number, letters};
 ghost use Rattle.point_text.specs.Clamps.{clamped};
-ghost use Rattle.point_text.specs.Lines.{meaning_of, numbers_of, uncommented, first_field, IsUnsigned, HasNoNumber};
+ghost use Rattle.point_text.specs.Lines.{Means, numbers_of, uncommented, first_field, IsUnsigned, HasNoNumber};
 
 use crate::cuts::{before_comment, ends_field, field_start, has_field, next_field, without_return};
-use crate::fields::Fields;
-use crate::number::LIMIT;
+use crate::fields::{Fields, Keyword};
+use crate::number::{LIMIT, digits_size};
 use bounded_coords::{Point2, Point3};
 use byte_tools::cut_digits;
 
@@ -18,6 +19,8 @@ pub(crate) enum Line<P> {
     Nothing,
     /// That a set ends and the next begins.
     EndOfSet,
+    /// That so many units make a whole one. A number past every bound is read as the first one past all.
+    Scale(u32),
     /// This point.
     Point(P),
     /// Something else.
@@ -33,14 +36,14 @@ pub(crate) trait TextPoint: Copy {
 
     /// What a line says whose fields come to this.
     fn say(fields: Fields) -> Line<Self>
-        ensures { (line : List (List ℕ)) → AreFields fields line → meaning_of result ≡ fields_meaning numbers_meaning line };
+        ensures { (line : List (List ℕ)) → AreFields fields line → Means result (fields_meaning numbers_meaning line) };
 
     /// A point has fields, and each of them is a number.
-    ghost all_numbers: { (numbers_meaning [] ≡ bad_form) × (numbers_meaning (None ∷ []) ≡ bad_form) };
+    ghost all_numbers: { (numbers_meaning [] ≡ bad_form) × ((more : List (Option ℤ)) → numbers_meaning (None ∷ more) ≡ bad_form) };
 
     /// Reads the fields of a line, up to a comment, as the coordinates of a point.
     fn read_fields(line: &[u8]) -> Line<Self>
-        ensures { meaning_of result ≡ numbers_meaning (numbers_of (uncommented line.now)) };
+        ensures { Means result (numbers_meaning (numbers_of (uncommented line.now))) };
 }
 
 /// The bytes behind a sign, or all where there is none, and whether the sign is a minus.
@@ -85,9 +88,19 @@ fn next_number(line: &[u8]) -> Option<(i64, &[u8])>
     leading_number(&line[start..])
 }
 
+/// What a line of this one word says.
+fn word_line<P: Copy>(word: Keyword) -> Line<P>
+    ensures { (numbers_meaning : List (Option ℤ) → Meaning P) → Means result (fields_meaning numbers_meaning (letters word ∷ [])) }
+{
+    match word {
+        Keyword::Separator => Line::EndOfSet,
+        Keyword::Scale => Line::Bad,
+    }
+}
+
 /// What a line of these two numbers says.
 fn plane_line(x: i64, y: i64) -> Line<Point2>
-    ensures { meaning_of result ≡ plane_meaning (Some x ∷ Some y ∷ []) }
+    ensures { Means result (plane_meaning (Some x ∷ Some y ∷ [])) }
 {
     match Point2::new(x, y) {
         Some(p) => Line::Point(p),
@@ -98,12 +111,13 @@ fn plane_line(x: i64, y: i64) -> Line<Point2>
 impl TextPoint for Point2 {
     ghost numbers_meaning = { plane_meaning };
 
-    ghost all_numbers = { (refl, refl) };
+    ghost all_numbers = { (refl, λ more. refl) };
 
     fn say(fields: Fields) -> Line<Point2> {
         match fields {
             Fields::Empty => Line::Nothing,
-            Fields::Separator => Line::EndOfSet,
+            Fields::Word(word) => word_line(word),
+            Fields::Scale(size) => Line::Scale(size),
             Fields::Two(x, y) => plane_line(x, y),
             _ => Line::Bad,
         }
@@ -125,7 +139,7 @@ impl TextPoint for Point2 {
 
 /// What a line of these three numbers says.
 fn space_line(x: i64, y: i64, z: i64) -> Line<Point3>
-    ensures { meaning_of result ≡ space_meaning (Some x ∷ Some y ∷ Some z ∷ []) }
+    ensures { Means result (space_meaning (Some x ∷ Some y ∷ Some z ∷ [])) }
 {
     match Point3::new(x, y, z) {
         Some(p) => Line::Point(p),
@@ -136,12 +150,13 @@ fn space_line(x: i64, y: i64, z: i64) -> Line<Point3>
 impl TextPoint for Point3 {
     ghost numbers_meaning = { space_meaning };
 
-    ghost all_numbers = { (refl, refl) };
+    ghost all_numbers = { (refl, λ more. refl) };
 
     fn say(fields: Fields) -> Line<Point3> {
         match fields {
             Fields::Empty => Line::Nothing,
-            Fields::Separator => Line::EndOfSet,
+            Fields::Word(word) => word_line(word),
+            Fields::Scale(size) => Line::Scale(size),
             Fields::Three(x, y, z) => space_line(x, y, z),
             _ => Line::Bad,
         }
@@ -164,16 +179,31 @@ impl TextPoint for Point3 {
     }
 }
 
+/// What a line says whose first field is `scale`, given what stands behind it.
+fn scale_line<P: TextPoint>(rest: &[u8]) -> Line<P>
+    ensures { Means result (scale_meaning (fields_of rest.now)) }
+{
+    match next_field(rest) {
+        Some((digits, rest)) if next_field(rest).is_none() => match digits_size(digits) {
+            Some(size) => Line::Scale(size),
+            None => Line::Bad,
+        },
+        _ => Line::Bad,
+    }
+}
+
 /// What a line says that is no point, given up to its comment.
 fn pointless_line<P: TextPoint>(content: &[u8]) -> Line<P>
     requires { P.numbers_meaning (numbers_of content.now) ≡ bad_form }
-    ensures { meaning_of result ≡ fields_meaning P.numbers_meaning (fields_of content.now) }
+    ensures { Means result (fields_meaning P.numbers_meaning (fields_of content.now)) }
 {
     match next_field(content) {
         None => Line::Nothing,
         Some((field, rest)) => {
             if field == b"---".as_slice() && next_field(rest).is_none() {
                 Line::EndOfSet
+            } else if field == b"scale".as_slice() {
+                scale_line(rest)
             } else {
                 Line::Bad
             }
@@ -183,7 +213,7 @@ fn pointless_line<P: TextPoint>(content: &[u8]) -> Line<P>
 
 /// Reads a line, which is given without its line feed.
 pub(crate) fn read_line<P: TextPoint>(line: &[u8]) -> Line<P>
-    ensures { meaning_of result ≡ line_meaning P.numbers_meaning line.now }
+    ensures { Means result (line_meaning P.numbers_meaning line.now) }
 {
     let line = without_return(line);
     if line == b"---".as_slice() {

@@ -1,9 +1,9 @@
 //! A point file in the text form, read in pieces of any cut.
 ghost use Rattle.std.specs.Prelude.{◌≡◌, ◌≤◌, ◌+◌, ◌^◌, List, ℕ, [], ◌++◌, codes, false, length, IfOk, OnOk, OnErr, Err};
 ghost use Rattle.bounds_model.specs.Asks as asks;
-ghost use Rattle.bounds_model.specs.Asks.{Suits};
+ghost use Rattle.bounds_model.specs.Asks.{HasShape, shape_of};
 ghost use Rattle.std.specs.List.{All};
-ghost use Rattle.bounds_model.specs.PointText.{is_line_feed, sets_of_text};
+ghost use Rattle.bounds_model.specs.PointText.{is_line_feed, file_of_text};
 ghost use Rattle.bounded_coords.specs.Asked.{asked};
 ghost use Rattle.point_text.specs.declared.text.TextFault.TheVariants as fault;
 ghost use Rattle.point_text.specs.Refusals.{Answers};
@@ -41,12 +41,12 @@ impl Reader {
 
     /// The reader of no bytes. It takes no memory.
     pub fn new(alloc: Global, ask: &Ask) -> Reader
-        ensures stands { StandsFor result (asked ask.now) [] }
+        ensures stands { StandsFor result (shape_of (asked ask.now)) [] }
         ensures fresh { HasFailed result → ⊥ }
     {
         Reader {
             taken: 0,
-            judgement: Judgement::new(alloc, ask),
+            judgement: Judgement::new(alloc, ask.shape()),
             line: LineInHand::new(),
             begun: false,
         }
@@ -64,7 +64,7 @@ impl Reader {
         requires short { bytes_taken self.old + length part.now ≤ 2 ^ 21 }
         requires within { All (λ b. is_line_feed b ≡ false) part.now }
         ensures taken { bytes_taken self.new ≡ bytes_taken self.old + length part.now }
-        ensures stands { (ask : asks.Ask) (bytes : List ℕ) → StandsFor self.old ask bytes → StandsFor self.new ask (bytes ++ part.now) }
+        ensures stands { (shape : asks.Shape) (bytes : List ℕ) → StandsFor self.old shape bytes → StandsFor self.new shape (bytes ++ part.now) }
         ensures stays { HasFailed self.old → HasFailed self.new }
     {
         self.taken += part.len() as u32;
@@ -77,7 +77,7 @@ impl Reader {
         requires short { bytes_taken self.old + length part.now + 1 ≤ 2 ^ 21 }
         requires within { All (λ b. is_line_feed b ≡ false) part.now }
         ensures taken { bytes_taken self.new ≡ bytes_taken self.old + length part.now + 1 }
-        ensures stands { (ask : asks.Ask) (bytes : List ℕ) → StandsFor self.old ask bytes → StandsFor self.new ask (bytes ++ part.now ++ codes "\n") }
+        ensures stands { (shape : asks.Shape) (bytes : List ℕ) → StandsFor self.old shape bytes → StandsFor self.new shape (bytes ++ part.now ++ codes "\n") }
         ensures stays { HasFailed self.old → HasFailed self.new }
     {
         self.taken += part.len() as u32 + 1;
@@ -117,11 +117,11 @@ impl Reader {
     pub fn feed(&mut self, piece: &[u8]) -> Result<(), OutOfMemory>
         requires { bytes_taken self.old + length piece.now ≤ 2 ^ 21 }
         ensures taken { bytes_taken self.new ≡ bytes_taken self.old + length piece.now }
-        ensures stands { (ask : asks.Ask) (bytes : List ℕ) → StandsFor self.old ask bytes → StandsFor self.new ask (bytes ++ piece.now) }
+        ensures stands { (shape : asks.Shape) (bytes : List ℕ) → StandsFor self.old shape bytes → StandsFor self.new shape (bytes ++ piece.now) }
         ensures going { OnOk result (HasFailed self.new → ⊥) }
         ensures failed { OnErr result (HasFailed self.new) }
-        ensures memory { OnErr result ((ask : asks.Ask) (bytes more : List ℕ) → StandsFor self.old ask bytes
-            → KeepsPoint ask ((bytes ++ piece.now) ++ more)) }
+        ensures memory { OnErr result ((shape : asks.Shape) (bytes more : List ℕ) → StandsFor self.old shape bytes
+            → KeepsPoint shape ((bytes ++ piece.now) ++ more)) }
         ensures stays { HasFailed self.old → HasFailed self.new }
     {
         let mut rest = self.pass_lines(piece);
@@ -136,11 +136,11 @@ impl Reader {
         Ok(())
     }
 
-    /// The sets of the text that ends here, or why it is refused. Memory may be wanting only where a point is kept.
+    /// The sets of the text that ends here with their scale, or why it is refused. Memory may be wanting only where a point is kept.
     pub fn finish(self) -> Result<OwnedSets, TextFault>
-        ensures sets { (ask : asks.Ask) (bytes : List ℕ) → StandsFor self ask bytes → Answers result (sets_of_text ask bytes) }
-        ensures suits { IfOk result (λ sets. (ask : asks.Ask) (bytes : List ℕ) → StandsFor self ask bytes → Suits ask sets) }
-        ensures memory { result ≡ Err fault.OutOfMemory → (ask : asks.Ask) (bytes : List ℕ) → StandsFor self ask bytes → KeepsPoint ask bytes }
+        ensures sets { (shape : asks.Shape) (bytes : List ℕ) → StandsFor self shape bytes → Answers result (file_of_text shape bytes) }
+        ensures suits { IfOk result (λ file. (shape : asks.Shape) (bytes : List ℕ) → StandsFor self shape bytes → HasShape shape file.sets) }
+        ensures memory { result ≡ Err fault.OutOfMemory → (shape : asks.Shape) (bytes : List ℕ) → StandsFor self shape bytes → KeepsPoint shape bytes }
         ensures failed { HasFailed self → result ≡ Err fault.OutOfMemory }
     {
         let Reader {

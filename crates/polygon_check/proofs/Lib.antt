@@ -1,6 +1,7 @@
 pub mod Areas
-pub mod HullReads
+pub mod EarlierPotentials
+pub mod Greatest
+pub mod PassedOver
 pub mod PassingPolygons
 pub mod ReadPotentials
 pub mod RowLists
-pub mod Greatest

@@ -1,14 +1,17 @@
 -- The potentials of one first corner, and areas, one after another in a list.
-use Rattle.std.proofs.Common.{◌≡◌, sym, subst, ap, ap₂, ◌∙◌, ◌↔◌, inl, inr, ℕ, zero, suc, ◌+◌, ◌-◌, ◌*◌, ◌<◌, ◌≤◌, ◌^◌, arith, rules, true, Bool, IsTrue, ℤ, pos, ◌+ℤ◌, ◌≤ℤ◌, List, [], ◌∷◌, ◌++◌, length}
+use Rattle.std.proofs.Common.{◌≡◌, sym, subst, ap, ap₂, ◌∙◌, ◌↔◌, inl, inr, ℕ, zero, suc, ◌+◌, ◌-◌, ◌*◌, ◌<◌, ◌≤◌, ◌^◌, arith, rules, true, Bool, IsTrue, ℤ, pos, ◌+ℤ◌, ◌≤ℤ◌, List, [], ◌∷◌, ◌++◌, length, map}
 use Rattle.std.specs.Prelude.{nat_lt, if◌then◌else◌, All}
 use Rattle.std.proofs.lemmas.List.{get_or_append_left, get_or_push, length_push}
 use Rattle.std.proofs.lemmas.List.Elements.{All-nil, All-push, All-same}
 use native.Mathlib.Nat.{mul-le-mul_right}
 use Rattle.integers.specs.Size.{Size}
 use Rattle.integers.proofs.Lists.{below_or_at}
-use Rattle.bounds_model.specs.Plane.{PlanePoint, point_at, turn}
+use Rattle.bounds_model.specs.Plane.{PlanePoint, point_at, cross}
 use Rattle.bounds_model.specs.KgonAnswer.{KgonAnswer, potential, pairs_before}
-use Rattle.polygon_check.specs.PolygonLimits.{RaisesTo}
+use Rattle.added_areas.specs.declared.vectors.PlaneVector.{PlaneVector}
+use Rattle.added_areas.specs.PlaneVectors.{vector_of, AreVectorsFrom}
+use Rattle.added_areas.proofs.AddedNumbers.{turn_is}
+use Rattle.polygon_check.specs.PolygonLimits.{RaisesTo, RaisesBetween}
 use Rattle.polygon_check.specs.PotentialRows.{at, Adds, AreRows, AreAreas, AreRaised}
 
 -- one number more
@@ -93,11 +96,11 @@ le_as : {x y z p q r : ℤ} → x ≡ p → y ≡ q → z ≡ r → (x +ℤ y) �
 le_as {x} {y} {z} {p} {q} {r} e f g h = subst (λ t. (p +ℤ q) ≤ℤ t) g (subst (λ t. (p +ℤ t) ≤ℤ z) f (subst (λ t. (t +ℤ y) ≤ℤ z) e h))
 
 -- what the lists show of the triangles with this first and this last corner
-pub raised_to : (corners : List PlanePoint) (a : KgonAnswer) (first last : ℕ) (rows areas : List ℤ) → AreRows a first rows → AreAreas corners first last areas → first < last → last < length a.corners
-    → AreRaised areas rows a.layers (length a.corners - 1 - first) ↔ RaisesTo corners a first last
-raised_to corners a first last rows areas r t rising below = (
+pub raised_to : (vectors : List PlanePoint) (a : KgonAnswer) (first last : ℕ) (rows areas : List ℤ) → AreRows a first rows → AreAreas vectors first last areas → first < last → last < length a.corners
+    → AreRaised areas rows a.layers (length a.corners - 1 - first) ↔ RaisesTo vectors a first last
+raised_to vectors a first last rows areas r t rising below = (
   λ h middle low after layer in_layers.
-      subst (λ m. (potential a first layer m +ℤ turn (point_at corners first) (point_at corners m) (point_at corners last)) ≤ℤ potential a first (layer + 1) last) (again after)
+      subst (λ m. (potential a first layer m +ℤ cross (point_at vectors m) (point_at vectors last)) ≤ℤ potential a first (layer + 1) last) (again after)
       (le_as (before layer (middle - first - 1) in_layers (in_areas after low)) (t.each (middle - first - 1) (in_areas after low)) (above layer in_layers) (h layer in_layers (middle - first - 1) (in_areas after low))),
   λ all layer in_layers j low.
       le_as (sym (before layer j in_layers low)) (sym (t.each j low)) (sym (above layer in_layers)) (all (first + 1 + j) (between low) (later j) layer in_layers),
@@ -137,10 +140,10 @@ raised_to corners a first last rows areas r t rising below = (
     above layer h = r.each (layer + 1) (length areas) (next h) at_end ∙ ap (potential a first (layer + 1)) the_last
 
 -- the same, of lists and a count that are the same
-pub raised_as : {yes : Bool} (corners : List PlanePoint) (a : KgonAnswer) (first last : ℕ) (rows areas listed : List ℤ) (count : ℕ) → count ≡ length a.corners → listed ≡ areas → AreRows a first rows → AreAreas corners first last areas → first < last → last < length a.corners
-    → (IsTrue yes ↔ AreRaised listed rows a.layers (count - 1 - first)) → IsTrue yes ↔ RaisesTo corners a first last
-raised_as {yes} corners a first last rows areas listed count is same r t rising below h =
-    let law = raised_to corners a first last rows areas r t rising below in
+pub raised_as : {yes : Bool} (vectors : List PlanePoint) (a : KgonAnswer) (first last : ℕ) (rows areas listed : List ℤ) (count : ℕ) → count ≡ length a.corners → listed ≡ areas → AreRows a first rows → AreAreas vectors first last areas → first < last → last < length a.corners
+    → (IsTrue yes ↔ AreRaised listed rows a.layers (count - 1 - first)) → IsTrue yes ↔ RaisesTo vectors a first last
+raised_as {yes} vectors a first last rows areas listed count is same r t rising below h =
+    let law = raised_to vectors a first last rows areas r t rising below in
     let here = subst (λ n. IsTrue yes ↔ AreRaised areas rows a.layers (n - 1 - first)) is
     (subst (λ xs. IsTrue yes ↔ AreRaised xs rows a.layers (count - 1 - first)) same h) in
     (λ y. law.0 (here.0 y), λ all. here.1 (law.1 all))
@@ -157,3 +160,13 @@ index_above {layer} {layers} {width} {n} {total} low in_row is = under ((layer +
 
     under : (x : ℕ) {y w m n t : ℕ} → y ≡ x + w → y ≤ m → t ≡ m → n < w → x + n < t
     under x e h f k = omega arith
+
+-- what is raised seen from the first corner, is raised over the corners
+pub seen_from : (corners : List PlanePoint) (a : KgonAnswer) (first last : ℕ) (vectors : List PlaneVector) → AreVectorsFrom corners first vectors → last < length corners → RaisesTo (map vector_of vectors) a first last ↔ RaisesBetween corners a first last
+seen_from corners a first last vectors w below = (
+  λ h middle before after layer low. subst (λ t. (potential a first layer middle +ℤ t) ≤ℤ potential a first (layer + 1) last) (turn_is corners first vectors w middle last (through before below) below) (h middle before after layer low),
+  λ h middle before after layer low. subst (λ t. (potential a first layer middle +ℤ t) ≤ℤ potential a first (layer + 1) last) (sym (turn_is corners first vectors w middle last (through before below) below)) (h middle before after layer low),
+)
+  where
+    through : {i j n : ℕ} → i < j → j < n → i < n
+    through h k = omega arith

@@ -1,3 +1,3 @@
-pub mod HullTests
+pub mod FirstTests
 pub mod PolygonLimits
 pub mod PotentialRows

@@ -2,9 +2,13 @@
 use Rattle.std.specs.Prelude.{◌≡◌, ℕ, ◌+◌, ◌-◌, ◌*◌, ◌^◌, ◌<◌, ◌≤◌, min, ℤ, pos, ◌+ℤ◌, ◌≤ℤ◌, List, length, All}
 use Rattle.std.specs.List.Sorted.{IsStrictlyIncreasing}
 use Rattle.bounds_model.specs.Numbers.{HasCount, EachBelow}
-use Rattle.bounds_model.specs.Plane.{PlanePoint, point_at, turn}
+use Rattle.bounds_model.specs.Plane.{PlanePoint, point_at, cross, turn}
 use Rattle.bounds_model.specs.KgonAnswer.{KgonAnswer, pairs_before, potential}
-use Rattle.polygon_check.specs.HullTests.{AreCornerNumbers}
+
+-- 1 to 128 numbers of points, of which there are so many
+pub record AreCornerNumbers (count : ℕ) (numbers : List ℕ) : Type 0 where
+  pub as_many : HasCount 1 128 numbers
+  pub below : All (λ n. n < count) numbers
 
 -- rising positions of corners, of which there are so many: at least one and at most k
 pub record IsChoice (k count : ℕ) (chosen : List ℕ) : Type 0 where
@@ -34,14 +38,18 @@ pub record IsTable (a : KgonAnswer) : Type 0 where
 abbrev pub RaisesOver : KgonAnswer → ℕ → ℕ → ℕ → ℤ → Type 0
 RaisesOver a first middle last area = EachBelow a.layers (λ layer. (potential a first layer middle +ℤ area) ≤ℤ potential a first (layer + 1) last)
 
--- each triangle with this first and last corner does
+-- each triangle with this first and last corner does, seen from the first one
 abbrev pub RaisesTo : List PlanePoint → KgonAnswer → ℕ → ℕ → Type 0
-RaisesTo corners a first last =
+RaisesTo vectors a first last = EachBelow last (λ middle. first < middle → RaisesOver a first middle last (cross (point_at vectors middle) (point_at vectors last)))
+
+-- the same over corners
+abbrev pub RaisesBetween : List PlanePoint → KgonAnswer → ℕ → ℕ → Type 0
+RaisesBetween corners a first last =
     EachBelow last (λ middle. first < middle → RaisesOver a first middle last (turn (point_at corners first) (point_at corners middle) (point_at corners last)))
 
 -- each triangle with this first corner does
 abbrev pub RaisesFrom : List PlanePoint → KgonAnswer → ℕ → Type 0
-RaisesFrom corners a first = EachBelow (length a.corners) (λ last. first < last → RaisesTo corners a first last)
+RaisesFrom corners a first = EachBelow (length a.corners) (λ last. first < last → RaisesBetween corners a first last)
 
 -- each triangle does
 abbrev pub RaisesAll : List PlanePoint → KgonAnswer → Type 0

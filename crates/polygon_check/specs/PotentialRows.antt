@@ -2,7 +2,7 @@
 use Rattle.std.specs.Prelude.{◌≡◌, ℕ, ◌+◌, ◌-◌, ◌*◌, ◌^◌, ◌<◌, ◌≤◌, ℤ, pos, ◌+ℤ◌, ◌≤ℤ◌, List, length, slice_index_or, All}
 use Rattle.integers.specs.Size.{Size}
 use Rattle.bounds_model.specs.Numbers.{EachBelow}
-use Rattle.bounds_model.specs.Plane.{PlanePoint, point_at, turn}
+use Rattle.bounds_model.specs.Plane.{PlanePoint, point_at, cross}
 use Rattle.bounds_model.specs.KgonAnswer.{KgonAnswer, potential}
 
 -- the number at this index
@@ -22,10 +22,10 @@ pub record AreRows (a : KgonAnswer) (first : ℕ) (rows : List ℤ) : Type 0 whe
   pub each : (layer j : ℕ) → layer ≤ a.layers → j < length a.corners - 1 - first → at rows (layer * (length a.corners - 1 - first) + j) ≡ potential a first layer (first + 1 + j)
   pub small : All (Size (2 ^ 43)) rows
 
--- twice the areas of the triangles over each corner between a first and a last one
-pub record AreAreas (corners : List PlanePoint) (first last : ℕ) (areas : List ℤ) : Type 0 where
+-- twice the areas of the triangles over each corner between a first and a last one, seen from the first one
+pub record AreAreas (vectors : List PlanePoint) (first last : ℕ) (areas : List ℤ) : Type 0 where
   pub as_many : length areas ≡ last - first - 1
-  pub each : EachBelow (length areas) (λ j. at areas j ≡ turn (point_at corners first) (point_at corners (first + 1 + j)) (point_at corners last))
+  pub each : EachBelow (length areas) (λ j. at areas j ≡ cross (point_at vectors (first + 1 + j)) (point_at vectors last))
   pub small : All (Size (2 ^ 39)) areas
 
 -- no number from an index on comes with its area to more than this

@@ -4,14 +4,14 @@
 //! - `polygons`: the checker
 //! - `potentials`: that each further triangle raises the potentials
 //! - `rows`: the potentials of one first corner
-//! - `hulls`: lists of corners that go once around all points
+//! - `firsts`: that no corner was passed over which reaches the size
+//! - `corners`: the listed corners as points
 #![tactic(auto)]
 
-mod hulls;
+mod corners;
+mod firsts;
 mod polygons;
 mod potentials;
 mod rows;
-#[cfg(test)]
-mod tests;
 
 pub use polygons::check_kgon;

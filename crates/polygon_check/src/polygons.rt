@@ -1,53 +1,79 @@
 //! Polygons: some of a hull's corners, and what is asked of their numbers, their area and the potentials.
-ghost use Rattle.std.specs.Prelude.{◌≡◌, ◌↔◌, ◌^◌, ◌<◌, ◌≤◌, pos, ◌≤ℤ◌, length, map, All, IsTrue};
+ghost use Rattle.std.specs.Prelude.{◌≡◌, ◌↔◌, ◌*◌, ◌^◌, ◌<◌, ◌≤◌, ◌≤ℤ◌, ◌∷◌};
+ghost use Rattle.std.specs.Prelude.{pos, [], length, map, All, IsTrue, slice_index_or};
 ghost use Rattle.std.specs.List.Sorted.{IsStrictlyIncreasing};
 ghost use Rattle.integers.specs.Size.{Size};
 ghost use Rattle.bounds_model.specs.Plane.{point_at};
 ghost use Rattle.bounds_model.specs.Fractions.{SameValue};
 ghost use Rattle.bounds_model.specs.Ranges.{IsFraction};
+ghost use Rattle.bounds_model.specs.Numbers.{HasCount, EachBelow};
 ghost use Rattle.bounds_model.specs.Kgon.{twice_area};
+ghost use Rattle.bounds_model.specs.KgonAnswer.{corner_points, pairs_before};
+ghost use Rattle.bounds_model.specs.Firsts.{IsFirstKgon};
 ghost use Rattle.bounds_model.specs.Asks.{ask_kgon, plane};
 ghost use Rattle.bounds_model.specs.Answers.{Passes, IsBest, kgon};
 ghost use Rattle.bounded_coords.specs.Clouds.{points_of};
 ghost use Rattle.answers.specs.Answers.{polygon_of};
-ghost use Rattle.polygon_check.specs.HullTests.{AreCornerNumbers};
-ghost use Rattle.polygon_check.specs.PolygonLimits.{IsChoice, HasLayers, HasPolygonLimits};
+ghost use Rattle.polygon_check.specs.PolygonLimits.{AreCornerNumbers, IsChoice, HasLayers};
+ghost use Rattle.polygon_check.specs.PolygonLimits.{HasPolygonLimits};
+ghost use Rattle.polygon_check.specs.FirstTests.{AreSmaller};
 
-use crate::hulls::{corner, is_around, twice_area as twice_area_of};
+use crate::corners::{listed_corners, twice_area as twice_area_of};
+use crate::firsts::passes_over_none;
 use crate::potentials::raise_all;
+use added_areas::MOST_CORNERS;
 use answers::KgonAnswer;
-use bounded_coords::Cloud2;
+use bounded_coords::{Cloud2, Point2};
 use exact_fractions::Frac;
+use hull_test::is_around;
 use optimality::answer::passing_answers_are_best;
+use optimality::kgon::passing_kgons_are_first;
 
-/// The most corners of a hull.
-pub(crate) const MOST_CORNERS: usize = 128;
-
-/// Whether the listed corners go once around all points, the chosen ones are at most k and have the printed area, and the potentials show
-/// that no polygon of at most k corners has more (CGAL manual, Inscribed Areas, `maximum_area_inscribed_k_gon_2`): each triangle over two
-/// corners raises the potential by at least twice its area, and no potential is above twice the printed area.
+/// Whether the listed corners go once around all points, the chosen ones are at most k and have the printed area, the potentials show that
+/// no polygon of at most k corners has more (CGAL manual, Inscribed Areas, `maximum_area_inscribed_k_gon_2`), and of those that have as
+/// much the chosen one comes first in the order of lists of positions. Each triangle over two corners raises the potential by at least
+/// twice its area, no potential is above twice the printed area, and those of a first corner before the chosen one are below it. No corner
+/// between two chosen ones, with the most that later ones add to it, reaches that area in place of the second.
 pub fn check_kgon(cloud: Cloud2<'_>, k: u8, a: &KgonAnswer) -> bool
     requires three { 3 ≤ k }
     requires twelve { k ≤ 12 }
-    ensures passes { IsTrue result ↔ Passes (ask_kgon k) (plane (points_of cloud.entry)) (kgon (polygon_of a.now)) }
-    ensures best { IsTrue result → IsBest (ask_kgon k) (plane (points_of cloud.entry)) (kgon (polygon_of a.now)) }
+    ensures passes { IsTrue result
+        ↔ Passes (ask_kgon k) (plane (points_of cloud.entry)) (kgon (polygon_of a.now)) }
+    ensures best { IsTrue result
+        → IsBest (ask_kgon k) (plane (points_of cloud.entry)) (kgon (polygon_of a.now)) }
+    ensures first { IsTrue result
+        → IsFirstKgon k (corner_points (points_of cloud.entry) (polygon_of a.now)) (polygon_of a.now).chosen }
 {
     passing_answers_are_best();
+    passing_kgons_are_first();
     if !has_limits(cloud, k, a) {
         return false;
     }
     let numbers = a.corners.as_slice();
-    let area = chosen_area(cloud, numbers, a.chosen.as_slice());
+    let chosen = a.chosen.as_slice();
+    let listed = listed_corners(cloud, numbers);
+    let corners = &listed[..numbers.len()];
+    let area = chosen_area(corners, chosen);
     if !is_size(&a.size, area) {
         return false;
     }
+    // The potentials of an answer may have 126 bits. Once none is above twice the area, which has at most 43, all later sums fit 64 bits.
     if !are_under(a.potentials.as_slice(), area) {
+        return false;
+    }
+    if !are_earlier_below(a, area) {
+        return false;
+    }
+    if !is_alone_of_few(chosen, numbers.len()) {
         return false;
     }
     if !is_around(cloud, numbers) {
         return false;
     }
-    raise_all(cloud, a)
+    if !passes_over_none(corners, chosen, a.layers as usize, area) {
+        return false;
+    }
+    raise_all(corners, a)
 }
 
 // ---- the limits
@@ -102,34 +128,33 @@ fn rises(numbers: &[u32]) -> bool
 
 /// Whether there are as many layers as a polygon has triangles, and as many potentials as there are pairs of corners in each.
 fn has_layers(a: &KgonAnswer, k: u8) -> bool
+    requires k { k ≤ 12 }
     requires some { 1 ≤ length a.now.corners }
     requires few { length a.now.corners ≤ 128 }
     ensures { IsTrue result ↔ HasLayers k (polygon_of a.now) }
 {
     let count = a.corners.len() as usize;
-    let layers = a.layers as usize;
-    if layers != usize::from(k).min(count).saturating_sub(2) {
+    if a.layers as usize != usize::from(k).min(count).saturating_sub(2) {
         return false;
     }
-    a.potentials.len() as usize == layers * (count * (2 * count - count - 1) / 2)
+    a.potentials.len() as usize == a.potentials_before(count)
 }
 
 // ---- the size
 
 /// Twice the area of the chosen corners' polygon.
-fn chosen_area(cloud: Cloud2<'_>, numbers: &[u32], chosen: &[u32]) -> i64
-    requires numbers { All (λ n. n < length (points_of cloud)) numbers.now }
-    requires chosen { All (λ i. i < length numbers.now) chosen.now }
+fn chosen_area(corners: &[Point2], chosen: &[u32]) -> i64
+    requires chosen { All (λ i. i < length corners.now) chosen.now }
     requires some { 1 ≤ length chosen.now }
     requires few { length chosen.now ≤ 12 }
-    ensures area { result ≡ twice_area (map (point_at (map (point_at (points_of cloud.entry)) numbers.now)) chosen.now) }
+    ensures area { result ≡ twice_area (map (point_at corners.now) chosen.now) }
     ensures small { Size (2 ^ 43) result }
 {
-    let first = corner(cloud, numbers, chosen[0] as usize);
+    let first = &corners[chosen[0] as usize];
     let mut area = 0;
     'chosen: for i in 1..chosen.len() {
-        let before = corner(cloud, numbers, chosen[i - 1] as usize);
-        let here = corner(cloud, numbers, chosen[i] as usize);
+        let before = &corners[chosen[i - 1] as usize];
+        let here = &corners[chosen[i] as usize];
         area += twice_area_of(first, before, here);
     }
     area
@@ -154,6 +179,37 @@ fn are_under(potentials: &[u128], area: i64) -> bool
 {
     let most = u128::from(area.unsigned_abs());
     are_at_most(potentials, most)
+}
+
+/// Whether the potentials of each first corner before the first chosen one are below twice the area.
+fn are_earlier_below(a: &KgonAnswer, area: i64) -> bool
+    requires count { HasCount 1 128 a.now.corners }
+    requires layers { a.now.layers ≤ 10 }
+    requires as_many { length a.now.potentials ≡ a.now.layers * pairs_before (length a.now.corners) (length a.now.corners) }
+    requires some { 1 ≤ length a.now.chosen.items }
+    requires chosen { All (λ i. i < length a.now.corners) a.now.chosen.items }
+    requires not_negative { pos 0 ≤ℤ area }
+    requires small { Size (2 ^ 43) area }
+    ensures { IsTrue result
+        ↔ EachBelow (slice_index_or a.now.chosen.items 0 0) (AreSmaller (polygon_of a.now) area) }
+{
+    let limit = u128::from(area.unsigned_abs());
+    let earlier = a.potentials_before(a.chosen[0] as usize);
+    are_below(&a.potentials.as_slice()[..earlier], limit)
+}
+
+/// Whether of one or two corners the first alone is chosen.
+fn is_alone_of_few(chosen: &[u32], count: usize) -> bool
+    ensures { IsTrue result ↔ (count < 3 → chosen.now ≡ 0 ∷ []) }
+{
+    3 <= count || chosen.len() == 1 && chosen[0] == 0
+}
+
+/// Whether each number is below this.
+fn are_below(numbers: &[u128], limit: u128) -> bool
+    ensures { IsTrue result ↔ All (λ u. u < limit) numbers.now }
+{
+    numbers.iter().all(|u| *u < limit)
 }
 
 /// Whether no number is above this.

@@ -1,29 +1,25 @@
 //! Potentials: bounds on twice the area of the polygons over two corners, and whether each further triangle raises them.
 ghost use Rattle.std.specs.Prelude.{◌≡◌, ◌↔◌, ◌+◌, ◌*◌, ◌^◌, ◌<◌, ◌≤◌, length, map, All, IsTrue};
 ghost use Rattle.integers.specs.Size.{Size};
-ghost use Rattle.bounds_model.specs.Plane.{point_at};
-ghost use Rattle.bounds_model.specs.KgonAnswer.{corner_points};
-ghost use Rattle.bounded_coords.specs.Clouds.{points_of};
+ghost use Rattle.added_areas.specs.PlaneVectors.{vector_of, IsShort};
 ghost use Rattle.answers.specs.Answers.{polygon_of};
-ghost use Rattle.polygon_check.specs.HullTests.{AreCornerNumbers};
 ghost use Rattle.polygon_check.specs.PolygonLimits.{IsTable, RaisesTo, RaisesFrom, RaisesAll};
 ghost use Rattle.polygon_check.specs.PotentialRows.{AreRows, AreAreas, AreBelow, AreRaised};
 
-use crate::hulls::{corner, twice_area};
-use crate::polygons::MOST_CORNERS;
 use crate::rows::rows;
+use added_areas::{MOST_CORNERS, PlaneVector, area, vectors_from};
 use answers::KgonAnswer;
 use arrayvec::ArrayVec;
-use bounded_coords::Cloud2;
+use bounded_coords::Point2;
 
 /// Whether each triangle raises the potentials by at least twice its area.
-pub(crate) fn raise_all(cloud: Cloud2<'_>, a: &KgonAnswer) -> bool
-    requires numbers { AreCornerNumbers (length (points_of cloud)) a.now.corners }
+pub(crate) fn raise_all(corners: &[Point2], a: &KgonAnswer) -> bool
+    requires corners { length corners.now ≡ length a.now.corners }
     requires table { IsTable (polygon_of a.now) }
-    ensures { IsTrue result ↔ RaisesAll (corner_points (points_of cloud.entry) (polygon_of a.now)) (polygon_of a.now) }
+    ensures { IsTrue result ↔ RaisesAll corners.now (polygon_of a.now) }
 {
     'firsts: for first in 0..a.corners.len() {
-        if !raise_from(cloud, a, first) {
+        if !raise_from(corners, a, first) {
             return false;
         }
     }
@@ -31,15 +27,16 @@ pub(crate) fn raise_all(cloud: Cloud2<'_>, a: &KgonAnswer) -> bool
 }
 
 /// Whether the triangles with this first corner do.
-fn raise_from(cloud: Cloud2<'_>, a: &KgonAnswer, first: u32) -> bool
-    requires numbers { AreCornerNumbers (length (points_of cloud)) a.now.corners }
+fn raise_from(corners: &[Point2], a: &KgonAnswer, first: u32) -> bool
+    requires corners { length corners.now ≡ length a.now.corners }
     requires table { IsTable (polygon_of a.now) }
     requires below { first < length a.now.corners }
-    ensures { IsTrue result ↔ RaisesFrom (corner_points (points_of cloud.entry) (polygon_of a.now)) (polygon_of a.now) first }
+    ensures { IsTrue result ↔ RaisesFrom corners.now (polygon_of a.now) first }
 {
+    let vectors = vectors_from(corners, first as usize);
     let rows = rows(a, first);
     'lasts: for last in first + 1..a.corners.len() {
-        if !raise_to(cloud, a, rows.as_slice(), first, last) {
+        if !raise_to(vectors.as_slice(), a, rows.as_slice(), first, last) {
             return false;
         }
     }
@@ -47,36 +44,32 @@ fn raise_from(cloud: Cloud2<'_>, a: &KgonAnswer, first: u32) -> bool
 }
 
 /// Whether the triangles with this first and this last corner do.
-fn raise_to(cloud: Cloud2<'_>, a: &KgonAnswer, rows: &[i64], first: u32, last: u32) -> bool
-    requires numbers { AreCornerNumbers (length (points_of cloud)) a.now.corners }
+fn raise_to(vectors: &[PlaneVector], a: &KgonAnswer, rows: &[i64], first: u32, last: u32) -> bool
+    requires vectors { length vectors.now ≡ length a.now.corners }
+    requires short { All IsShort vectors.now }
     requires table { IsTable (polygon_of a.now) }
     requires rows { AreRows (polygon_of a.now) first rows.now }
     requires rising { first < last }
     requires below { last < length a.now.corners }
-    ensures { IsTrue result ↔ RaisesTo (corner_points (points_of cloud.entry) (polygon_of a.now)) (polygon_of a.now) first last }
+    ensures { IsTrue result ↔ RaisesTo (map vector_of vectors.now) (polygon_of a.now) first last }
 {
-    let areas = areas(cloud, a.corners.as_slice(), first as usize, last as usize);
+    let areas = areas(vectors, first as usize, last as usize);
     let width = (a.corners.len() - 1 - first) as usize;
     are_raised(areas.as_slice(), rows, a.layers as usize, width)
 }
 
 /// Twice the areas of the triangles with this first and this last corner, one for each corner between them.
-fn areas(
-    cloud: Cloud2<'_>,
-    numbers: &[u32],
-    first: usize,
-    last: usize,
-) -> ArrayVec<i64, MOST_CORNERS>
-    requires numbers { AreCornerNumbers (length (points_of cloud)) numbers.now }
+fn areas(vectors: &[PlaneVector], first: usize, last: usize) -> ArrayVec<i64, MOST_CORNERS>
+    requires few { length vectors.now ≤ 128 }
+    requires short { All IsShort vectors.now }
     requires rising { first < last }
-    requires below { last < length numbers.now }
-    ensures { AreAreas (map (point_at (points_of cloud.entry)) numbers.now) first last result.items }
+    requires below { last < length vectors.now }
+    ensures { AreAreas (map vector_of vectors.now) first last result.items }
 {
-    let from = corner(cloud, numbers, first);
-    let to = corner(cloud, numbers, last);
+    let to = vectors[last];
     let mut areas = ArrayVec::new();
     'middles: for middle in first + 1..last {
-        areas.push(twice_area(from, corner(cloud, numbers, middle), to));
+        areas.push(area(vectors[middle], to));
     }
     areas
 }

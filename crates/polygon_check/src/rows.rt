@@ -43,7 +43,7 @@ pub(crate) fn rows(a: &KgonAnswer, first: u32) -> Rows
 {
     let count = a.corners.len();
     let width = (count - 1 - first) as usize;
-    let start = (a.layers * (first * (2 * count - first - 1) / 2)) as usize;
+    let start = a.potentials_before(first as usize);
     let mut rows = ArrayVec::new();
     push_zeros(&mut rows, width);
     push_potentials(

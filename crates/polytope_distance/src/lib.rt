@@ -8,10 +8,6 @@
 
 mod nearest;
 mod pairs;
-#[cfg(test)]
-mod simplices;
 mod sums;
-#[cfg(test)]
-mod tests;
 
 pub use nearest::distance;

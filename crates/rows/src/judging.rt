@@ -1,7 +1,7 @@
 //! Whether the runs of a row end as the row says.
 
-use crate::row::{Row, Table};
-use crate::runs::{Ending, run_beside, run_row};
+use crate::row::{Over, Row, Table};
+use crate::runs::{Ending, check_really, opens_in_run, run_beside, run_row};
 use anyhow::Result;
 use std::alloc::{AllocError, Global};
 use std::io;
@@ -38,6 +38,15 @@ fn is_right_in_pieces(
     piece: u32,
 ) -> Result<bool> {
     let words = split_words(rt.alloc(), line)?;
+    for opened in &row.opened {
+        let name = opened.name.as_str();
+        let opens = opens_in_run(rt, table, row, words.as_slice(), name)?;
+        if opens != opened.count {
+            print_row(rt, table, row)?;
+            println!(rt; "{line} opens {name} {opens} times")?;
+            return Ok(false);
+        }
+    }
     for length in row.cut.from..=row.cut.to {
         let ending = run_row(rt, table, row, words.as_slice(), length, piece.max(1))?;
         if !is_wanted(row, &ending) {
@@ -47,7 +56,7 @@ fn is_right_in_pieces(
             print_bytes(rt, "told", ending.err.as_slice())?;
             return Ok(false);
         }
-        if row.is_checked && !is_passing(rt.alloc(), table, row, words.as_slice(), &ending)? {
+        if row.is_checked && !is_passing(rt, table, row, words.as_slice(), &ending)? {
             print_row(rt, table, row)?;
             println!(rt; "check says no to what {line} answers")?;
             print_bytes(rt, "out", ending.out.as_slice())?;
@@ -69,7 +78,7 @@ fn is_wanted(row: &Row, ending: &Ending) -> bool {
 
 /// Whether `check` says yes to the output, for the kind, the file and the options of these words.
 fn is_passing(
-    alloc: Global,
+    rt: &HostRuntime,
     table: &Table,
     row: &Row,
     words: &[&str],
@@ -78,16 +87,14 @@ fn is_passing(
     let [kind, file, options @ ..] = words else {
         return Ok(false);
     };
-    let mut check = vec![in alloc; "check", *file, "answer", "--kind", *kind]?;
+    let answer = "answer.txt";
+    let mut check = vec![in rt.alloc(); "check", *file, answer, "--kind", *kind]?;
     check.extend_from_slice(options)?;
-    let said = run_beside(
-        alloc,
-        table,
-        row,
-        check.as_slice(),
-        "answer",
-        ending.out.as_slice(),
-    )?;
+    let text = ending.out.as_slice();
+    let said = match row.over {
+        Over::Real | Over::Full => check_really(rt, check.as_slice(), answer, text)?,
+        _ => run_beside(rt, table, row, check.as_slice(), answer, text)?,
+    };
     Ok(said.status == 0)
 }
 

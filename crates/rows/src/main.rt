@@ -4,6 +4,7 @@
 //! - `bytes`: how a table writes bytes
 //! - `row`: a row, and how its lines are read
 //! - `runs`: runs of the top call
+//! - `watched`: files of which opens are counted
 //! - `judging`: whether the runs of a row end as the row says
 #![tactic(auto)]
 
@@ -11,6 +12,7 @@ mod bytes;
 mod judging;
 mod row;
 mod runs;
+mod watched;
 
 use anyhow::{Context, Result};
 use judging::is_right;

@@ -32,6 +32,13 @@ pub(crate) struct Cut {
     pub(crate) to: usize,
 }
 
+/// How often the run opens the file of this name.
+#[derive(Drop)]
+pub(crate) struct Opened {
+    pub(crate) name: String,
+    pub(crate) count: u64,
+}
+
 /// The calls that fail, counted from 1.
 #[derive(Drop)]
 pub(crate) struct Failing {
@@ -76,6 +83,8 @@ pub(crate) struct Row {
     /// Whether `check` has to say yes to the output.
     pub(crate) is_checked: bool,
     pub(crate) err: Vec<u8>,
+    /// How often files are opened, where the row says so.
+    pub(crate) opened: Vec<Opened>,
     /// Whether the text that was begun last is the output, and not a file.
     in_output: bool,
 }
@@ -106,6 +115,7 @@ impl Row {
             goes_on: false,
             is_checked: false,
             err: Vec::new(alloc),
+            opened: Vec::new(alloc),
             in_output: false,
         })
     }
@@ -154,6 +164,8 @@ impl Row {
             self.err.push(b'\n')?;
         } else if key == "told" {
             push_text(&mut self.err, rest)?;
+        } else if key == "opens" {
+            self.opened.push(read_opened(self.alloc, rest)?)?;
         } else if key == "|" {
             let mut bytes = self.bytes(rest)?;
             bytes.push(b'\n')?;
@@ -242,6 +254,14 @@ fn read_cut(alloc: Global, rest: &str) -> Result<Cut> {
         name: String::from_str(alloc, name)?,
         from,
         to,
+    })
+}
+
+fn read_opened(alloc: Global, rest: &str) -> Result<Opened> {
+    let (name, count) = first_word(rest);
+    Ok(Opened {
+        name: String::from_str(alloc, name)?,
+        count: u64::from(number(count)?),
     })
 }
 

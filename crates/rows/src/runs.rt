@@ -2,16 +2,15 @@
 ghost use Rattle.std.specs.Prelude.{◌≡◌, ◌<◌, ◌≤◌, IsFalse, IfOk, Ok};
 
 use crate::row::{Cut, NamedFile, Over, Row, Table};
+use crate::watched::Watched;
 use anyhow::Result;
-use bnd_io::{Files, MemFiles, MemSink, Sink, SureFiles, SureSink};
-use bounded_coords::{OutOfMemory, Steps};
-use bounds_start::run_words;
-use bounds_tool::{Status, run};
+use bnd_io::{Files, MemFiles, MemSink, SureFiles, SureSink};
+use bounded_coords::OutOfMemory;
+use bounds_start::{run_on_system, run_words};
+use bounds_tool::Status;
 use std::alloc::{AllocError, Global};
 use std::fs;
 use std::io::Write;
-use std::marker::Brand;
-use std::sync::ledger::{Blank, Ledger};
 
 // The files that take what a run over the files of the system writes.
 const OUT: &str = "out.txt";
@@ -51,13 +50,18 @@ pub(crate) fn run_row(
     requires { 1 ≤ piece }
 {
     match row.over {
-        Over::Memory => run_in_memory(rt.alloc(), table, row, words, length, piece),
+        Over::Memory => run_in_memory(rt, table, row, words, length, piece),
         Over::Sure => {
             let mut files = SureFiles::new(rt.alloc());
             add_surely(&mut files, table, row)?;
-            run_to_end(rt.alloc(), words, &mut files)
+            run_to_end(rt, words, &mut files)
         }
-        Over::Real => run_really(rt, words, fs::create(rt, OUT)?),
+        Over::Real => {
+            for file in &row.files {
+                fs::write(rt, file.name.as_str(), file.bytes.as_slice())?;
+            }
+            run_really(rt, words, fs::create(rt, OUT)?)
+        }
         Over::Full => {
             fs::create(rt, OUT)?;
             run_really(rt, words, fs::open(rt, OUT)?)
@@ -65,23 +69,49 @@ pub(crate) fn run_row(
     }
 }
 
+/// How often a run of these words opens the file of this name, over files that never fail.
+pub(crate) fn opens_in_run(
+    rt: &HostRuntime,
+    table: &Table,
+    row: &Row,
+    words: &[&str],
+    name: &str,
+) -> Result<u64> {
+    let mut files = SureFiles::new(rt.alloc());
+    add_surely(&mut files, table, row)?;
+    let mut files = Watched::new(rt.alloc(), files, name)?;
+    run_to_end(rt, words, &mut files)?;
+    Ok(files.opens)
+}
+
+/// Runs words over the files of the system, one of which is written before.
+pub(crate) fn check_really(
+    rt: &HostRuntime,
+    words: &[&str],
+    name: &str,
+    bytes: &[u8],
+) -> Result<Ending> {
+    fs::write(rt, name, bytes)?;
+    run_really(rt, words, fs::create(rt, OUT)?)
+}
+
 /// Runs words over the files of the table and of the row and one more, none of which fails.
 pub(crate) fn run_beside(
-    alloc: Global,
+    rt: &HostRuntime,
     table: &Table,
     row: &Row,
     words: &[&str],
     name: &str,
     bytes: &[u8],
 ) -> Result<Ending> {
-    let mut files = SureFiles::new(alloc);
+    let mut files = SureFiles::new(rt.alloc());
     add_surely(&mut files, table, row)?;
     stored(files.add(name, bytes))?;
-    run_to_end(alloc, words, &mut files)
+    run_to_end(rt, words, &mut files)
 }
 
 fn run_in_memory(
-    alloc: Global,
+    rt: &HostRuntime,
     table: &Table,
     row: &Row,
     words: &[&str],
@@ -90,6 +120,7 @@ fn run_in_memory(
 ) -> Result<Ending>
     requires { 1 ≤ piece }
 {
+    let alloc = rt.alloc();
     let mut files = MemFiles::new(alloc, piece);
     add_cut(&mut files, table.shared.files.as_slice(), &row.cut, length)?;
     add_cut(&mut files, row.files.as_slice(), &row.cut, length)?;
@@ -98,7 +129,7 @@ fn run_in_memory(
     }
     let mut out = sink(alloc, piece, row.failing.out.as_slice())?;
     let mut err = sink(alloc, piece, row.failing.err.as_slice())?;
-    let status = run_over(alloc, words, &mut files, &mut out, &mut err);
+    let status = run_words(rt, words, &mut files, &mut out, &mut err);
     Ending::new(alloc, status, out.as_slice(), err.as_slice())
 }
 
@@ -144,17 +175,18 @@ fn add_surely(files: &mut SureFiles, table: &Table, row: &Row) -> Result<(), All
 }
 
 /// Runs words over these files, with sinks that never fail.
-fn run_to_end<F: Files>(alloc: Global, words: &[&str], files: &mut F) -> Result<Ending> {
+fn run_to_end<F: Files>(rt: &HostRuntime, words: &[&str], files: &mut F) -> Result<Ending> {
+    let alloc = rt.alloc();
     let mut out = stored(SureSink::new(alloc))?;
     let mut err = stored(SureSink::new(alloc))?;
-    let status = run_over(alloc, words, files, &mut out, &mut err);
+    let status = run_words(rt, words, files, &mut out, &mut err);
     Ending::new(alloc, status, out.as_slice(), err.as_slice())
 }
 
 /// Runs words as the program does, over the files of the system. What it writes goes to this stream, which is that of a file, and to
 /// another file.
 fn run_really<O: Write + Drop>(rt: &HostRuntime, words: &[&str], out: O) -> Result<Ending> {
-    let status = run_words(rt, words, out, fs::create(rt, ERR)?);
+    let status = run_on_system(rt, words, out, fs::create(rt, ERR)?);
     Ok(Ending {
         status: status.number(),
         out: fs::read(rt, OUT)?,
@@ -170,31 +202,4 @@ fn stored<T>(outcome: Result<T, OutOfMemory>) -> Result<T, AllocError>
         Ok(value) => Ok(value),
         Err(OutOfMemory) => Err(AllocError),
     }
-}
-
-/// Runs words with a counter of their own.
-fn run_over<F: Files, O: Sink>(
-    alloc: Global,
-    words: &[&str],
-    files: &mut F,
-    out: &mut O,
-    err: &mut O,
-) -> Status {
-    run_counted::<F, O, Brand>(alloc, words, files, out, err, Blank::new(1))
-}
-
-fn run_counted<F: Files, O: Sink, L: Ledger>(
-    alloc: Global,
-    words: &[&str],
-    files: &mut F,
-    out: &mut O,
-    err: &mut O,
-    blank: Blank,
-) -> Status
-    requires name { blank.name ≡ L.name }
-    requires parts { blank.parts ≡ L.parts }
-    requires some { 0 < blank.parts }
-{
-    let mut steps = Steps::<L>::new(blank);
-    run(alloc, words, files, out, err, &mut steps)
 }

@@ -1,6 +1,6 @@
 -- The first draws from the seed 1, and the points that they make.
 use Rattle.std.proofs.Common.{◌≡◌, refl, pos, negsuc, [], ◌∷◌}
-use Rattle.bounds_model.specs.Asks.{ask_sphere, ask_strip, ask_distance, plane, space, two}
+use Rattle.bounds_model.specs.Asks.{one_plane, one_space, two_space, plane, space, two}
 use Rattle.bounds_model.specs.Demo.{state_after, drawn, demo_sets}
 
 -- ---- states and their values
@@ -28,13 +28,13 @@ values = refl
 -- ---- points
 
 -- two points of the plane
-in_plane : demo_sets ask_strip 1 2 ≡ plane (record { x = pos 77661; y = pos 168556 } ∷ record { x = pos 47288; y = pos 120996 } ∷ [])
+in_plane : demo_sets one_plane 1 2 ≡ plane (record { x = pos 77661; y = pos 168556 } ∷ record { x = pos 47288; y = pos 120996 } ∷ [])
 in_plane = refl
 
 -- a point of space
-in_space : demo_sets ask_sphere 1 1 ≡ space (record { x = negsuc 2403; y = negsuc 7466; z = negsuc 750 } ∷ [])
+in_space : demo_sets one_space 1 1 ≡ space (record { x = negsuc 2403; y = negsuc 7466; z = negsuc 750 } ∷ [])
 in_space = refl
 
 -- a point of each of two sets
-two_sets : demo_sets ask_distance 1 1 ≡ two (record { x = negsuc 2336; y = negsuc 7466; z = negsuc 750 } ∷ []) (record { x = pos 999; y = negsuc 4804; z = pos 135 } ∷ [])
+two_sets : demo_sets two_space 1 1 ≡ two (record { x = negsuc 2336; y = negsuc 7466; z = negsuc 750 } ∷ []) (record { x = pos 999; y = negsuc 4804; z = pos 135 } ∷ [])
 two_sets = refl

@@ -2,17 +2,19 @@
 //! witness shows that the answer is best. Each kind is judged in a crate of its own.
 //!
 //! - `judging`: an answer of any kind
+//! - `reports`: an answer at the scale of a point file
 #![tactic(auto)]
 
 mod judging;
-#[cfg(test)]
-mod tests;
+mod reports;
 
-pub use annulus_check::check_annulus;
 pub use ball_check::{check_circle, check_sphere};
-pub use centres_check::check_centres;
+pub use centres_check::{check_centres, check_four};
 pub use distance_check::check_distance;
 pub use empty_check::check_empty;
 pub use fan_checks::{check_parallelogram, check_rectangle, check_strip};
+pub use furthest_check::check_furthest;
 pub use judging::check;
 pub use polygon_check::check_kgon;
+pub use reports::check_report;
+pub use ring_check::{check_annulus, check_shell};

@@ -15,8 +15,8 @@ use Rattle.answers.specs.declared.fans.HalfCone.{HalfCone}
 use Rattle.answers.specs.declared.parallelograms.Chord.{Chord}
 use Rattle.answers.specs.declared.parallelograms.ParaAnswer.{ParaAnswer}
 use Rattle.witness_format.specs.Bodies.{side_values, chorded_values, chorded_end_values, last_chord}
-use Rattle.witness_format.specs.Printed.{count_bytes}
-use Rattle.witness_format.proofs.PrintedWords.{one_behind}
+use Rattle.answer_lines.specs.Printed.{count_bytes}
+use Rattle.answer_lines.proofs.PrintedWords.{one_behind}
 use Rattle.witness_format.proofs.SaidAnswers.{parallelogram_is}
 
 -- two lists of one length, each with an element more

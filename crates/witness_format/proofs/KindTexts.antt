@@ -1,16 +1,18 @@
 -- A text is read line by line as an answer of the kind that its first line names.
-use Rattle.std.proofs.Common.{◌≡◌, ◌∙◌, refl, ap, subst, ℕ, List, [], ◌∷◌, Option, Some, None, Result, Ok, Err}
+use Rattle.std.proofs.Common.{◌≡◌, ◌∙◌, refl, ap, subst, ℕ, List, [], ◌∷◌, Result, Ok, Err}
 use Rattle.bounds_model.specs.Fractions.{Fraction}
 use Rattle.bounds_model.specs.Answers.{Answer}
-use Rattle.bounds_model.specs.AnswerText.LineFormats.{Values}
-use Rattle.bounds_model.specs.AnswerText.Formats.{Refusal, ◌>>=◌, Unread, line_at, Part, PartValue, counts_after, part_at, Body, body_at}
-use Rattle.bounds_model.specs.AnswerText.Kinds.{Kind, first_format, size_format}
-use Rattle.bounds_model.specs.AnswerText.Reading.{answer_of, kind_of, all_lines, reading_of}
-use Rattle.answers.specs.declared.answer.Answer as code
-use Rattle.witness_format.specs.declared.fault.ReadFault.{ReadFault}
+use Rattle.bounds_model.specs.AnswerText.Formats.{Refusal, ◌>>=◌, Unread, Part, PartValue, counts_after, part_at, Body, body_at}
+use Rattle.bounds_model.specs.Reports.{Report}
+use Rattle.bounds_model.specs.AnswerText.Kinds.{Kind}
+use Rattle.bounds_model.specs.AnswerText.Heads.{Format, Head, head_at}
+use Rattle.bounds_model.specs.AnswerText.Reading.{report_behind, all_lines, report_of, answer_in}
+use Rattle.answers.specs.declared.report.Report as code
+use Rattle.answer_lines.specs.declared.fault.ReadFault.{ReadFault}
 use Rattle.answers.specs.Answers as seen
-use Rattle.witness_format.specs.Kinds.{behind, body_of, closed, answer_by}
-use Rattle.witness_format.specs.Outcomes.{ReadsOr}
+use Rattle.answer_lines.specs.declared.fault.ReadFault.TheVariants.{BadAnswer, BigNumber, OutOfMemory}
+use Rattle.witness_format.specs.Kinds.{body_of, closed, report_by}
+use Rattle.answer_lines.specs.Outcomes.{RefusesOr, ReadsOr}
 
 -- ---- part by part
 
@@ -29,29 +31,27 @@ body_read kind size text body end answer read is =
 -- ---- all lines
 
 -- the lines behind a body
-by_body : (kind : Kind) (size : Fraction) (read : Result (Body kind.body × Unread) Refusal)
-    → (◌>>=◌ {B = Answer × Unread} read (λ body. Ok (kind.answer size body.0, body.1)) >>= λ answer. closed answer.0 answer.1) ≡ (read >>= λ body. closed (kind.answer size body.0) body.1)
-by_body kind size (Ok body) = refl
-by_body kind size (Err refusal) = refl
+by_body : (head : Head) (read : Result (Body head.kind.body × Unread) Refusal)
+    → (◌>>=◌ {B = Answer × Unread} read (λ body. Ok (head.kind.answer head.size body.0, body.1)) >>= λ answer. closed head.scale answer.0 answer.1) ≡ (read >>= λ body. closed head.scale (head.kind.answer head.size body.0) body.1)
+by_body head (Ok body) = refl
+by_body head (Err refusal) = refl
 
--- the lines behind that of the size
-by_size : (kind : Kind) (read : Result (Values size_format.fields × Unread) Refusal)
-    → (read >>= λ size. body_of kind size.0.0 size.1 >>= λ answer. closed answer.0 answer.1) ≡ (read >>= λ size. body_at kind.body [] size.1 >>= λ body. closed (kind.answer size.0.0 body.0) body.1)
-by_size kind (Ok size) = by_body kind size.0.0 (body_at kind.body [] size.1)
-by_size kind (Err refusal) = refl
-
--- the lines behind the first one
-by_first : (kind : Kind) (read : Result (Values [] × Unread) Refusal)
-    → (◌>>=◌ {B = Kind × Unread} read (λ first. Ok (kind, first.1)) >>= λ k. line_at size_format k.1 >>= λ size. body_of k.0 size.0.0 size.1 >>= λ answer. closed answer.0 answer.1)
-    ≡ (read >>= λ first. line_at size_format first.1 >>= λ size. body_at kind.body [] size.1 >>= λ body. closed (kind.answer size.0.0 body.0) body.1)
-by_first kind (Ok first) = by_size kind (line_at size_format first.1)
-by_first kind (Err refusal) = refl
-
--- the lines of a text of the kind that was found
-by_kind : (found : Option Kind) (text : Unread) → (behind found text >>= λ k. line_at size_format k.1 >>= λ size. body_of k.0 size.0.0 size.1 >>= λ answer. closed answer.0 answer.1) ≡ answer_of found text
-by_kind None text = refl
-by_kind (Some kind) text = by_first kind (line_at (first_format kind.name) text)
+-- the lines behind a head
+by_head : (read : Result (Head × Unread) Refusal)
+    → (read >>= λ head. body_of head.0.kind head.0.size head.1 >>= λ answer. closed head.0.scale answer.0 answer.1) ≡ (read >>= λ head. report_behind head.0 head.1)
+by_head (Ok head) = by_body head.0 (body_at head.0.kind.body [] head.1)
+by_head (Err refusal) = refl
 
 -- what is read line by line is the reading
-pub reads_text : (wants : Type 0) (known : List Kind) (bytes : List ℕ) (result : Result code.Answer ReadFault) → ReadsOr wants seen.answer_of result (answer_by known (all_lines bytes)) → ReadsOr wants seen.answer_of result (reading_of known bytes)
-reads_text wants known bytes result reads = subst (ReadsOr wants seen.answer_of result) (by_kind (kind_of known (all_lines bytes)) (all_lines bytes)) reads
+pub reads_report : (wants : Type 0) (formats : List Format) (known : List Kind) (bytes : List ℕ) (result : Result code.Report ReadFault) → ReadsOr wants seen.report_of result (report_by formats known (all_lines bytes)) → ReadsOr wants seen.report_of result (report_of formats known bytes)
+reads_report wants formats known bytes result reads = subst (ReadsOr wants seen.report_of result) (by_head (head_at formats known (all_lines bytes))) reads
+
+-- the answer of what is read
+pub reads_answer : (wants : Type 0) (read : Result Report Refusal) (report : code.Report) → read ≡ Ok (seen.report_of report) → answer_in read ≡ Ok (seen.answer_of report.answer)
+reads_answer wants read report e = ap answer_in e
+
+-- a refusal of a report is one of its answer
+pub refuses_answer : (wants : Type 0) (fault : ReadFault) (read : Result Report Refusal) → RefusesOr wants fault read → RefusesOr wants fault (answer_in read)
+refuses_answer wants (BadAnswer line) read e = ap answer_in e
+refuses_answer wants (BigNumber line) read e = ap answer_in e
+refuses_answer wants OutOfMemory read e = e

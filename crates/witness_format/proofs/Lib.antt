@@ -1,9 +1,4 @@
-pub mod Clamping
-pub mod FieldJudgements
-pub mod LineCuts
 pub mod FirstLines
-pub mod LineReadings
-pub mod PrintedWords
 pub mod SaidAnswers
 pub mod KindTexts
 pub mod ReadTexts
@@ -12,4 +7,3 @@ pub mod ChordLines
 pub mod RowTexts
 pub mod Polygons
 pub mod Names
-pub mod FewDigits

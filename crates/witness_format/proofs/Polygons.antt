@@ -7,7 +7,7 @@ use Rattle.bounds_model.specs.AnswerText.LineFormats.{Values}
 use Rattle.bounds_model.specs.AnswerText.Kinds.{kgon_kind, triangle}
 use Rattle.answers.specs.Answers.{polygon_of}
 use Rattle.answers.specs.declared.polygons.KgonAnswer.{KgonAnswer}
-use Rattle.witness_format.specs.declared.field_value.Position.{Position}
+use Rattle.answer_lines.specs.declared.field_value.Position.{Position}
 use Rattle.witness_format.proofs.SaidAnswers.{polygon_is}
 
 -- a number in a list of corners

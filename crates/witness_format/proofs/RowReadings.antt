@@ -18,14 +18,14 @@ use Rattle.text_laws.proofs.AnswerTexts.FormLaws.{read_is}
 use Rattle.text_laws.proofs.AnswerTexts.NumberLaws.{some_is, bind_some}
 use Rattle.text_laws.proofs.AnswerTexts.RangeLaws.{two_true}
 use Rattle.text_laws.proofs.AnswerTexts.KgonKind.{sum_replicate}
-use Rattle.witness_format.specs.declared.fault.ReadFault.{ReadFault}
-use Rattle.witness_format.specs.declared.fault.ReadFault.TheVariants.{BadAnswer, BigNumber, OutOfMemory}
-use Rattle.witness_format.specs.declared.judging.Flaw.TheVariants.{PastLimit, OutOfRange}
-use Rattle.witness_format.specs.Judging.{Judged, judged_by, seen, judged_field, field_at, fields_at}
-use Rattle.witness_format.specs.Lines.{decided, next_words}
-use Rattle.witness_format.specs.Outcomes.{Finds, ReadsOr, Reads}
+use Rattle.answer_lines.specs.declared.fault.ReadFault.{ReadFault}
+use Rattle.answer_lines.specs.declared.fault.ReadFault.TheVariants.{BadAnswer, BigNumber, OutOfMemory}
+use Rattle.answer_lines.specs.declared.judging.Flaw.TheVariants.{PastLimit, OutOfRange}
+use Rattle.answer_lines.specs.Judging.{Judged, judged_by, seen, judged_field, field_at, fields_at}
+use Rattle.answer_lines.specs.Lines.{decided, next_words}
+use Rattle.answer_lines.specs.Outcomes.{Finds, ReadsOr, Reads}
 use Rattle.witness_format.specs.Rows.{rows_from, row_behind, rows_behind, put_behind, naturals_behind}
-use Rattle.witness_format.proofs.LineReadings.{fields_judged, judged_values, line_by_words, finds_is, decided_seen, reads_then}
+use Rattle.answer_lines.proofs.LineReadings.{fields_judged, judged_values, line_by_words, finds_is, decided_seen, reads_then}
 
 -- ---- widths
 

@@ -4,8 +4,8 @@ use Rattle.std.specs.Prelude.{decimal}
 use Rattle.std.specs.Fmt.{signed_decimal}
 use Rattle.std.proofs.lemmas.List.{drop-map, drop_min, take-map, take_min}
 use Rattle.bounds_model.specs.AnswerText.Written.{line_bytes, format_line, row_format, rows_bytes}
-use Rattle.witness_format.specs.Printed.{behind_blanks, numbers_behind}
-use Rattle.witness_format.proofs.PrintedWords.{titled_line}
+use Rattle.answer_lines.specs.Printed.{behind_blanks, numbers_behind}
+use Rattle.answer_lines.proofs.PrintedWords.{titled_line}
 
 -- numbers without a sign as words
 words_are : (numbers : List ℕ) → map signed_decimal (map pos numbers) ++ [] ≡ map decimal numbers

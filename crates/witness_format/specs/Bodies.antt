@@ -1,17 +1,23 @@
 -- The answers as what their formats say: a kind, the size, and the body of the kind.
 use Rattle.std.specs.Prelude.{pos, ℕ, map, zip, List, [], ◌∷◌, ◌++◌}
 use Rattle.bounds_model.specs.Fractions.{Fraction}
+use Rattle.bounds_model.specs.Ranges.{point_limit}
 use Rattle.bounds_model.specs.AnswerText.Fields.{number, plane_ratio, bounded, point_number, natural}
 use Rattle.bounds_model.specs.AnswerText.LineFormats.{untitled, Values}
 use Rattle.bounds_model.specs.AnswerText.Formats.{Body}
-use Rattle.bounds_model.specs.AnswerText.Kinds.{Kind, circle_kind, sphere_kind, quarter_fields, rectangle_kind, fan, half_fields, strip_kind, side_fields, chord_fields, chorded_fields, last_fields, parallelogram_kind, annulus_kind, empty_kind, kgon_kind, distance_kind, centres_kind}
+use Rattle.bounds_model.specs.AnswerText.Kinds.{Kind, circle_kind, sphere_kind, quarter_fields, rectangle_kind, fan, half_fields, strip_kind, side_fields, chorded_fields, last_fields, parallelogram_kind, annulus_kind, empty_kind, kgon_kind, distance_kind, centres_kind, furthest_kind, four_kind, shell_kind}
 use Rattle.bounds_model.specs.AnswerText.Written.{format_line, part_bytes}
 use Rattle.answers.specs.Answers.{blocker_of}
+use Rattle.answer_lines.specs.Chords.{chord_values}
 use Rattle.answers.specs.declared.balls.Weighted.{Weighted}
 use Rattle.answers.specs.declared.balls.BallAnswer2.{BallAnswer2}
 use Rattle.answers.specs.declared.balls.BallAnswer3.{BallAnswer3}
 use Rattle.answers.specs.declared.centres.Leaf.{Leaf}
 use Rattle.answers.specs.declared.centres.CentresAnswer.{CentresAnswer}
+use Rattle.answers.specs.declared.centres.FourAnswer.{FourAnswer}
+use Rattle.answers.specs.declared.furthests.Entry.{Entry}
+use Rattle.answers.specs.declared.furthests.FurthestAnswer.{FurthestAnswer}
+use Rattle.answers.specs.declared.pairs.ShellAnswer.{ShellAnswer}
 use Rattle.answers.specs.declared.fans.Dir.{Dir}
 use Rattle.answers.specs.declared.fans.Span.{Span}
 use Rattle.answers.specs.declared.fans.HalfCone.{HalfCone}
@@ -27,7 +33,7 @@ use Rattle.answers.specs.declared.pairs.DistanceAnswer.{DistanceAnswer}
 use Rattle.answers.specs.declared.empty_rectangles.EmptyAnswer.{EmptyAnswer}
 use Rattle.answers.specs.declared.polygons.KgonAnswer.{KgonAnswer}
 use Rattle.answers.specs.declared.answer.Answer.{Answer}
-use Rattle.answers.specs.declared.answer.Answer.TheVariants.{Circle, Sphere, Rectangle, Parallelogram, Strip, Annulus, Empty, Kgon, Distance, Centres}
+use Rattle.answers.specs.declared.answer.Answer.TheVariants.{Circle, Sphere, Rectangle, Parallelogram, Strip, Annulus, Empty, Kgon, Distance, Centres, Furthest, Four, Shell}
 
 -- ---- lines
 
@@ -42,6 +48,10 @@ pair_values p = (p.first, (p.second, (pos p.weight, tt)))
 -- the numbers of two points
 abbrev pub leaf_values : Leaf → Values (point_number ∷ point_number ∷ [])
 leaf_values leaf = (leaf.first, (leaf.second, tt))
+
+-- the number of a corner's point, and the position of its furthest corner
+abbrev pub entry_values : Entry → Values (point_number ∷ bounded 0 point_limit ∷ [])
+entry_values e = (e.corner, (e.far, tt))
 
 -- a vector
 abbrev pub dir_values : Dir → Values (number ∷ number ∷ [])
@@ -66,10 +76,6 @@ half_cone_values c = (c.dir.x, (c.dir.y, (c.hi, (c.lo, tt))))
 -- a direction, and the numbers of four points
 abbrev pub quarter_cone_values : QuarterCone → Values quarter_fields
 quarter_cone_values c = (c.dir.x, (c.dir.y, (c.hi, (c.lo, (c.over, (c.under, tt))))))
-
--- three points, two weights and a factor
-abbrev pub chord_values : Chord → Values chord_fields
-chord_values k = (k.a, (k.b, (k.c, (pos k.beta, (pos k.gamma, (k.k, tt))))))
 
 -- a cone and its chord
 abbrev pub chorded_values : HalfCone × Chord → Values chorded_fields
@@ -137,6 +143,18 @@ distance_body a = ((a.from, tt), ((a.to, tt), (space_dir_values a.direction, (ma
 abbrev pub centres_body : CentresAnswer → Body centres_kind.body
 centres_body a = (map {B = Values (plane_ratio ∷ [])} (λ c. (c, tt)) a.squares.items, (map leaf_values a.leaves.items, tt))
 
+-- the corners, each with its furthest one
+abbrev pub furthest_body : FurthestAnswer → Body furthest_kind.body
+furthest_body a = (map entry_values a.entries, tt)
+
+-- the four squares and the leaves
+abbrev pub four_body : FourAnswer → Body four_kind.body
+four_body a = (map {B = Values (plane_ratio ∷ [])} (λ c. (c, tt)) a.squares.items, (map leaf_values a.leaves, tt))
+
+-- the centre, the levels and the pairs
+abbrev pub shell_body : ShellAnswer → Body shell_kind.body
+shell_body a = ((a.center, tt), ((a.low, (a.high, tt)), (map pair_values a.pairs.items, tt)))
+
 -- ---- all kinds
 
 -- an answer as its format says it
@@ -157,3 +175,6 @@ said_of (Empty a) = record { kind = empty_kind; size = a.size; body = empty_body
 said_of (Kgon a) = record { kind = kgon_kind; size = a.size; body = polygon_body a }
 said_of (Distance a) = record { kind = distance_kind; size = a.size; body = distance_body a }
 said_of (Centres a) = record { kind = centres_kind; size = a.size; body = centres_body a }
+said_of (Furthest a) = record { kind = furthest_kind; size = a.size; body = furthest_body a }
+said_of (Four a) = record { kind = four_kind; size = a.size; body = four_body a }
+said_of (Shell a) = record { kind = shell_kind; size = a.size; body = shell_body a }

@@ -1,14 +1,14 @@
--- The kinds of answers, and how an answer of a kind is read behind its first line.
-use Rattle.std.specs.Prelude.{ℕ, Bool, false, true, ◌||◌, nat_lt, List, [], ◌∷◌, find, is_some, Option, Some, None, Result, Ok, Err}
+-- The kinds of answers, where memory may be wanting for them, and how a report of a kind is read behind its head.
+use Rattle.std.specs.Prelude.{ℕ, Bool, false, true, ◌||◌, nat_lt, List, [], ◌∷◌, Result, Ok, Err}
 use Rattle.bounds_model.specs.Fractions.{Fraction}
 use Rattle.bounds_model.specs.Answers.{Answer}
-use Rattle.bounds_model.specs.AnswerText.Formats.{Refusal, bad_answer, ◌>>=◌, Unread, line_at, Part, line, counted, count, rows, body_at}
-use Rattle.bounds_model.specs.AnswerText.Kinds.{Kind, first_format, size_format, last_format, circle_kind, sphere_kind, rectangle_kind, parallelogram_kind, strip_kind, annulus_kind, empty_kind, kgon_kind, distance_kind, centres_kind}
-use Rattle.bounds_model.specs.AnswerText.Reading as model
+use Rattle.bounds_model.specs.Reports.{Report}
+use Rattle.bounds_model.specs.AnswerText.Formats.{Refusal, ◌>>=◌, Unread, line_at, Part, line, counted, count, rows, body_at}
+use Rattle.bounds_model.specs.AnswerText.Kinds.{Kind, circle_kind, sphere_kind, rectangle_kind, parallelogram_kind, strip_kind, annulus_kind, empty_kind, kgon_kind, distance_kind, centres_kind, furthest_kind, four_kind, shell_kind}
+use Rattle.bounds_model.specs.AnswerText.Heads.{Format, plain, Head, head_at, last_format}
 use Rattle.bounds_model.specs.AnswerText.Reading.{ended}
 use Rattle.witness_format.specs.declared.kinds.AnswerKind.{AnswerKind}
-use Rattle.witness_format.specs.declared.kinds.AnswerKind.TheVariants.{Circle, Sphere, Rectangle, Parallelogram, Strip, Annulus, Empty, Kgon, Distance, Centres}
-use Rattle.witness_format.specs.Judging.{said}
+use Rattle.witness_format.specs.declared.kinds.AnswerKind.TheVariants.{Circle, Sphere, Rectangle, Parallelogram, Strip, Annulus, Empty, Kgon, Distance, Centres, Furthest, Four, Shell}
 
 -- ---- the kinds
 
@@ -18,7 +18,7 @@ enclosing = circle_kind ∷ sphere_kind ∷ rectangle_kind ∷ strip_kind ∷ pa
 
 -- the other kinds
 abbrev pub others : List Kind
-others = empty_kind ∷ kgon_kind ∷ distance_kind ∷ centres_kind ∷ []
+others = empty_kind ∷ kgon_kind ∷ distance_kind ∷ centres_kind ∷ furthest_kind ∷ four_kind ∷ shell_kind ∷ []
 
 -- the format of a kind
 abbrev pub format_of : AnswerKind → Kind
@@ -32,21 +32,11 @@ format_of Empty = empty_kind
 format_of Kgon = kgon_kind
 format_of Distance = distance_kind
 format_of Centres = centres_kind
+format_of Furthest = furthest_kind
+format_of Four = four_kind
+format_of Shell = shell_kind
 
--- ---- the first line
-
--- the first of these kinds that the words of the first line name
-abbrev pub named_by : List (List ℕ) → List Kind → Option Kind
-named_by words kinds = find (λ kind. is_some (said (first_format kind.name) words)) kinds
-
--- the lines behind a first line that names this kind
-abbrev pub behind : Option Kind → Unread → Result (Kind × Unread) Refusal
-behind None unread = Err (bad_answer unread.number)
-behind (Some kind) unread = line_at (first_format kind.name) unread >>= λ first. Ok (kind, first.1)
-
--- the one of these kinds that the first line names, and the lines behind it; a line that names none is refused
-abbrev pub first_kind : List Kind → Unread → Result (Kind × Unread) Refusal
-first_kind kinds unread = behind (model.kind_of kinds unread) unread
+-- ---- memory
 
 -- there is a list that an answer does not hold in itself: one of more than 16 lines, or rows of numbers
 abbrev pub has_list : List Part → Bool
@@ -65,29 +55,32 @@ WantsIf false = ⊥
 abbrev pub MayWant : Kind → Type 0
 MayWant kind = WantsIf (has_list kind.body)
 
--- the first line was read, and names such a kind
-abbrev pub NamedMayWant : Result (Kind × Unread) Refusal → Type 0
-NamedMayWant (Ok named) = MayWant named.0
-NamedMayWant (Err refusal) = ⊥
+-- a head was read, and names such a kind
+abbrev pub HeadMayWant : Result (Head × Unread) Refusal → Type 0
+HeadMayWant (Ok head) = MayWant head.0.kind
+HeadMayWant (Err refusal) = ⊥
 
--- the first line of a text names such a kind
+-- the head of a text names such a kind, where these formats and kinds are known
+abbrev pub ReportMayWant : List Format → List Kind → Unread → Type 0
+ReportMayWant formats kinds unread = HeadMayWant (head_at formats kinds unread)
+
+-- the head of a text in whole units names such a kind
 abbrev pub TextMayWant : List Kind → Unread → Type 0
-TextMayWant kinds unread = NamedMayWant (first_kind kinds unread)
+TextMayWant kinds unread = ReportMayWant (plain ∷ []) kinds unread
 
--- ---- the other lines
+-- ---- the lines behind the head
 
 -- what the lines behind the size say as an answer of this kind, and the lines behind them
 abbrev pub body_of : Kind → Fraction → Unread → Result (Answer × Unread) Refusal
 body_of kind size unread = body_at kind.body [] unread >>= λ body. Ok (kind.answer size body.0, body.1)
 
 -- the last line, and nothing behind it
-abbrev pub closed : Answer → Unread → Result Answer Refusal
-closed answer unread = line_at last_format unread >>= λ last. ended answer last.1.number last.1.lines
+abbrev pub closed : ℕ → Answer → Unread → Result Report Refusal
+closed scale answer unread = line_at last_format unread >>= λ last. ended (record { scale = scale; answer = answer }) last.1.number last.1.lines
 
--- what all lines say as an answer of the kind that the first one names
-abbrev pub answer_by : List Kind → Unread → Result Answer Refusal
-answer_by kinds unread = do
-  kind ← first_kind kinds unread
-  size ← line_at size_format kind.1
-  answer ← body_of kind.0 size.0.0 size.1
-  closed answer.0 answer.1
+-- what all lines say as a report of the kind that the head names
+abbrev pub report_by : List Format → List Kind → Unread → Result Report Refusal
+report_by formats kinds unread = do
+  head ← head_at formats kinds unread
+  answer ← body_of head.0.kind head.0.size head.1
+  closed head.0.scale answer.0 answer.1

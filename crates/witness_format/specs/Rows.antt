@@ -10,9 +10,9 @@ use Rattle.bounds_model.specs.AnswerText.Formats.{Refusal, ◌>>=◌, Unread, li
 use Rattle.bounds_model.specs.AnswerText.Kinds.{triangle}
 use Rattle.bounds_model.specs.AnswerText.Written.{row_format}
 use Rattle.witness_format.specs.declared.row_widths.RowWidths.{RowWidths}
-use Rattle.witness_format.specs.declared.judging.Flaw.{Flaw}
-use Rattle.witness_format.specs.declared.judging.Flaw.TheVariants.{PastLimit, OutOfRange}
-use Rattle.witness_format.specs.Judging.{Judged, both, seen, field_at}
+use Rattle.answer_lines.specs.declared.judging.Flaw.{Flaw}
+use Rattle.answer_lines.specs.declared.judging.Flaw.TheVariants.{PastLimit, OutOfRange}
+use Rattle.answer_lines.specs.Judging.{Judged, both, seen, field_at}
 
 -- so many rows of this width, and so many of each smaller one
 abbrev pub rows_from : ℕ → ℕ → ℕ → List ℕ

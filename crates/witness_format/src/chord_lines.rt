@@ -6,14 +6,12 @@ ghost use Rattle.bounds_model.specs.AnswerText.Kinds.{chorded_fields};
 ghost use Rattle.bounds_model.specs.AnswerText.LineFormats.{untitled};
 ghost use Rattle.bounds_model.specs.AnswerText.Written.{format_line};
 ghost use Rattle.witness_format.specs.Bodies.{chorded_values};
-ghost use Rattle.witness_format.specs.Lines.{lines_left};
-ghost use Rattle.witness_format.specs.Outcomes.{ReadsOr};
+ghost use Rattle.answer_lines.specs.Lines.{lines_left};
+ghost use Rattle.answer_lines.specs.Outcomes.{ReadsOr};
 
 use crate::ReadFault;
 use crate::line::ChordedCone;
-use crate::line_printing::push_line;
-use crate::line_reading::{add, list_for, read_line};
-use crate::lines::Unread;
+use answer_lines::{Unread, add, list_for, push_line, read_line};
 use answers::{Chord, Chords, HalfCone, HalfCones};
 use std::alloc::{AllocError, Global};
 

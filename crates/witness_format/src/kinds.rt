@@ -3,7 +3,7 @@ ghost use Rattle.std.specs.Prelude.{find};
 ghost use Rattle.std.specs.Str.{bytes_eq};
 ghost use Rattle.bounds_model.specs.AnswerText.Kinds.{kinds};
 ghost use Rattle.witness_format.specs.Kinds.{enclosing, format_of, others};
-ghost use Rattle.witness_format.specs.Outcomes.{Finds};
+ghost use Rattle.answer_lines.specs.Outcomes.{Finds};
 
 /// A kind of answers.
 #[derive(Clone, Copy, Debug, PartialEq, Eq)]
@@ -18,6 +18,9 @@ pub(crate) enum AnswerKind {
     Kgon,
     Distance,
     Centres,
+    Furthest,
+    Four,
+    Shell,
 }
 
 /// The kind of this name.
@@ -63,6 +66,12 @@ fn other_kind(name: &[u8]) -> Option<AnswerKind>
         Some(AnswerKind::Distance)
     } else if name == b"centres".as_slice() {
         Some(AnswerKind::Centres)
+    } else if name == b"furthest".as_slice() {
+        Some(AnswerKind::Furthest)
+    } else if name == b"centres4".as_slice() {
+        Some(AnswerKind::Four)
+    } else if name == b"shell".as_slice() {
+        Some(AnswerKind::Shell)
     } else {
         None
     }

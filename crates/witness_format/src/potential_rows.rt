@@ -3,20 +3,16 @@ ghost use Rattle.std.specs.Prelude.{◌≡◌, ◌+◌, ◌≤◌, ◌++◌, len
 ghost use Rattle.bounds_model.specs.AnswerText.Formats.{rows_at};
 ghost use Rattle.bounds_model.specs.AnswerText.Kinds.{triangle};
 ghost use Rattle.bounds_model.specs.AnswerText.Written.{format_line, row_format, rows_bytes};
-ghost use Rattle.witness_format.specs.declared.fault.ReadFault.TheVariants.{OutOfMemory};
-ghost use Rattle.witness_format.specs.Judging.{seen};
-ghost use Rattle.witness_format.specs.Lines.{words_left, lines_left};
-ghost use Rattle.witness_format.specs.Outcomes.{Finds, ReadsOr};
-ghost use Rattle.witness_format.specs.Printed.{numbers_behind};
+ghost use Rattle.answer_lines.specs.declared.fault.ReadFault.TheVariants.{OutOfMemory};
+ghost use Rattle.answer_lines.specs.Judging.{seen};
+ghost use Rattle.answer_lines.specs.Lines.{words_left, lines_left};
+ghost use Rattle.answer_lines.specs.Outcomes.{Finds, ReadsOr};
+ghost use Rattle.answer_lines.specs.Printed.{numbers_behind};
 ghost use Rattle.witness_format.specs.Rows.{row_behind, naturals_behind, put_behind, worse_of};
 
-use crate::judging::{Flaw, Judged, decide};
-use crate::line_printing::{push, push_natural};
-use crate::line_reading::add;
-use crate::lines::Unread;
+use crate::ReadFault;
 use crate::row_widths::RowWidths;
-use crate::words::Words;
-use crate::{ReadFault, fields};
+use answer_lines::{Flaw, Judged, Unread, Words, add, decide, natural, push, push_natural};
 use answers::Potentials;
 use std::alloc::{AllocError, Global};
 
@@ -70,7 +66,7 @@ fn add_naturals(
     let mut so_far = Ok(());
     let mut left = words;
     'words: for _ in 0..count {
-        let Some((n, others)) = fields::natural(left) else {
+        let Some((n, others)) = natural(left) else {
             return Ok(None);
         };
         so_far = add_natural(numbers, so_far, n)?;

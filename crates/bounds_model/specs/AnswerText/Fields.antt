@@ -1,9 +1,9 @@
 -- The kinds of fields, each of one word or several: their form, the numbers in them, and the ranges of their ranges.
-use Rattle.std.specs.Prelude.{ℕ, zero, suc, ◌%◌, ℤ, pos, int_le, nat_abs, nat_le, Bool, true, ◌&&◌, ◌==◌, List, [], ◌∷◌, length, Option, Some, None}
+use Rattle.std.specs.Prelude.{ℕ, zero, suc, ℤ, pos, int_le, nat_abs, nat_le, Bool, true, ◌&&◌, ◌==◌, List, [], ◌∷◌, length, Option, Some, None}
 use Rattle.std.specs.List.{list_all}
 use Rattle.std.specs.Str.{bytes_eq}
 use Rattle.std.specs.Prelude.{codes, if◌then◌else◌}
-use Rattle.bounds_model.specs.Fractions.{Fraction}
+use Rattle.bounds_model.specs.Fractions.{Fraction, common_factor}
 use Rattle.bounds_model.specs.Plane.{PlaneRatio}
 use Rattle.bounds_model.specs.Space.{SpaceRatio}
 use Rattle.bounds_model.specs.EmptyAnswer.{Blocker, side, point}
@@ -105,17 +105,6 @@ abbrev pub is_small : (field : Field) → Value field → Bool
 is_small field value = list_all (λ z. nat_le (nat_abs z) number_limit) (numbers_of field value)
 
 -- ---- the range
-
--- the greatest common divisor of two numbers, by at most so many remainders
-abbrev pub common_divisor : ℕ → ℕ → ℕ → ℕ
-common_divisor zero a b = a
-common_divisor (suc steps) a zero = a
-common_divisor (suc steps) a (suc b) = common_divisor steps (suc b) (a % suc b)
-
--- the greatest number that divides all entries
-abbrev pub common_factor : List ℤ → ℕ
-common_factor [] = 0
-common_factor (e ∷ rest) = common_divisor (suc (common_factor rest)) (nat_abs e) (common_factor rest)
 
 -- a denominator is at least 1, and the entries with it have no common factor
 abbrev pub is_lowest : ℤ → List ℤ → Bool

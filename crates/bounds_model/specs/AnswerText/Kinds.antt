@@ -1,38 +1,26 @@
--- The ten kinds of answers as formats: what stands between the line of the size and the last line.
+-- The kinds of answers as formats: what stands between the line of the size and the last line.
 use Rattle.std.specs.Prelude.{ℕ, zero, suc, ◌-◌, List, [], ◌∷◌, ◌++◌, map, codes, replicate}
 use Rattle.bounds_model.specs.Fractions.{Fraction}
 use Rattle.bounds_model.specs.Plane.{PlanePoint}
 use Rattle.bounds_model.specs.Strip.{Span}
-use Rattle.bounds_model.specs.Ranges.{fan_limit}
+use Rattle.bounds_model.specs.Ranges.{fan_limit, point_limit}
 use Rattle.bounds_model.specs.Fans.{HalfCone, QuarterCone}
 use Rattle.bounds_model.specs.BallAnswer.{Weighted}
 use Rattle.bounds_model.specs.ParallelogramAnswer.{Chord}
 use Rattle.bounds_model.specs.AnnulusAnswer.{WeightedPair}
 use Rattle.bounds_model.specs.CentresAnswer.{Leaf}
-use Rattle.bounds_model.specs.Answers.{Answer, circle, sphere, rectangle, parallelogram, strip, annulus, empty, kgon, distance, centres}
+use Rattle.bounds_model.specs.FurthestAnswer.{Entry}
+use Rattle.bounds_model.specs.Answers.{Answer, circle, sphere, rectangle, parallelogram, strip, annulus, empty, kgon, distance, centres, furthest, four, shell}
 use Rattle.bounds_model.specs.AnswerText.Fields.{Field, number, natural, bounded, fraction, plane_ratio, space_ratio, blocker, point_number}
-use Rattle.bounds_model.specs.AnswerText.LineFormats.{LineFormat, titled, untitled, Values}
+use Rattle.bounds_model.specs.AnswerText.LineFormats.{titled, untitled, Values}
 use Rattle.bounds_model.specs.AnswerText.Formats.{Part, line, counted, count, rows, Body}
 
--- a kind of answers: its name, its format, and the answer of a size and what the format reads
+-- a kind of answers: its name, of which power of a length its size is, its format, and the answer of a size and what the format reads
 pub record Kind : Type 0 where
   pub name : List ℕ
+  pub power : ℕ
   pub body : List Part
   pub answer : Fraction → Body body → Answer
-
--- ---- the lines that all kinds have
-
--- the first line, which names the kind
-abbrev pub first_format : List ℕ → LineFormat
-first_format name = record { words = codes "answer" ∷ codes "1" ∷ name ∷ []; fields = [] }
-
--- the line of the size
-abbrev pub size_format : LineFormat
-size_format = titled (codes "size") (fraction ∷ [])
-
--- the last line
-abbrev pub last_format : LineFormat
-last_format = titled (codes "end") []
 
 -- ---- lists that several kinds have
 
@@ -70,6 +58,7 @@ span v = record { low = v.0; high = v.1.0 }
 abbrev pub circle_kind : Kind
 circle_kind = record {
   name = codes "circle";
+  power = 2;
   body = line (titled (codes "center") (plane_ratio ∷ [])) ∷ supports 3 ∷ [];
   answer = λ size b. circle (record { size = size; centre = b.0.0; supports = map weighted b.1.0 });
 }
@@ -78,6 +67,7 @@ circle_kind = record {
 abbrev pub sphere_kind : Kind
 sphere_kind = record {
   name = codes "sphere";
+  power = 2;
   body = line (titled (codes "center") (space_ratio ∷ [])) ∷ supports 4 ∷ [];
   answer = λ size b. sphere (record { size = size; centre = b.0.0; supports = map weighted b.1.0 });
 }
@@ -102,6 +92,7 @@ quarter_cone v = record {
 abbrev pub rectangle_kind : Kind
 rectangle_kind = record {
   name = codes "rectangle";
+  power = 2;
   body = line (titled (codes "direction") (number ∷ number ∷ [])) ∷ line (titled (codes "along") (number ∷ number ∷ []))
       ∷ line (titled (codes "across") (number ∷ number ∷ [])) ∷ fan quarter_fields ∷ line (untitled (number ∷ number ∷ [])) ∷ [];
   answer = λ size b. rectangle (record {
@@ -125,6 +116,7 @@ half_cone v = record { direction = record { x = v.0; y = v.1.0 }; high = v.1.1.0
 abbrev pub strip_kind : Kind
 strip_kind = record {
   name = codes "strip";
+  power = 2;
   body = line (titled (codes "direction") (number ∷ number ∷ [])) ∷ line (titled (codes "bounds") (number ∷ number ∷ []))
       ∷ fan half_fields ∷ line (untitled (number ∷ number ∷ [])) ∷ [];
   answer = λ size b. strip (record {
@@ -183,6 +175,7 @@ last_chord v = chord v.1.1
 abbrev pub parallelogram_kind : Kind
 parallelogram_kind = record {
   name = codes "parallelogram";
+  power = 2;
   body = line (titled (codes "first") side_fields) ∷ line (titled (codes "second") side_fields)
       ∷ fan chorded_fields ∷ line (untitled last_fields) ∷ [];
   answer = λ size b. parallelogram (record {
@@ -202,6 +195,7 @@ parallelogram_kind = record {
 abbrev pub annulus_kind : Kind
 annulus_kind = record {
   name = codes "annulus";
+  power = 2;
   body = line (titled (codes "center") (plane_ratio ∷ [])) ∷ line (titled (codes "inner") (fraction ∷ []))
       ∷ line (titled (codes "outer") (fraction ∷ [])) ∷ pairs 3 ∷ [];
   answer = λ size b. annulus (record {
@@ -219,6 +213,7 @@ annulus_kind = record {
 abbrev pub empty_kind : Kind
 empty_kind = record {
   name = codes "empty";
+  power = 2;
   body = line (titled (codes "rectangle") side_fields) ∷ line (titled (codes "left") (blocker ∷ [])) ∷ line (titled (codes "bottom") (blocker ∷ []))
       ∷ line (titled (codes "right") (blocker ∷ [])) ∷ line (titled (codes "top") (blocker ∷ [])) ∷ [];
   answer = λ size b. empty (record {
@@ -247,6 +242,7 @@ potential_widths counts = []
 abbrev pub kgon_kind : Kind
 kgon_kind = record {
   name = codes "kgon";
+  power = 2;
   body = counted (record { word = codes "corners"; low = 1; high = 128 }) 0 (point_number ∷ [])
       ∷ counted (record { word = codes "chosen"; low = 1; high = 12 }) 0 (bounded 0 127 ∷ [])
       ∷ count (record { word = codes "layers"; low = 0; high = 10 }) ∷ rows potential_widths ∷ [];
@@ -265,6 +261,7 @@ kgon_kind = record {
 abbrev pub distance_kind : Kind
 distance_kind = record {
   name = codes "distance";
+  power = 2;
   body = line (titled (codes "from") (space_ratio ∷ [])) ∷ line (titled (codes "to") (space_ratio ∷ []))
       ∷ line (titled (codes "direction") (number ∷ number ∷ number ∷ [])) ∷ pairs 4 ∷ [];
   answer = λ size b. distance (record {
@@ -286,11 +283,50 @@ leaf v = record { first = v.0; second = v.1.0 }
 abbrev pub centres_kind : Kind
 centres_kind = record {
   name = codes "centres";
+  power = 1;
   body = counted (record { word = codes "squares"; low = 1; high = 3 }) 0 (plane_ratio ∷ [])
       ∷ counted (record { word = codes "leaves"; low = 0; high = 16 }) 0 (point_number ∷ point_number ∷ []) ∷ [];
   answer = λ size b. centres (record { size = size; squares = map (λ v. v.0) b.0; leaves = map leaf b.1.0 });
 }
 
--- all kinds
+-- ---- furthest corners
+
+-- a corner with its furthest one
+abbrev pub entry : Values (point_number ∷ bounded 0 point_limit ∷ []) → Entry
+entry v = record { corner = v.0; far = v.1.0 }
+
+-- furthest corners: all corners, each with its furthest one
+abbrev pub furthest_kind : Kind
+furthest_kind = record {
+  name = codes "furthest";
+  power = 2;
+  body = counted (record { word = codes "corners"; low = 1; high = 10000 }) 0 (point_number ∷ bounded 0 point_limit ∷ []) ∷ [];
+  answer = λ size b. furthest (record { size = size; entries = map entry b.0 });
+}
+
+-- ---- four centres
+
+-- four centres: the squares, and sixteen leaves for each height
+abbrev pub four_kind : Kind
+four_kind = record {
+  name = codes "centres4";
+  power = 1;
+  body = counted (record { word = codes "squares"; low = 4; high = 4 }) 0 (plane_ratio ∷ [])
+      ∷ counted (record { word = codes "leaves"; low = 0; high = 16000 }) 0 (point_number ∷ point_number ∷ []) ∷ [];
+  answer = λ size b. four (record { size = size; squares = map (λ v. v.0) b.0; leaves = map leaf b.1.0 });
+}
+
+-- ---- shell
+
+-- a shell: its centre, its levels and its pairs
+abbrev pub shell_kind : Kind
+shell_kind = record {
+  name = codes "shell";
+  power = 2;
+  body = line (titled (codes "center") (space_ratio ∷ [])) ∷ line (titled (codes "levels") (number ∷ number ∷ [])) ∷ pairs 4 ∷ [];
+  answer = λ size b. shell (record { size = size; centre = b.0.0; low = b.1.0.0; high = b.1.0.1.0; pairs = map weighted_pair b.1.1.0 });
+}
+
+-- the kinds that are read
 abbrev pub kinds : List Kind
-kinds = circle_kind ∷ sphere_kind ∷ rectangle_kind ∷ strip_kind ∷ parallelogram_kind ∷ annulus_kind ∷ empty_kind ∷ kgon_kind ∷ distance_kind ∷ centres_kind ∷ []
+kinds = circle_kind ∷ sphere_kind ∷ rectangle_kind ∷ strip_kind ∷ parallelogram_kind ∷ annulus_kind ∷ empty_kind ∷ kgon_kind ∷ distance_kind ∷ centres_kind ∷ furthest_kind ∷ four_kind ∷ shell_kind ∷ []

@@ -1,195 +1,161 @@
--- The one spelling of an answer.
-use Rattle.std.specs.Prelude.{◌≡◌, ℕ, zero, suc, ◌+◌, ◌-◌, ◌*◌, ℤ, List, [], ◌∷◌, ◌++◌, length, take, drop, decimal, codes}
-use Rattle.std.specs.Fmt.{signed_decimal}
-use Rattle.std.specs.List.{flat_map}
-use Rattle.bounds_model.specs.Plane.{PlanePoint}
-use Rattle.bounds_model.specs.Space.{SpacePoint, SpaceRatio}
-use Rattle.bounds_model.specs.Fans.{HalfCone, HalfFan, QuarterCone, QuarterFan}
-use Rattle.bounds_model.specs.BallAnswer.{Weighted, CircleAnswer, SphereAnswer}
-use Rattle.bounds_model.specs.RectangleAnswer.{RectangleAnswer}
-use Rattle.bounds_model.specs.StripAnswer.{StripAnswer}
-use Rattle.bounds_model.specs.ParallelogramAnswer.{Chord, ParallelogramAnswer}
-use Rattle.bounds_model.specs.AnnulusAnswer.{WeightedPair, AnnulusAnswer}
-use Rattle.bounds_model.specs.EmptyAnswer.{Blocker, side, point, EmptyAnswer}
-use Rattle.bounds_model.specs.KgonAnswer.{KgonAnswer}
-use Rattle.bounds_model.specs.DistanceAnswer.{DistanceAnswer}
-use Rattle.bounds_model.specs.Answers.{Answer, KeepsRanges, circle, sphere, rectangle, parallelogram, strip, annulus, empty, kgon, distance, centres}
-use Rattle.bounds_model.specs.AnswerText.SpelledParts.{pair_text, points_text, first_line, size_line, count_line, pair_line, four_line, fraction_line, plane_ratio_line, direction_line, index_line, last_line}
-use Rattle.bounds_model.specs.AnswerText.SpelledCentres.{centres_spelling}
+-- The one spelling of an answer, and of a report at a scale: what is written of its kind, its size and its body.
+use Rattle.std.specs.Prelude.{◌≡◌, ℕ, ◌==◌, pos, if◌then◌else◌, List, [], ◌∷◌, map, zip}
+use Rattle.bounds_model.specs.Fractions.{Fraction}
+use Rattle.bounds_model.specs.Plane.{PlanePoint, PlaneRatio}
+use Rattle.bounds_model.specs.Space.{SpacePoint}
+use Rattle.bounds_model.specs.Strip.{Span}
+use Rattle.bounds_model.specs.Fans.{HalfCone, QuarterCone}
+use Rattle.bounds_model.specs.BallAnswer.{Weighted}
+use Rattle.bounds_model.specs.ParallelogramAnswer.{Chord}
+use Rattle.bounds_model.specs.AnnulusAnswer.{WeightedPair}
+use Rattle.bounds_model.specs.CentresAnswer.{Leaf}
+use Rattle.bounds_model.specs.FurthestAnswer.{Entry}
+use Rattle.bounds_model.specs.Ranges.{point_limit}
+use Rattle.bounds_model.specs.Answers.{Answer, KeepsRanges, circle, sphere, rectangle, parallelogram, strip, annulus, empty, kgon, distance, centres, furthest, four, shell}
+use Rattle.bounds_model.specs.Reports.{Report, ReportRanges}
+use Rattle.bounds_model.specs.AnswerText.Fields.{number, natural, bounded, plane_ratio, point_number}
+use Rattle.bounds_model.specs.AnswerText.LineFormats.{Values}
+use Rattle.bounds_model.specs.AnswerText.Formats.{Body}
+use Rattle.bounds_model.specs.AnswerText.Kinds.{Kind, quarter_fields, half_fields, side_fields, chord_fields, chorded_fields, last_fields}
+use Rattle.bounds_model.specs.AnswerText.Kinds.{circle_kind, sphere_kind, rectangle_kind, parallelogram_kind, strip_kind, annulus_kind, empty_kind, kgon_kind, distance_kind, centres_kind, furthest_kind, four_kind, shell_kind}
+use Rattle.bounds_model.specs.AnswerText.Heads.{Format, plain, scaled, Head}
+use Rattle.bounds_model.specs.AnswerText.Written.{text_bytes, kind_bytes}
 
--- ---- lines of several kinds
+-- ---- the fields of a line
 
--- x, y and z over w
-abbrev pub space_ratio_text : SpaceRatio → List ℕ
-space_ratio_text c = pair_text c.x c.y ++ codes " " ++ pair_text c.z c.w
+-- a point with its weight
+abbrev pub support_values : Weighted → Values (point_number ∷ natural ∷ [])
+support_values s = (s.point, (s.weight, tt))
 
--- a word, and x, y and z over w
-unfoldable pub space_ratio_line : List ℕ → SpaceRatio → List ℕ
-space_ratio_line word c = word ++ codes " " ++ space_ratio_text c ++ codes "\n"
+-- two points with their weight
+abbrev pub pair_values : WeightedPair → Values (point_number ∷ point_number ∷ natural ∷ [])
+pair_values p = (p.first, (p.second, (p.weight, tt)))
 
--- the number of a point and its weight
-unfoldable pub weighted_line : Weighted → List ℕ
-weighted_line s = decimal s.point ++ codes " " ++ signed_decimal s.weight ++ codes "\n"
+-- two points that are far apart
+abbrev pub leaf_values : Leaf → Values (point_number ∷ point_number ∷ [])
+leaf_values leaf = (leaf.first, (leaf.second, tt))
 
--- the numbers of two points and their weight
-unfoldable pub weighted_pair_line : WeightedPair → List ℕ
-weighted_pair_line pair = points_text pair.first pair.second ++ codes " " ++ signed_decimal pair.weight ++ codes "\n"
+-- a corner with its furthest one
+abbrev pub entry_values : Entry → Values (point_number ∷ bounded 0 point_limit ∷ [])
+entry_values e = (e.corner, (e.far, tt))
 
--- ---- circle and sphere
+-- a vector
+abbrev pub vector_values : PlanePoint → Values (number ∷ number ∷ [])
+vector_values d = (d.x, (d.y, tt))
 
--- a circle: its centre and its supports
-abbrev pub circle_spelling : CircleAnswer → List ℕ
-circle_spelling a = first_line (codes "circle") ++ size_line a.size ++ plane_ratio_line (codes "center") a.centre
-    ++ count_line (codes "supports") (length a.supports) ++ flat_map weighted_line a.supports ++ last_line
+-- a vector of space
+abbrev pub space_values : SpacePoint → Values (number ∷ number ∷ number ∷ [])
+space_values d = (d.x, (d.y, (d.z, tt)))
 
--- a sphere, likewise
-abbrev pub sphere_spelling : SphereAnswer → List ℕ
-sphere_spelling a = first_line (codes "sphere") ++ size_line a.size ++ space_ratio_line (codes "center") a.centre
-    ++ count_line (codes "supports") (length a.supports) ++ flat_map weighted_line a.supports ++ last_line
+-- two bounds
+abbrev pub span_values : Span → Values (number ∷ number ∷ [])
+span_values s = (s.low, (s.high, tt))
 
--- ---- rectangle, strip and parallelogram
-
--- a direction, and the highest and the lowest point for it and for it turned
-unfoldable pub quarter_line : QuarterCone → List ℕ
-quarter_line cone = pair_text cone.direction.x cone.direction.y ++ codes " " ++ points_text cone.high cone.low ++ codes " " ++ points_text cone.over cone.under ++ codes "\n"
-
--- the number of directions, the cones, and the last direction
-abbrev pub quarter_fan_lines : QuarterFan → List ℕ
-quarter_fan_lines fan = count_line (codes "fan") (length fan.cones + 1) ++ flat_map quarter_line fan.cones ++ direction_line fan.last
-
--- a rectangle: its direction, its bounds and its fan
-abbrev pub rectangle_spelling : RectangleAnswer → List ℕ
-rectangle_spelling a = first_line (codes "rectangle") ++ size_line a.size
-    ++ pair_line (codes "direction") a.direction.x a.direction.y ++ pair_line (codes "along") a.along.low a.along.high
-    ++ pair_line (codes "across") a.across.low a.across.high ++ quarter_fan_lines a.fan ++ last_line
+-- a normal with its bounds
+abbrev pub side_values : PlanePoint → Span → Values side_fields
+side_values d s = (d.x, (d.y, (s.low, (s.high, tt))))
 
 -- a direction, and the highest and the lowest point for it
-unfoldable pub half_line : HalfCone → List ℕ
-half_line cone = pair_text cone.direction.x cone.direction.y ++ codes " " ++ points_text cone.high cone.low ++ codes "\n"
+abbrev pub half_values : HalfCone → Values half_fields
+half_values c = (c.direction.x, (c.direction.y, (c.high, (c.low, tt))))
 
--- the number of directions, the cones, and the last direction
-abbrev pub half_fan_lines : HalfFan → List ℕ
-half_fan_lines fan = count_line (codes "fan") (length fan.cones + 1) ++ flat_map half_line fan.cones ++ direction_line fan.last
-
--- a strip: its normal, its bounds and its fan
-abbrev pub strip_spelling : StripAnswer → List ℕ
-strip_spelling a = first_line (codes "strip") ++ size_line a.size
-    ++ pair_line (codes "direction") a.direction.x a.direction.y ++ pair_line (codes "bounds") a.bounds.low a.bounds.high
-    ++ half_fan_lines a.fan ++ last_line
+-- a direction, and the highest and the lowest point for it and for it turned
+abbrev pub quarter_values : QuarterCone → Values quarter_fields
+quarter_values c = (c.direction.x, (c.direction.y, (c.high, (c.low, (c.over, (c.under, tt))))))
 
 -- three points, two weights and a factor
-abbrev pub chord_text : Chord → List ℕ
-chord_text chord = points_text chord.a chord.b ++ codes " " ++ decimal chord.c ++ codes " " ++ pair_text chord.beta chord.gamma ++ codes " " ++ signed_decimal chord.k
+abbrev pub chord_values : Chord → Values chord_fields
+chord_values k = (k.a, (k.b, (k.c, (k.beta, (k.gamma, (k.k, tt))))))
 
--- a direction with its highest and its lowest point and its chord
-unfoldable pub chorded_line : HalfCone → Chord → List ℕ
-chorded_line cone chord = pair_text cone.direction.x cone.direction.y ++ codes " " ++ points_text cone.high cone.low ++ codes " " ++ chord_text chord ++ codes "\n"
+-- a cone and its chord
+abbrev pub chorded_values : HalfCone × Chord → Values chorded_fields
+chorded_values x = (x.0.direction.x, (x.0.direction.y, (x.0.high, (x.0.low, chord_values x.1))))
 
--- the last direction with its chord
-unfoldable pub last_chord_line : PlanePoint → Chord → List ℕ
-last_chord_line d chord = pair_text d.x d.y ++ codes " " ++ chord_text chord ++ codes "\n"
+-- the last direction and its chord
+abbrev pub end_values : PlanePoint → Chord → Values last_fields
+end_values d k = (d.x, (d.y, chord_values k))
 
--- each cone with its chord, and the last direction with the chord that is left
-abbrev pub chorded_lines : List HalfCone → PlanePoint → List Chord → List ℕ
-chorded_lines [] last [] = []
-chorded_lines [] last (chord ∷ rest) = last_chord_line last chord
-chorded_lines (cone ∷ cones) last [] = []
-chorded_lines (cone ∷ cones) last (chord ∷ chords) = chorded_line cone chord ++ chorded_lines cones last chords
+-- the last of these chords, or a chord of zeros where there is none
+abbrev pub end_chord : List Chord → Chord
+end_chord [] = record { a = 0; b = 0; c = 0; beta = pos 0; gamma = pos 0; k = pos 0 }
+end_chord (k ∷ []) = k
+end_chord (k ∷ l ∷ chords) = end_chord (l ∷ chords)
 
--- the number of directions, and the directions with their chords
-abbrev pub chorded_fan_lines : HalfFan → List Chord → List ℕ
-chorded_fan_lines fan chords = count_line (codes "fan") (length fan.cones + 1) ++ chorded_lines fan.cones fan.last chords
+-- a number alone
+abbrev pub position_values : ℕ → ℕ × Unit {0}
+position_values n = (n, tt)
 
--- a parallelogram: two normals with their bounds, and a fan with chords
-abbrev pub parallelogram_spelling : ParallelogramAnswer → List ℕ
-parallelogram_spelling a = first_line (codes "parallelogram") ++ size_line a.size
-    ++ four_line (codes "first") a.first.x a.first.y a.first_bounds.low a.first_bounds.high
-    ++ four_line (codes "second") a.second.x a.second.y a.second_bounds.low a.second_bounds.high
-    ++ chorded_fan_lines a.fan a.chords ++ last_line
+-- a point of the plane alone
+abbrev pub place_values : PlaneRatio → Values (plane_ratio ∷ [])
+place_values c = (c, tt)
 
--- ---- annulus
+-- ---- what an answer says
 
--- an annulus: its centre, its radii and its pairs
-abbrev pub annulus_spelling : AnnulusAnswer → List ℕ
-annulus_spelling a = first_line (codes "annulus") ++ size_line a.size ++ plane_ratio_line (codes "center") a.centre
-    ++ fraction_line (codes "inner") a.inner ++ fraction_line (codes "outer") a.outer
-    ++ count_line (codes "pairs") (length a.pairs) ++ flat_map weighted_pair_line a.pairs ++ last_line
+-- a kind, a size, and the body of the kind
+pub record Said : Type 0 where
+  pub kind : Kind
+  pub size : Fraction
+  pub body : Body kind.body
 
--- ---- empty rectangle
+-- what an answer says
+abbrev pub said_of : Answer → Said
+said_of (circle a) = record { kind = circle_kind; size = a.size; body = ((a.centre, tt), (map support_values a.supports, tt)) }
+said_of (sphere a) = record { kind = sphere_kind; size = a.size; body = ((a.centre, tt), (map support_values a.supports, tt)) }
+said_of (rectangle a) = record {
+  kind = rectangle_kind;
+  size = a.size;
+  body = (vector_values a.direction, (span_values a.along, (span_values a.across, (map quarter_values a.fan.cones, (vector_values a.fan.last, tt)))));
+}
+said_of (parallelogram a) = record {
+  kind = parallelogram_kind;
+  size = a.size;
+  body = (
+    side_values a.first a.first_bounds,
+    (side_values a.second a.second_bounds, (map chorded_values (zip a.fan.cones a.chords), (end_values a.fan.last (end_chord a.chords), tt))),
+  );
+}
+said_of (strip a) = record {
+  kind = strip_kind;
+  size = a.size;
+  body = (vector_values a.direction, (span_values a.bounds, (map half_values a.fan.cones, (vector_values a.fan.last, tt))));
+}
+said_of (annulus a) = record { kind = annulus_kind; size = a.size; body = ((a.centre, tt), ((a.inner, tt), ((a.outer, tt), (map pair_values a.pairs, tt)))) }
+said_of (empty a) = record {
+  kind = empty_kind;
+  size = a.size;
+  body = ((a.box.left, (a.box.bottom, (a.box.right, (a.box.top, tt)))), ((a.left, tt), ((a.bottom, tt), ((a.right, tt), ((a.top, tt), tt)))));
+}
+said_of (kgon a) = record { kind = kgon_kind; size = a.size; body = (map position_values a.corners, (map position_values a.chosen, (a.layers, (a.potentials, tt)))) }
+said_of (distance a) = record { kind = distance_kind; size = a.size; body = ((a.from, tt), ((a.to, tt), (space_values a.direction, (map pair_values a.pairs, tt)))) }
+said_of (centres a) = record { kind = centres_kind; size = a.size; body = (map place_values a.squares, (map leaf_values a.leaves, tt)) }
+said_of (furthest a) = record { kind = furthest_kind; size = a.size; body = (map entry_values a.entries, tt) }
+said_of (four a) = record { kind = four_kind; size = a.size; body = (map place_values a.squares, (map leaf_values a.leaves, tt)) }
+said_of (shell a) = record { kind = shell_kind; size = a.size; body = ((a.centre, tt), ((a.low, (a.high, tt)), (map pair_values a.pairs, tt))) }
 
--- the frame's side, or the number of a point
-abbrev pub blocker_text : Blocker → List ℕ
-blocker_text side = codes "box"
-blocker_text (point n) = decimal n
+-- ---- spellings
 
--- a side and what it rests on
-unfoldable pub blocker_line : List ℕ → Blocker → List ℕ
-blocker_line word blocker = word ++ codes " " ++ blocker_text blocker ++ codes "\n"
-
--- an empty rectangle: its box, and what each side rests on
-abbrev pub empty_spelling : EmptyAnswer → List ℕ
-empty_spelling a = first_line (codes "empty") ++ size_line a.size
-    ++ four_line (codes "rectangle") a.box.left a.box.bottom a.box.right a.box.top
-    ++ blocker_line (codes "left") a.left ++ blocker_line (codes "bottom") a.bottom
-    ++ blocker_line (codes "right") a.right ++ blocker_line (codes "top") a.top ++ last_line
-
--- ---- polygon
-
--- numbers, each behind a blank
-abbrev pub blank_numbers : List ℤ → List ℕ
-blank_numbers [] = []
-blank_numbers (z ∷ rest) = codes " " ++ signed_decimal z ++ blank_numbers rest
-
--- a line of numbers
-unfoldable pub potentials_line : List ℤ → List ℕ
-potentials_line [] = codes "\n"
-potentials_line (z ∷ rest) = signed_decimal z ++ blank_numbers rest ++ codes "\n"
-
--- so many lines of the same number of potentials, from the front of the list
-abbrev pub layer_lines : ℕ → ℕ → List ℤ → List ℕ
-layer_lines zero width potentials = []
-layer_lines (suc layers) width potentials = potentials_line (take width potentials) ++ layer_lines layers width (drop width potentials)
-
--- the lines of all first corners: the first corner has the most corners behind it, and the last but one has one
-abbrev pub potential_lines : ℕ → ℕ → List ℤ → List ℕ
-potential_lines zero layers potentials = []
-potential_lines (suc behind) layers potentials = layer_lines layers (suc behind) potentials ++ potential_lines behind layers (drop (layers * suc behind) potentials)
-
--- a polygon: all corners, the chosen ones and the potentials
-abbrev pub kgon_spelling : KgonAnswer → List ℕ
-kgon_spelling a = first_line (codes "kgon") ++ size_line a.size
-    ++ count_line (codes "corners") (length a.corners) ++ flat_map index_line a.corners
-    ++ count_line (codes "chosen") (length a.chosen) ++ flat_map index_line a.chosen
-    ++ count_line (codes "layers") a.layers ++ potential_lines (length a.corners - 1) a.layers a.potentials ++ last_line
-
--- ---- distance
-
--- the direction from the second set to the first
-unfoldable pub space_direction_line : SpacePoint → List ℕ
-space_direction_line d = codes "direction " ++ pair_text d.x d.y ++ codes " " ++ signed_decimal d.z ++ codes "\n"
-
--- a distance: its two ends, its direction and its pairs
-abbrev pub distance_spelling : DistanceAnswer → List ℕ
-distance_spelling a = first_line (codes "distance") ++ size_line a.size
-    ++ space_ratio_line (codes "from") a.from ++ space_ratio_line (codes "to") a.to ++ space_direction_line a.direction
-    ++ count_line (codes "pairs") (length a.pairs) ++ flat_map weighted_pair_line a.pairs ++ last_line
-
--- ---- all kinds
-
--- the spelling of an answer of any kind
+-- the bytes of an answer
 abbrev pub spelling : Answer → List ℕ
-spelling (circle a) = circle_spelling a
-spelling (sphere a) = sphere_spelling a
-spelling (rectangle a) = rectangle_spelling a
-spelling (parallelogram a) = parallelogram_spelling a
-spelling (strip a) = strip_spelling a
-spelling (annulus a) = annulus_spelling a
-spelling (empty a) = empty_spelling a
-spelling (kgon a) = kgon_spelling a
-spelling (distance a) = distance_spelling a
-spelling (centres a) = centres_spelling a
+spelling answer = kind_bytes (said_of answer).kind (said_of answer).size (said_of answer).body
 
 -- the bytes are the spelling of the answer, which keeps its ranges
 pub record Spells (bytes : List ℕ) (answer : Answer) : Type 0 where
   pub ranges : KeepsRanges answer
   pub spelled : bytes ≡ spelling answer
+
+-- a scale of 1 is not written
+abbrev pub format_of : ℕ → Format
+format_of scale = if scale == 1 then plain else scaled
+
+-- the head of what an answer says, at a scale
+abbrev pub head_of : ℕ → Said → Head
+head_of scale said = record { kind = said.kind; scale = scale; size = said.size }
+
+-- the bytes of a report
+abbrev pub report_bytes : Report → List ℕ
+report_bytes r = text_bytes (format_of r.scale) (head_of r.scale (said_of r.answer)) (said_of r.answer).body
+
+-- the bytes are the spelling of the report, which keeps its ranges
+pub record SpellsReport (bytes : List ℕ) (r : Report) : Type 0 where
+  pub ranges : ReportRanges r
+  pub spelled : bytes ≡ report_bytes r

@@ -1,16 +1,25 @@
 -- The bytes that a format writes, from the words of a field up to a whole text.
-use Rattle.std.specs.Prelude.{ℕ, ◌+◌, ℤ, List, [], ◌∷◌, ◌++◌, length, map, take, drop, decimal}
+use Rattle.std.specs.Prelude.{ℕ, ◌+◌, ℤ, List, [], ◌∷◌, ◌++◌, length, map, take, drop, decimal, codes}
 use Rattle.std.specs.Fmt.{signed_decimal}
 use Rattle.std.specs.List.{flat_map}
 use Rattle.bounds_model.specs.Fractions.{Fraction}
+use Rattle.bounds_model.specs.EmptyAnswer.{Blocker, side, point}
 use Rattle.bounds_model.specs.AnswerText.Fields.{Field, number, natural, naturals, bounded, fraction, plane_ratio, space_ratio, blocker, Value}
 use Rattle.bounds_model.specs.AnswerText.LineFormats.{LineFormat, untitled, Values}
 use Rattle.bounds_model.specs.AnswerText.Formats.{count_format, Part, line, counted, count, rows, PartValue, counts_after, Body}
-use Rattle.bounds_model.specs.AnswerText.Kinds.{Kind, first_format, size_format, last_format}
-use Rattle.bounds_model.specs.AnswerText.SpelledParts.{fraction_text}
-use Rattle.bounds_model.specs.AnswerText.Spelling.{blocker_text}
+use Rattle.bounds_model.specs.AnswerText.Kinds.{Kind}
+use Rattle.bounds_model.specs.AnswerText.Heads.{Format, plain, scaled, Head, whole_size, first_format, scale_format, size_format, last_format}
 
 -- ---- words
+
+-- numerator and denominator, parted by a slash
+abbrev pub fraction_text : Fraction → List ℕ
+fraction_text a = signed_decimal a.n ++ codes "/" ++ signed_decimal a.d
+
+-- the frame's side, or the number of a point
+abbrev pub blocker_text : Blocker → List ℕ
+blocker_text side = codes "box"
+blocker_text (point n) = decimal n
 
 -- the words of a field
 abbrev pub field_words : (field : Field) → Value field → List (List ℕ)
@@ -67,6 +76,25 @@ abbrev pub body_bytes : (parts : List Part) → List ℕ → Body parts → List
 body_bytes [] counts body = []
 body_bytes (part ∷ parts) counts body = part_bytes part counts body.0 ++ body_bytes parts (counts_after part body.0 counts) body.1
 
--- the text of a kind: the first line, the size, the body and the last line
+-- ---- whole texts
+
+-- the line of a size
+unfoldable pub size_line : Fraction → List ℕ
+size_line size = format_line size_format (size, tt)
+
+-- the lines of a head
+abbrev pub head_bytes : Format → Head → List ℕ
+head_bytes plain head = format_line (first_format plain head.kind.name) tt ++ format_line size_format (head.size, tt)
+head_bytes scaled head = format_line (first_format scaled head.kind.name) tt ++ (format_line scale_format (head.scale, tt) ++ format_line size_format (whole_size head, tt))
+
+-- the text of a head and a body: the head, the body and the last line
+abbrev pub text_bytes : Format → (head : Head) → Body head.kind.body → List ℕ
+text_bytes format head body = head_bytes format head ++ (body_bytes head.kind.body [] body ++ format_line last_format tt)
+
+-- the head of a size in whole units
+abbrev pub plain_head : Kind → Fraction → Head
+plain_head kind size = record { kind = kind; scale = 1; size = size }
+
+-- the text of a kind in whole units
 abbrev pub kind_bytes : (kind : Kind) → Fraction → Body kind.body → List ℕ
-kind_bytes kind size body = format_line (first_format kind.name) tt ++ (format_line size_format (size, tt) ++ (body_bytes kind.body [] body ++ format_line last_format tt))
+kind_bytes kind size body = text_bytes plain (plain_head kind size) body

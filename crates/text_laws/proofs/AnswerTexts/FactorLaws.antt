@@ -8,7 +8,7 @@ use Rattle.std.proofs.lemmas.Nat.Gcd.{IsGcd-from_zero, IsGcd-from_mod, dvd-zero,
 use Rattle.std.proofs.lemmas.List.Elements.{All-nil, All-cons, All-head, All-tail}
 use Rattle.std.proofs.lemmas.Bool.Decides.{Decides-eqb, Decides-like}
 use Rattle.bounds_model.specs.Fractions.{HaveNoCommonFactor}
-use Rattle.bounds_model.specs.AnswerText.Fields.{common_divisor, common_factor}
+use Rattle.bounds_model.specs.Fractions.{common_divisor, common_factor}
 
 -- remainders lead to the greatest common divisor
 divisor_is : (steps a b : ℕ) → b < steps → IsGcd a b (common_divisor steps a b)
@@ -17,7 +17,7 @@ divisor_is (suc steps) a zero h = IsGcd-from_zero a 0 refl
 divisor_is (suc steps) a (suc b) h = IsGcd-from_mod a (suc b) _ (divisor_is steps (suc b) (a % suc b) (omega arith))
 
 -- the factor of a list is that of its first entry and of the rest
-first_step : (e : ℤ) (es : List ℤ) → IsGcd (nat_abs e) (common_factor es) (common_factor (e ∷ es))
+pub first_step : (e : ℤ) (es : List ℤ) → IsGcd (nat_abs e) (common_factor es) (common_factor (e ∷ es))
 first_step e es = divisor_is (suc (common_factor es)) (nat_abs e) (common_factor es) (omega arith)
 
 -- the number divides the entry

@@ -11,8 +11,8 @@ use Rattle.bounds_model.specs.Space.{SpaceRatio}
 use Rattle.bounds_model.specs.EmptyAnswer.{Blocker, side, point}
 use Rattle.bounds_model.specs.AnswerText.Numerals.{◌>>=◌, natural_number, whole_number, fraction_number}
 use Rattle.bounds_model.specs.AnswerText.Fields.{Field, number, natural, naturals, bounded, fraction, plane_ratio, space_ratio, blocker, Value, naturals_of, blocker_of, value_of, is_small}
-use Rattle.bounds_model.specs.AnswerText.SpelledParts.{fraction_text}
-use Rattle.bounds_model.specs.AnswerText.Spelling.{blocker_text}
+use Rattle.bounds_model.specs.AnswerText.Written.{fraction_text}
+use Rattle.bounds_model.specs.AnswerText.Written.{blocker_text}
 use Rattle.bounds_model.specs.AnswerText.Written.{field_words}
 use Rattle.text_laws.proofs.AnswerTexts.NumberLaws.{bind_some, some_is, natural_back}
 use Rattle.text_laws.proofs.AnswerTexts.WholeLaws.{whole_back, fraction_back}

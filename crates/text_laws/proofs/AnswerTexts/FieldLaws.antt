@@ -11,8 +11,8 @@ use Rattle.bounds_model.specs.Ranges.{number_limit}
 use Rattle.bounds_model.specs.EmptyAnswer.{Blocker, side, point}
 use Rattle.bounds_model.specs.AnswerText.Numerals.{◌>>=◌, is_numeral, natural_number, whole_number}
 use Rattle.bounds_model.specs.AnswerText.Fields.{Field, number, natural, naturals, bounded, fraction, plane_ratio, space_ratio, blocker, Value, naturals_of, blocker_of, value_of, is_small, is_in_range}
-use Rattle.bounds_model.specs.AnswerText.SpelledParts.{fraction_text}
-use Rattle.bounds_model.specs.AnswerText.Spelling.{blocker_text}
+use Rattle.bounds_model.specs.AnswerText.Written.{fraction_text}
+use Rattle.bounds_model.specs.AnswerText.Written.{blocker_text}
 use Rattle.bounds_model.specs.AnswerText.Written.{field_words}
 use Rattle.text_laws.proofs.AnswerTexts.NumberLaws.{step_again, both_true, is_word, numeral_begins, is_numeral-decimal, natural_again, is_word-decimal}
 use Rattle.text_laws.proofs.AnswerTexts.WholeLaws.{whole_again, is_word-signed, fraction_again, is_word-fraction}

@@ -1,74 +1,24 @@
 -- The texts of polygons.
-use Rattle.std.proofs.Common.{◌≡◌, ℕ, zero, suc, ◌+◌, ◌-◌, ◌*◌, ◌/◌, ◌≤◌, ℤ, Bool, true, ◌&&◌, List, [], ◌∷◌, ◌++◌, length, map, take, drop, replicate, refl, sym, ap, subst, ◌∙◌, append_assoc, arith}
-use Rattle.std.specs.Prelude.{codes, All, nat_lt}
-use Rattle.std.specs.Fmt.{signed_decimal}
+use Rattle.std.proofs.Common.{◌≡◌, ℕ, zero, suc, ◌+◌, ◌-◌, ◌*◌, ◌/◌, ◌≤◌, ℤ, Bool, true, ◌&&◌, List, [], ◌∷◌, ◌++◌, length, map, take, drop, replicate, refl, sym, ap, subst, ◌∙◌, arith}
+use Rattle.std.specs.Prelude.{All, nat_lt}
 use Rattle.std.specs.List.{list_all}
 use Rattle.std.proofs.Math.Nat.{mul-le-mul}
-use Rattle.std.proofs.lemmas.List.{append-nil, length-map, length-append, length-take, length-drop, take-append-drop, nil_from_length, length-replicate}
+use Rattle.std.proofs.lemmas.List.{length-map, length-append, length-take, length-drop, take-append-drop, nil_from_length, length-replicate}
 use Rattle.std.proofs.lemmas.List.Folds.{list_all-append}
 use Rattle.std.proofs.lemmas.List.Elements.{All-nil, All-append, All-take, All-drop}
 use Rattle.std.proofs.lemmas.Bool.{lt-ltb}
-use Rattle.bounds_model.specs.Fractions.{Fraction}
 use Rattle.bounds_model.specs.Ranges.{IsNatural, point_limit}
 use Rattle.bounds_model.specs.KgonAnswer.{KgonAnswer, KgonRanges, pairs_before}
 use Rattle.bounds_model.specs.Answers.{kgon}
 use Rattle.bounds_model.specs.AnswerText.Fields.{fraction, naturals, bounded, point_number}
-use Rattle.bounds_model.specs.AnswerText.LineFormats.{Values}
-use Rattle.bounds_model.specs.AnswerText.Formats.{Count, Body}
 use Rattle.bounds_model.specs.AnswerText.Kinds.{kgon_kind, triangle}
-use Rattle.bounds_model.specs.AnswerText.SpelledParts.{index_line}
-use Rattle.bounds_model.specs.AnswerText.Spelling.{spelling, blank_numbers, potentials_line, layer_lines, potential_lines}
-use Rattle.bounds_model.specs.AnswerText.Written.{line_bytes, format_line, row_format, rows_bytes, kind_bytes}
+use Rattle.bounds_model.specs.AnswerText.Spelling.{position_values}
 use Rattle.text_laws.proofs.AnswerTexts.BodyLaws.{RowsFit}
-use Rattle.text_laws.proofs.AnswerTexts.AnswerLaws.{KindLaw, Written}
+use Rattle.text_laws.proofs.AnswerTexts.AnswerLaws.{KindLaw, Written, said_at}
 use Rattle.text_laws.proofs.AnswerTexts.RangeLaws.{line_ranges, line_fits}
 use Rattle.text_laws.proofs.AnswerTexts.ListRanges.{all_ranges, all_fit, count_ranges, count_fits, map_back}
-use Rattle.text_laws.proofs.AnswerTexts.SpelledLaws.{first_is, size_is, last_is, count_is, index_is, counted_are, made_length_all}
 
 -- ---- rows
-
--- numbers behind blanks are the words behind the first
-blank_numbers_are : (word : List ℕ) (zs : List ℤ) → word ++ (blank_numbers zs ++ 10 ∷ []) ≡ line_bytes (word ∷ map signed_decimal zs)
-blank_numbers_are word [] = refl
-blank_numbers_are word (z ∷ zs) =
-    let inner : (32 ∷ signed_decimal z) ++ blank_numbers zs ++ 10 ∷ [] ≡ 32 ∷ (signed_decimal z ++ (blank_numbers zs ++ 10 ∷ [])) = simp append_assoc in
-    ap (λ (x : List ℕ). word ++ x) (inner ∙ ap (λ (x : List ℕ). 32 ∷ x) (blank_numbers_are (signed_decimal z) zs))
-
--- the spelled line of numbers is that of its format
-potentials_are : (width : ℕ) (zs : List ℤ) → potentials_line zs ≡ format_line (row_format width) (zs, tt)
-unfolding potentials_line
-potentials_are width [] = refl
-potentials_are width (z ∷ zs) =
-    let words : map signed_decimal zs ++ [] ≡ map signed_decimal zs = append-nil (map signed_decimal zs) in
-    append_assoc (signed_decimal z) (blank_numbers zs) (10 ∷ []) ∙ blank_numbers_are (signed_decimal z) zs ∙ ap (λ (ws : List (List ℕ)). line_bytes (signed_decimal z ∷ ws)) (sym words)
-
--- nothing is left of nothing
-drop_nothing : (k : ℕ) → ◌≡◌ {A = List ℤ} (drop k []) []
-drop_nothing zero = refl
-drop_nothing (suc k) = refl
-
--- two pieces that are left out are one
-drop_twice : (a b : ℕ) (zs : List ℤ) → drop a (drop b zs) ≡ drop (b + a) zs
-drop_twice a zero zs = ap (λ (k : ℕ). drop k zs) {x = a} {y = 0 + a} (omega arith)
-drop_twice a (suc b) [] = drop_nothing a ∙ sym (drop_nothing (suc b + a))
-drop_twice a (suc b) (z ∷ zs) = drop_twice a b zs ∙ ap (λ (k : ℕ). drop k (z ∷ zs)) {x = suc (b + a)} {y = suc b + a} (omega arith)
-
--- the rows of one width, and the rows behind them
-layers_are : (layers width : ℕ) (more : List ℕ) (zs : List ℤ) → rows_bytes (replicate layers width ++ more) zs ≡ layer_lines layers width zs ++ rows_bytes more (drop (layers * width) zs)
-layers_are zero width more zs = ap (λ (k : ℕ). rows_bytes more (drop k zs)) {x = 0} {y = 0 * width} (omega arith)
-layers_are (suc layers) width more zs =
-    let others = layers_are layers width more (drop width zs) in
-    let range : width + layers * width ≡ suc layers * width = omega arith in
-    let behind : drop (layers * width) (drop width zs) ≡ drop (suc layers * width) zs = drop_twice (layers * width) width zs ∙ ap (λ (k : ℕ). drop k zs) range in
-    (λ i. sym (potentials_are width (take width zs)) i ++ others i)
-    ∙ sym (append_assoc (potentials_line (take width zs)) (layer_lines layers width (drop width zs)) (rows_bytes more (drop (layers * width) (drop width zs))))
-    ∙ ap (λ (ys : List ℤ). potentials_line (take width zs) ++ layer_lines layers width (drop width zs) ++ rows_bytes more ys) behind
-
--- the spelled lines of potentials are the rows of the format
-rows_are : (longest layers : ℕ) (zs : List ℤ) → potential_lines longest layers zs ≡ rows_bytes (triangle longest layers) zs
-rows_are zero layers zs = refl
-rows_are (suc longest) layers zs =
-    ap (λ (x : List ℕ). layer_lines layers (suc longest) zs ++ x) (rows_are longest layers (drop (layers * suc longest) zs)) ∙ sym (layers_are layers (suc longest) (triangle longest layers) zs)
 
 -- ---- how many potentials
 
@@ -154,39 +104,16 @@ few_potentials longest layers long deep =
 
 -- ---- polygon
 
--- the count of corners
-abbrev corners_count : Count
-corners_count = record { word = codes "corners"; low = 1; high = 128 }
-
--- the count of chosen corners
-abbrev chosen_count : Count
-chosen_count = record { word = codes "chosen"; low = 1; high = 12 }
-
--- the count of layers
-abbrev layers_count : Count
-layers_count = record { word = codes "layers"; low = 0; high = 10 }
-
--- the corners behind the first one
-behind_first : {X : Type 0} (make : X → ℕ) (xs : List X) → length (map make xs) - 1 ≡ length xs + 0 - 1
-behind_first make xs = omega (arith, length-map xs make)
-
--- the spelling of a polygon is the text of its format
-kgon_spelled : (size : Fraction) (b : Body kgon_kind.body) → spelling (kgon_kind.answer size b) ≡ kind_bytes kgon_kind size b
-kgon_spelled size b =
-    let first = first_is (codes "kgon") in
-    let second = size_is size in
-    let corners = counted_are {Y = ℕ} corners_count 0 (point_number ∷ []) index_line (λ v. v.0) b.0 (λ v. index_is 0 point_limit v) (length (map {B = ℕ} (λ v. v.0) b.0)) (made_length_all {Y = ℕ} (λ v. v.0) b.0) in
-    let chosen = counted_are {Y = ℕ} chosen_count 0 (bounded 0 127 ∷ []) index_line (λ v. v.0) b.1.0 (λ v. index_is 0 127 v) (length (map {B = ℕ} (λ v. v.0) b.1.0)) (made_length_all {Y = ℕ} (λ v. v.0) b.1.0) in
-    let layers = count_is layers_count b.1.1.0 in
-    let potentials = ap (λ (k : ℕ). potential_lines k b.1.1.0 b.1.1.1.0) (behind_first {X = Values (point_number ∷ [])} (λ v. v.0) b.0) ∙ rows_are (length b.0 + 0 - 1) b.1.1.0 b.1.1.1.0 in
-    simp (append_assoc, append-nil, first, second, corners, chosen, layers, potentials, last_is)
-
 -- polygons keep the laws
 pub kgon_law : KindLaw kgon_kind
 kgon_law = record {
   sound = record { name = refl; parts = λ b. (refl, (refl, (refl, (widths_above_zero (length b.0 + 0 - 1) b.1.1.0, tt)))) };
   named = λ lines. refl;
-  spelled = kgon_spelled;
+  named_scaled = λ lines. refl;
+  not_plain = λ lines. refl;
+  said = λ size b. λ i. said_at kgon_kind size (map_back {X = ℕ} position_values (λ v. v.0) b.0 (λ v. refl) i, (map_back {X = ℕ} position_values (λ v. v.0) b.1.0 (λ v. refl) i, b.1.1));
+  power = λ size b. refl;
+  size = λ size b. refl;
   short = λ b fits.
       let corners = (line_ranges (bounded 1 128 ∷ []) (length b.0 + 0, tt) fits.0.0).0.1 in
       let layers = (line_ranges (bounded 0 10 ∷ []) (b.1.1.0, tt) fits.1.1.0).0.1 in
@@ -208,37 +135,33 @@ kgon_law = record {
       };
 }
 
--- a number as the field of its line
-abbrev number_parts : ℕ → ℕ × Unit {0}
-number_parts n = (n, tt)
-
 -- a polygon that keeps its ranges is one that its format writes
 pub kgon_written : (a : KgonAnswer) → KgonRanges a → Written (kgon a)
 kgon_written a ranges =
-    let longest : ℕ = length (map number_parts a.corners) + 0 - 1 in
-    let corners : length a.corners ≡ suc longest = omega (arith, ranges.corner_count.at_least, length-map a.corners number_parts) in
+    let longest : ℕ = length (map position_values a.corners) + 0 - 1 in
+    let corners : length a.corners ≡ suc longest = omega (arith, ranges.corner_count.at_least, length-map a.corners position_values) in
     record {
       kind = kgon_kind;
       law = kgon_law;
       size = a.size;
-      body = (map number_parts a.corners, (map number_parts a.chosen, (a.layers, (a.potentials, tt))));
+      body = (map position_values a.corners, (map position_values a.chosen, (a.layers, (a.potentials, tt))));
       is = λ i. kgon (record {
         size = a.size;
-        corners = map_back {Y = ℕ} (λ v. v.0) number_parts a.corners (λ n. refl) i;
-        chosen = map_back {Y = ℕ} (λ v. v.0) number_parts a.chosen (λ n. refl) i;
+        corners = map_back {Y = ℕ} (λ v. v.0) position_values a.corners (λ n. refl) i;
+        chosen = map_back {Y = ℕ} (λ v. v.0) position_values a.chosen (λ n. refl) i;
         layers = a.layers;
         potentials = a.potentials;
       });
       size_fits = line_fits (fraction ∷ []) (a.size, tt) refl (ranges.size, tt);
       body_fits = (
         (
-          count_fits number_parts 1 128 0 a.corners refl (omega (arith, ranges.corner_count.at_least)) (omega (arith, ranges.corner_count.at_most)),
-          all_fit (point_number ∷ []) number_parts (λ n. n ≤ point_limit) a.corners refl (λ n p. ((omega arith, p), tt)) ranges.corners,
+          count_fits position_values 1 128 0 a.corners refl (omega (arith, ranges.corner_count.at_least)) (omega (arith, ranges.corner_count.at_most)),
+          all_fit (point_number ∷ []) position_values (λ n. n ≤ point_limit) a.corners refl (λ n p. ((omega arith, p), tt)) ranges.corners,
         ),
         (
           (
-            count_fits number_parts 1 12 0 a.chosen refl (omega (arith, ranges.chosen_count.at_least)) (omega (arith, ranges.chosen_count.at_most)),
-            all_fit (bounded 0 127 ∷ []) number_parts (λ n. n ≤ 127) a.chosen refl (λ n p. ((omega arith, p), tt)) ranges.chosen,
+            count_fits position_values 1 12 0 a.chosen refl (omega (arith, ranges.chosen_count.at_least)) (omega (arith, ranges.chosen_count.at_most)),
+            all_fit (bounded 0 127 ∷ []) position_values (λ n. n ≤ 127) a.chosen refl (λ n p. ((omega arith, p), tt)) ranges.chosen,
           ),
           (
             line_fits (bounded 0 10 ∷ []) (a.layers, tt) refl ((omega arith, ranges.layers), tt),

@@ -12,7 +12,7 @@ use Rattle.bounds_model.specs.Ranges.{number_limit}
 use Rattle.bounds_model.specs.AnswerText.Fields.{Field, number, natural, naturals, bounded, fraction, plane_ratio, space_ratio, blocker, Value, is_small, is_in_range}
 use Rattle.bounds_model.specs.AnswerText.LineFormats.{LineFormat, untitled, Values}
 use Rattle.bounds_model.specs.AnswerText.Formats.{count_format, Part, line, counted, count, rows, PartValue, counts_after, Body}
-use Rattle.bounds_model.specs.AnswerText.Spelling.{blocker_text}
+use Rattle.bounds_model.specs.AnswerText.Written.{blocker_text}
 use Rattle.bounds_model.specs.AnswerText.Written.{field_words, values_words, line_bytes, line_words, format_line, row_format, rows_bytes, part_bytes, body_bytes}
 use Rattle.text_laws.proofs.AnswerTexts.NumberLaws.{both_true}
 use Rattle.text_laws.proofs.AnswerTexts.FieldLaws.{within}

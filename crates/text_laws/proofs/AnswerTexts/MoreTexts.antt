@@ -3,9 +3,7 @@ use Rattle.std.proofs.Common.{◌≡◌, refl, ℕ, zero, suc, ◌+◌, ◌^◌,
 use Rattle.std.specs.Prelude.{codes, count_by, ◌==◌}
 use Rattle.std.specs.Fmt.{digits}
 use Rattle.bounds_model.specs.Answers.{Answer, circle, sphere, centres}
-use Rattle.bounds_model.specs.AnswerText.SpelledParts.{first_line, size_line, count_line, last_line}
-use Rattle.bounds_model.specs.AnswerText.SpelledCentres.{square_line, leaf_line}
-use Rattle.bounds_model.specs.AnswerText.Spelling.{spelling, space_ratio_line, weighted_line}
+use Rattle.bounds_model.specs.AnswerText.Spelling.{spelling}
 use Rattle.bounds_model.specs.AnswerText.Kinds.{centres_kind}
 use Rattle.bounds_model.specs.AnswerText.Formats.{bad_answer}
 use Rattle.bounds_model.specs.AnswerText.Reading.{reading, reading_of}
@@ -21,7 +19,7 @@ one_point = sphere (record {
 
 -- its spelling
 one_point_spelled : spelling one_point ≡ codes "answer 1 sphere\nsize 0/1\ncenter 3 0 5 1\nsupports 1\n7 1\nend\n"
-unfolding digits first_line size_line count_line last_line space_ratio_line weighted_line
+unfolding digits
 one_point_spelled = refl
 
 -- its text
@@ -38,7 +36,7 @@ no_leaves = centres (record {
 
 -- its spelling
 no_leaves_spelled : spelling no_leaves ≡ codes "answer 1 centres\nsize 0/1\nsquares 1\n5 5 1\nleaves 0\nend\n"
-unfolding digits first_line size_line count_line last_line square_line leaf_line
+unfolding digits
 no_leaves_spelled = refl
 
 -- its text

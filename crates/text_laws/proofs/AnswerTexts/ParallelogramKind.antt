@@ -1,10 +1,8 @@
 -- The texts of parallelograms.
-use Rattle.std.proofs.Common.{◌≡◌, ℕ, suc, ◌+◌, ◌≤◌, List, [], ◌∷◌, ◌++◌, length, map, refl, sym, ap, ◌∙◌, append_assoc, arith}
-use Rattle.std.specs.Prelude.{codes, All}
-use Rattle.std.specs.List.{flat_map}
-use Rattle.std.proofs.lemmas.List.{append-nil, length-map, length-append}
+use Rattle.std.proofs.Common.{◌≡◌, suc, ◌+◌, ◌≤◌, List, [], ◌∷◌, ◌++◌, length, map, refl, ap, arith}
+use Rattle.std.specs.Prelude.{zip, All}
+use Rattle.std.proofs.lemmas.List.{length-map, length-append}
 use Rattle.std.proofs.lemmas.List.Elements.{All-nil, All-cons, All-head, All-tail, All-append, All-same}
-use Rattle.bounds_model.specs.Fractions.{Fraction}
 use Rattle.bounds_model.specs.Plane.{PlanePoint}
 use Rattle.bounds_model.specs.Ranges.{IsDirection, point_limit}
 use Rattle.bounds_model.specs.Fans.{HalfCone}
@@ -12,23 +10,15 @@ use Rattle.bounds_model.specs.ParallelogramAnswer.{Chord, ChordRanges, Parallelo
 use Rattle.bounds_model.specs.Answers.{parallelogram}
 use Rattle.bounds_model.specs.AnswerText.Fields.{fraction, bounded}
 use Rattle.bounds_model.specs.AnswerText.LineFormats.{untitled, Values}
-use Rattle.bounds_model.specs.AnswerText.Formats.{count_format, Body}
 use Rattle.bounds_model.specs.AnswerText.Kinds.{parallelogram_kind, side_fields, chord_fields, chord, chorded_fields, chorded_cone, cone_chord, last_fields, last_vector, last_chord}
-use Rattle.bounds_model.specs.AnswerText.SpelledParts.{count_line}
-use Rattle.bounds_model.specs.AnswerText.Spelling.{spelling, chorded_line, last_chord_line, chorded_lines}
-use Rattle.bounds_model.specs.AnswerText.Written.{format_line, kind_bytes}
+use Rattle.bounds_model.specs.AnswerText.Spelling.{chord_values, chorded_values, end_values, end_chord}
 use Rattle.text_laws.proofs.AnswerTexts.BodyLaws.{AllFit}
-use Rattle.text_laws.proofs.AnswerTexts.AnswerLaws.{KindLaw, Written}
+use Rattle.text_laws.proofs.AnswerTexts.AnswerLaws.{KindLaw, Written, said_at}
 use Rattle.text_laws.proofs.AnswerTexts.RangeLaws.{FieldRanges, line_ranges, line_fits}
 use Rattle.text_laws.proofs.AnswerTexts.ListRanges.{all_ranges, count_ranges}
-use Rattle.text_laws.proofs.AnswerTexts.SpelledLaws.{first_is, size_is, last_is, four_is, count_is, made_length}
-use Rattle.text_laws.proofs.AnswerTexts.FanKinds.{fan_count, directions_of_all, all_directions}
+use Rattle.text_laws.proofs.AnswerTexts.FanKinds.{directions_of_all, all_directions}
 
 -- ---- chords
-
--- a chord as the fields of a line
-chord_parts : Chord → Values chord_fields
-chord_parts k = (k.a, (k.b, (k.c, (k.beta, (k.gamma, (k.k, tt))))))
 
 -- a chord of such fields keeps its ranges
 chord_range : (v : Values chord_fields) → FieldRanges chord_fields v → ChordRanges (chord v)
@@ -38,42 +28,31 @@ chord_range v p = record { a = p.0.1; b = p.1.0.1; c = p.1.1.0.1; beta = p.1.1.1
 chord_fields_range : (v : Values chord_fields) → ChordRanges (chord v) → FieldRanges chord_fields v
 chord_fields_range v p = ((omega arith, p.a), ((omega arith, p.b), ((omega arith, p.c), (p.beta, (p.gamma, (p.k, tt))))))
 
--- the spelled line of a cone and a chord is that of its format
-chorded_is : (v : Values chorded_fields) → chorded_line (chorded_cone v) (cone_chord v) ≡ format_line (untitled chorded_fields) v
-unfolding chorded_line
-chorded_is v = simp append_assoc
-
--- the spelled line of the last direction is that of its format
-last_chord_is : (v : Values last_fields) → last_chord_line (last_vector v) (last_chord v) ≡ format_line (untitled last_fields) v
-unfolding last_chord_line
-last_chord_is v = simp append_assoc
-
--- the spelled lines of all directions are those of the formats
-chorded_are : (vs : List (Values chorded_fields)) (end : Values last_fields) → chorded_lines (map chorded_cone vs) (last_vector end) (map cone_chord vs ++ last_chord end ∷ []) ≡ flat_map (format_line (untitled chorded_fields)) vs ++ format_line (untitled last_fields) end
-chorded_are [] end = last_chord_is end
-chorded_are (v ∷ vs) end = (λ i. chorded_is v i ++ chorded_are vs end i) ∙ sym (append_assoc (format_line (untitled chorded_fields) v) (flat_map (format_line (untitled chorded_fields)) vs) (format_line (untitled last_fields) end))
-
 -- the numbers of the cone are those of points
 abbrev HalfPoints : HalfCone → Type 0
 HalfPoints c = (c.high ≤ point_limit) × (c.low ≤ point_limit)
 
--- the spelling of a parallelogram is the text of its format
-parallelogram_spelled : (size : Fraction) (b : Body parallelogram_kind.body) → spelling (parallelogram_kind.answer size b) ≡ kind_bytes parallelogram_kind size b
-parallelogram_spelled size b =
-    let first = first_is (codes "parallelogram") in
-    let second = size_is size in
-    let one = four_is (codes "first") b.0.0 b.0.1.0 b.0.1.1.0 b.0.1.1.1.0 in
-    let two = four_is (codes "second") b.1.0.0 b.1.0.1.0 b.1.0.1.1.0 b.1.0.1.1.1.0 in
-    let amount : count_line (codes "fan") (length (map chorded_cone b.1.1.0) + 1) ≡ format_line (count_format fan_count) (length b.1.1.0 + 1, tt) = count_is fan_count (length (map chorded_cone b.1.1.0) + 1) ∙ ap (λ (k : ℕ). format_line (count_format fan_count) (k, tt)) (made_length chorded_cone b.1.1.0 1) in
-    let cones = chorded_are b.1.1.0 b.1.1.1.0 in
-    simp (append_assoc, append-nil, first, second, one, two, amount, cones, last_is)
+-- cones and chords of lines are those lines again
+chorded_back : (vs : List (Values chorded_fields)) (left : Chord) → map chorded_values (zip (map chorded_cone vs) (map cone_chord vs ++ left ∷ [])) ≡ vs
+chorded_back [] left = refl
+chorded_back (v ∷ vs) left = ap (λ (ws : List (Values chorded_fields)). v ∷ ws) (chorded_back vs left)
+
+-- the last chord is the one behind all others
+end_back : (chords : List Chord) (left : Chord) → end_chord (chords ++ left ∷ []) ≡ left
+end_back [] left = refl
+end_back (k ∷ []) left = refl
+end_back (k ∷ l ∷ chords) left = end_back (l ∷ chords) left
 
 -- parallelograms keep the laws
 pub parallelogram_law : KindLaw parallelogram_kind
 parallelogram_law = record {
   sound = record { name = refl; parts = λ b. (refl, (refl, (refl, (refl, tt)))) };
   named = λ lines. refl;
-  spelled = parallelogram_spelled;
+  named_scaled = λ lines. refl;
+  not_plain = λ lines. refl;
+  said = λ size b. λ i. said_at parallelogram_kind size (b.0, (b.1.0, (chorded_back b.1.1.0 (last_chord b.1.1.1.0) i, (end_values (last_vector b.1.1.1.0) (end_back (map cone_chord b.1.1.0) (last_chord b.1.1.1.0) i), tt))));
+  power = λ size b. refl;
+  size = λ size b. refl;
   short = λ b fits. omega arith;
   ranges = λ size b size-fits fits.
       let one = line_ranges side_fields b.0 fits.0 in
@@ -111,7 +90,6 @@ pub record Chorded (cones : List HalfCone) (chords : List Chord) : Type 0 where
 
 -- cones and chords, one more of these, as lines
 chorded : (cones : List HalfCone) (chords : List Chord) → length chords ≡ suc (length cones) → Chorded cones chords
-unfolding chord_parts
 chorded [] [] e = absurd (omega arith)
 chorded [] (k ∷ []) e = record { each = []; left = k; cones_are = refl; chords_are = refl }
 chorded [] (k ∷ l ∷ chords) e = absurd (omega arith)
@@ -119,7 +97,7 @@ chorded (c ∷ cones) [] e = absurd (omega arith)
 chorded (c ∷ cones) (k ∷ chords) e =
     let others = chorded cones chords (omega arith) in
     record {
-      each = (c.direction.x, (c.direction.y, (c.high, (c.low, chord_parts k)))) ∷ others.each;
+      each = (c.direction.x, (c.direction.y, (c.high, (c.low, chord_values k)))) ∷ others.each;
       left = others.left;
       cones_are = ap (λ (xs : List HalfCone). c ∷ xs) others.cones_are;
       chords_are = ap (λ (xs : List Chord). k ∷ xs) others.chords_are;
@@ -140,7 +118,6 @@ chorded_fit (v ∷ vs) left cones chords =
 
 -- a parallelogram that keeps its ranges is one that its format writes
 pub parallelogram_written : (a : ParallelogramAnswer) → ParallelogramRanges a → Written (parallelogram a)
-unfolding chord_parts
 parallelogram_written a ranges =
     let directions = directions_of_all (λ (c : HalfCone). c.direction) a.fan.cones a.fan.last ranges.fan.directions in
     let as-many : length a.chords ≡ suc (length a.fan.cones) = omega (arith, ranges.chord_for_each, length-append (map (λ (c : HalfCone). c.direction) a.fan.cones) (a.fan.last ∷ []), length-map a.fan.cones (λ (c : HalfCone). c.direction)) in
@@ -152,7 +129,7 @@ parallelogram_written a ranges =
       kind = parallelogram_kind;
       law = parallelogram_law;
       size = a.size;
-      body = ((a.first.x, (a.first.y, (a.first_bounds.low, (a.first_bounds.high, tt)))), ((a.second.x, (a.second.y, (a.second_bounds.low, (a.second_bounds.high, tt)))), (split.each, ((a.fan.last.x, (a.fan.last.y, chord_parts split.left)), tt))));
+      body = ((a.first.x, (a.first.y, (a.first_bounds.low, (a.first_bounds.high, tt)))), ((a.second.x, (a.second.y, (a.second_bounds.low, (a.second_bounds.high, tt)))), (split.each, ((a.fan.last.x, (a.fan.last.y, chord_values split.left)), tt))));
       is = λ i. parallelogram (record {
         size = a.size;
         first = a.first;
@@ -169,7 +146,7 @@ parallelogram_written a ranges =
           line_fits side_fields (a.second.x, (a.second.y, (a.second_bounds.low, (a.second_bounds.high, tt)))) refl (ranges.second.x, (ranges.second.y, (ranges.second_bounds.low, (ranges.second_bounds.high, tt)))),
           (
             (line_fits (bounded 2 10003 ∷ []) (length split.each + 1, tt) refl ((omega (arith, ranges.fan.count.at_least), omega (arith, ranges.fan.count.at_most)), tt), fits.0),
-            (line_fits last_fields (a.fan.last.x, (a.fan.last.y, chord_parts split.left)) refl (directions.1.x, (directions.1.y, chord_fields_range (chord_parts split.left) fits.1)), tt),
+            (line_fits last_fields (a.fan.last.x, (a.fan.last.y, chord_values split.left)) refl (directions.1.x, (directions.1.y, chord_fields_range (chord_values split.left) fits.1)), tt),
           ),
         ),
       );

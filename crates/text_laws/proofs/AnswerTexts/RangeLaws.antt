@@ -9,7 +9,8 @@ use Rattle.bounds_model.specs.Numbers.{IsWithin}
 use Rattle.bounds_model.specs.Fractions.{HaveNoCommonFactor}
 use Rattle.bounds_model.specs.EmptyAnswer.{Blocker, side, point, IsBlockerBelow}
 use Rattle.bounds_model.specs.Ranges.{number_limit, point_limit, IsNumber, IsNatural, IsFraction, IsPlaneRatio, IsSpaceRatio}
-use Rattle.bounds_model.specs.AnswerText.Fields.{Field, number, natural, naturals, bounded, fraction, plane_ratio, space_ratio, blocker, Value, is_small, is_in_range, is_lowest, is_blocker, common_factor}
+use Rattle.bounds_model.specs.AnswerText.Fields.{Field, number, natural, naturals, bounded, fraction, plane_ratio, space_ratio, blocker, Value, is_small, is_in_range, is_lowest, is_blocker}
+use Rattle.bounds_model.specs.Fractions.{common_factor}
 use Rattle.bounds_model.specs.AnswerText.LineFormats.{Values}
 use Rattle.text_laws.proofs.AnswerTexts.NumberLaws.{both_true}
 use Rattle.text_laws.proofs.AnswerTexts.FieldLaws.{within}

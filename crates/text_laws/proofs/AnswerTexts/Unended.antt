@@ -5,8 +5,9 @@ use Rattle.std.specs.List.{list_all}
 use Rattle.bounds_model.specs.AnswerText.Numerals as steps
 use Rattle.bounds_model.specs.AnswerText.LineFormats.{LineFormat, Values, after_words, values_of, form_of}
 use Rattle.bounds_model.specs.AnswerText.Formats.{Refusal, bad_answer, ◌>>=◌, Unread, judged, line_at}
-use Rattle.bounds_model.specs.AnswerText.Kinds.{Kind, first_format}
-use Rattle.bounds_model.specs.AnswerText.Reading.{kind_of, answer_of, reading_of}
+use Rattle.bounds_model.specs.AnswerText.Kinds.{Kind}
+use Rattle.bounds_model.specs.AnswerText.Heads.{Format, first_format, Named, kind_of, named_or, named_by, head_of}
+use Rattle.bounds_model.specs.AnswerText.Reading.{report_behind, report_at, report_of}
 use Rattle.text_laws.proofs.AnswerTexts.LineLaws.{lines_without_feed, words_without_feed}
 
 -- a single line without a line feed is refused under every format
@@ -19,14 +20,20 @@ line_refused format line w =
     next_after f r = r >>= λ values. Ok (values, record { number = 2; lines = [] })
 
 -- so it names no kind
-none_found : (known : List Kind) (line : List ℕ) → list_all (λ b. not (b == 10)) line ≡ true → kind_of known (record { number = 1; lines = line ∷ [] }) ≡ None
-none_found [] line w = refl
-none_found (kind ∷ known) line w =
-    ap (λ (r : Result (Unit {0} × Unread) Refusal). cond (is_ok r) (Some kind) (kind_of known (record { number = 1; lines = line ∷ [] }))) (line_refused (first_format kind.name) line w) ∙ none_found known line w
+none_found : (format : Format) (known : List Kind) (line : List ℕ) → list_all (λ b. not (b == 10)) line ≡ true → kind_of format known (record { number = 1; lines = line ∷ [] }) ≡ None
+none_found format [] line w = refl
+none_found format (kind ∷ known) line w =
+    ap (λ (r : Result (Unit {0} × Unread) Refusal). cond (is_ok r) (Some kind) (kind_of format known (record { number = 1; lines = line ∷ [] }))) (line_refused (first_format format kind.name) line w) ∙ none_found format known line w
 
--- whatever kinds are known, such a text is refused at its first line
-pub unended_refused : (known : List Kind) (b : ℕ) (bytes : List ℕ) → list_all (λ c. not (c == 10)) (b ∷ bytes) ≡ true → reading_of known (b ∷ bytes) ≡ Err (bad_answer 1)
-unended_refused known b bytes w =
+-- in no format
+none_named : (formats : List Format) (known : List Kind) (line : List ℕ) → list_all (λ b. not (b == 10)) line ≡ true → named_by formats known (record { number = 1; lines = line ∷ [] }) ≡ None
+none_named [] known line w = refl
+none_named (format ∷ formats) known line w =
+    ap (λ (found : Option Kind). named_or format found (named_by formats known (record { number = 1; lines = line ∷ [] }))) (none_found format known line w) ∙ none_named formats known line w
+
+-- whatever formats and kinds are known, such a text is refused at its first line
+pub unended_refused : (formats : List Format) (known : List Kind) (b : ℕ) (bytes : List ℕ) → list_all (λ c. not (c == 10)) (b ∷ bytes) ≡ true → report_of formats known (b ∷ bytes) ≡ Err (bad_answer 1)
+unended_refused formats known b bytes w =
     let one = lines_without_feed b bytes w in
-    ap (λ (lines : List (List ℕ)). answer_of (kind_of known (record { number = 1; lines = lines })) (record { number = 1; lines = lines })) one
-    ∙ ap (λ (kind : Option Kind). answer_of kind (record { number = 1; lines = (b ∷ bytes) ∷ [] })) (none_found known (b ∷ bytes) w)
+    ap (λ (lines : List (List ℕ)). report_at formats known (record { number = 1; lines = lines })) one
+    ∙ ap (λ (named : Option Named). head_of named (record { number = 1; lines = (b ∷ bytes) ∷ [] }) >>= λ head. report_behind head.0 head.1) (none_named formats known (b ∷ bytes) w)

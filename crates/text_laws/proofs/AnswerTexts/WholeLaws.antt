@@ -10,7 +10,7 @@ use Rattle.std.proofs.lemmas.Bool.{eqb-true, cases_lt}
 use Rattle.std.proofs.lemmas.Bool.Decides.{nat_tests}
 use Rattle.bounds_model.specs.Fractions.{Fraction}
 use Rattle.bounds_model.specs.AnswerText.Numerals.{◌>>=◌, is_numeral, natural_number, below_zero, whole_number, fraction_of, fraction_number}
-use Rattle.bounds_model.specs.AnswerText.SpelledParts.{fraction_text}
+use Rattle.bounds_model.specs.AnswerText.Written.{fraction_text}
 use Rattle.text_laws.proofs.AnswerTexts.NumberLaws.{bind_some, some_is, both_true, is_word, is_numeral-decimal, numeral_begins, no_slash-decimal, natural_again, natural_back, is_word-decimal}
 
 -- ---- whole numbers

@@ -1,15 +1,13 @@
 -- Each worked text is the spelling of its answer, and reads as it.
 use Rattle.std.proofs.Common.{◌≡◌, refl, Ok}
 use Rattle.std.specs.Fmt.{digits}
-use Rattle.bounds_model.specs.AnswerText.SpelledParts.{first_line, size_line, count_line, pair_line, four_line, fraction_line, plane_ratio_line, direction_line, index_line, last_line}
-use Rattle.bounds_model.specs.AnswerText.SpelledCentres.{square_line, leaf_line}
-use Rattle.bounds_model.specs.AnswerText.Spelling.{spelling, quarter_line, half_line, chorded_line, last_chord_line, blocker_line, potentials_line, space_direction_line, space_ratio_line, weighted_line, weighted_pair_line}
+use Rattle.bounds_model.specs.AnswerText.Spelling.{spelling}
 use Rattle.bounds_model.specs.AnswerText.Reading.{reading}
 use Rattle.text_laws.proofs.AnswerTexts.Worked.{the_circle, circle_text, the_rectangle, rectangle_text, the_strip, strip_text, the_parallelogram, parallelogram_text, the_annulus, annulus_text, the_empty, empty_text, the_kgon, kgon_text, the_distance, distance_text, the_centres, centres_text}
 
 -- the text is the spelling
 circle_spelled : spelling the_circle ≡ circle_text
-unfolding digits first_line size_line count_line last_line plane_ratio_line weighted_line
+unfolding digits
 circle_spelled = refl
 
 -- the text reads as the answer
@@ -18,7 +16,7 @@ circle_read = refl
 
 -- the text is the spelling
 rectangle_spelled : spelling the_rectangle ≡ rectangle_text
-unfolding digits first_line size_line count_line last_line pair_line quarter_line direction_line
+unfolding digits
 rectangle_spelled = refl
 
 -- the text reads as the answer
@@ -27,7 +25,7 @@ rectangle_read = refl
 
 -- the text is the spelling
 strip_spelled : spelling the_strip ≡ strip_text
-unfolding digits first_line size_line count_line last_line pair_line half_line direction_line
+unfolding digits
 strip_spelled = refl
 
 -- the text reads as the answer
@@ -36,7 +34,7 @@ strip_read = refl
 
 -- the text is the spelling
 parallelogram_spelled : spelling the_parallelogram ≡ parallelogram_text
-unfolding digits first_line size_line count_line last_line four_line chorded_line last_chord_line
+unfolding digits
 parallelogram_spelled = refl
 
 -- the text reads as the answer
@@ -45,7 +43,7 @@ parallelogram_read = refl
 
 -- the text is the spelling
 annulus_spelled : spelling the_annulus ≡ annulus_text
-unfolding digits first_line size_line count_line last_line plane_ratio_line fraction_line weighted_pair_line
+unfolding digits
 annulus_spelled = refl
 
 -- the text reads as the answer
@@ -54,7 +52,7 @@ annulus_read = refl
 
 -- the text is the spelling
 empty_spelled : spelling the_empty ≡ empty_text
-unfolding digits first_line size_line count_line last_line four_line blocker_line
+unfolding digits
 empty_spelled = refl
 
 -- the text reads as the answer
@@ -63,7 +61,7 @@ empty_read = refl
 
 -- the text is the spelling
 kgon_spelled : spelling the_kgon ≡ kgon_text
-unfolding digits first_line size_line count_line last_line index_line potentials_line
+unfolding digits
 kgon_spelled = refl
 
 -- the text reads as the answer
@@ -72,7 +70,7 @@ kgon_read = refl
 
 -- the text is the spelling
 distance_spelled : spelling the_distance ≡ distance_text
-unfolding digits first_line size_line count_line last_line space_ratio_line space_direction_line weighted_pair_line
+unfolding digits
 distance_spelled = refl
 
 -- the text reads as the answer
@@ -81,7 +79,7 @@ distance_read = refl
 
 -- the text is the spelling
 centres_spelled : spelling the_centres ≡ centres_text
-unfolding digits first_line size_line count_line last_line square_line leaf_line
+unfolding digits
 centres_spelled = refl
 
 -- the text reads as the answer

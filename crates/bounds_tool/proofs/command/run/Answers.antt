@@ -27,13 +27,13 @@ returns-clause-complete g c =
     MayEnd-cause _ g.F.Files.last_count (texts c.args.words.now) (g.F.Files.state c.args.files.now) (g.F.Files.state c.output.new.files) (meant c.in-Err.cause) c.give_up-in-Err.result c.in-Err.ensures.cause c.give_up-in-Err.ensures.status
 
 pub returns-in-Ok-write_all-clause-continues : goal.returns-in-Ok-write_all-clause-continues
-returns-in-Ok-write_all-clause-continues g c = continues_of (task_of (texts c.args.words.now)) (g.F.Files.state c.args.files.now) (g.F.Files.state c.output.new.files) c.in-Ok.ensures.reads
+returns-in-Ok-write_all-clause-continues g c = continues_of (task_of (texts c.args.words.now)) (g.F.Files.state c.args.files.now) (g.F.Files.state c.output.new.files) c.in-Ok.ensures.files.reads
 
 pub returns-in-Ok-clause-continues : goal.returns-in-Ok-clause-continues
-returns-in-Ok-clause-continues g c = continues_of (task_of (texts c.args.words.now)) (g.F.Files.state c.args.files.now) (g.F.Files.state c.output.new.files) c.in-Ok.ensures.reads
+returns-in-Ok-clause-continues g c = continues_of (task_of (texts c.args.words.now)) (g.F.Files.state c.args.files.now) (g.F.Files.state c.output.new.files) c.in-Ok.ensures.files.reads
 
 pub returns-clause-continues : goal.returns-clause-continues
-returns-clause-continues g c = continues_of (task_of (texts c.args.words.now)) (g.F.Files.state c.args.files.now) (g.F.Files.state c.output.new.files) c.in-Err.ensures.reads
+returns-clause-continues g c = continues_of (task_of (texts c.args.words.now)) (g.F.Files.state c.args.files.now) (g.F.Files.state c.output.new.files) c.in-Err.ensures.files.reads
 
 pub returns-in-Ok-write_all-clause-done : goal.returns-in-Ok-write_all-clause-done
 returns-in-Ok-write_all-clause-done g c = λ e.
@@ -47,3 +47,38 @@ returns-clause-told g c = λ not_done not_no. record {
   comes = inl c.in-Err.ensures.cause;
   told = c.give_up-in-Err.ensures.told;
 }
+
+-- ---- the files
+
+pub returns-in-Ok-write_all-clause-most : goal.returns-in-Ok-write_all-clause-most
+returns-in-Ok-write_all-clause-most g c = c.in-Ok.ensures.files.most
+
+pub returns-in-Ok-clause-most : goal.returns-in-Ok-clause-most
+returns-in-Ok-clause-most g c = c.in-Ok.ensures.files.most
+
+pub returns-clause-most : goal.returns-clause-most
+returns-clause-most g c = c.in-Err.ensures.files.most
+
+pub returns-in-Ok-write_all-clause-reads : goal.returns-in-Ok-write_all-clause-reads
+returns-in-Ok-write_all-clause-reads g c = c.in-Ok.ensures.files.reads
+
+pub returns-in-Ok-clause-reads : goal.returns-in-Ok-clause-reads
+returns-in-Ok-clause-reads g c = c.in-Ok.ensures.files.reads
+
+pub returns-clause-reads : goal.returns-clause-reads
+returns-clause-reads g c = c.in-Err.ensures.files.reads
+
+pub returns-in-Ok-write_all-clause-to_its_end : goal.returns-in-Ok-write_all-clause-to_its_end
+returns-in-Ok-write_all-clause-to_its_end g c = λ _. c.in-Ok.ensures.files.to_its_end
+
+pub returns-in-Ok-clause-to_its_end : goal.returns-in-Ok-clause-to_its_end
+returns-in-Ok-clause-to_its_end g c = λ _. c.in-Ok.ensures.files.to_its_end
+
+pub returns-in-Ok-write_all-clause-no_fault : goal.returns-in-Ok-write_all-clause-no_fault
+returns-in-Ok-write_all-clause-no_fault g c = λ _. c.in-Ok.ensures.files.no_fault tt
+
+pub returns-in-Ok-clause-no_fault : goal.returns-in-Ok-clause-no_fault
+returns-in-Ok-clause-no_fault g c = λ _. c.in-Ok.ensures.files.no_fault tt
+
+pub returns-clause-no_fault : goal.returns-clause-no_fault
+returns-clause-no_fault g c = λ other. c.in-Err.ensures.files.no_fault (λ fault. other (c.give_up-in-Err.ensures.status ∙ fault))

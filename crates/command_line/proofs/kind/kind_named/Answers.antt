@@ -6,4 +6,4 @@ pub returns-in_default : goal.returns-in_default
 unfolding kind_named
 returns-in_default c =
     let d = c.in_default in
-    none_named kinds c.args.word.now (d.not-circle, (d.not-sphere, (d.not-rectangle, (d.not-parallelogram, (d.not-strip, (d.not-annulus, (d.not-empty, (d.not-kgon, (d.not-distance, (d.not-centres, tt))))))))))
+    none_named kinds c.args.word.now (d.not-circle, (d.not-sphere, (d.not-rectangle, (d.not-parallelogram, (d.not-strip, (d.not-annulus, (d.not-empty, (d.not-kgon, (d.not-distance, (d.not-centres, (d.not-furthest, (d.not-shell, tt))))))))))))

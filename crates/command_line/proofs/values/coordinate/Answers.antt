@@ -1,4 +1,4 @@
-use Rattle.std.proofs.Common.{◌≡◌, ◌∙◌, false, true, nat_abs, ◌≤◌, ◌<◌, FitsSigned, rules, arith}
+use Rattle.std.proofs.Common.{◌≡◌, nat_abs, ◌≤◌, FitsSigned, rules, arith}
 use Rattle.std.specs.Int.{w64, w128}
 use Rattle.std.proofs.lemmas.Bool.Decides.{nat_tests}
 use Rattle.std.proofs.lemmas.Int.{to_z-of_z}

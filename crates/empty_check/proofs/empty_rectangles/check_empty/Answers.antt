@@ -11,7 +11,7 @@ use Rattle.empty_check.proofs.empty_rectangles.check_empty.Goals as goal
 pub returns-in-Some-clause-passes : goal.returns-in-Some-clause-passes
 returns-in-Some-clause-passes c =
     let is : IsFrame c.args.frame = search rules in
-    if_ok c.is_none_larger.result (λ yes. decided {yes = yes} c.args.cloud c.args.frame (empty_of c.args.a.now) c.in-Some.area is (few_points c.args.cloud) c.in-Some.ensures.0 c.in-Some.ensures.1) c.is_none_larger.ensures
+    if_ok c.is_none_larger.result (λ yes. decided {yes = yes} c.args.cloud c.args.frame (empty_of c.args.a.now) c.in-Some.area is (few_points c.args.cloud) c.in-Some.ensures.0 c.in-Some.ensures.1) c.is_none_larger.ensures.decides
 
 pub returns-in-Some-clause-best : goal.returns-in-Some-clause-best
 returns-in-Some-clause-best c =

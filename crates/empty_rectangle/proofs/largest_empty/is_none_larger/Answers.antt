@@ -6,10 +6,10 @@ use Rattle.empty_rectangle.proofs.largest_empty.is_none_larger.Goals as goal
 
 pub search-best-requires-clause-inside : goal.search-best-requires-clause-inside
 search-best-requires-clause-inside c =
-    let lists = subst (ListsObstacles c.args.frame (points_in c.args.cloud)) (sym c.deref.ensures.value) c.in_ok-obstacles.ensures in
+    let lists = subst (ListsObstacles c.args.frame (points_in c.args.cloud)) (sym c.deref.ensures.value) c.in_ok-obstacles.ensures.lists in
     all_in_extent c.args.frame (points_in c.args.cloud) c.inside.result c.deref.result.now c.inside.ensures.frame lists.are.each
 
-pub returns : goal.returns
-returns c =
-    let lists = subst (ListsObstacles c.args.frame (points_in c.args.cloud)) (sym c.deref.ensures.value) c.in_ok-obstacles.ensures in
+pub returns-clause-decides : goal.returns-clause-decides
+returns-clause-decides c =
+    let lists = subst (ListsObstacles c.args.frame (points_in c.args.cloud)) (sym c.deref.ensures.value) c.in_ok-obstacles.ensures.lists in
     most_decides c.args.frame (points_in c.args.cloud) c.inside.result c.deref.result.now c.of_area-none.result c.search-best.result c.args.area c.inside.ensures.frame_in c.inside.ensures.frame lists.are c.of_area-none.ensures c.search-best.ensures.kept c.search-best.ensures.restricted c.search-best.ensures.most

@@ -7,11 +7,11 @@ use Rattle.empty_rectangle.proofs.largest_empty.largest.Goals as goal
 
 pub search-best-requires-clause-inside : goal.search-best-requires-clause-inside
 search-best-requires-clause-inside c =
-    let lists = subst (ListsObstacles c.args.frame (points_in c.args.cloud)) (sym c.deref.ensures.value) c.in_ok-obstacles.ensures in
+    let lists = subst (ListsObstacles c.args.frame (points_in c.args.cloud)) (sym c.deref.ensures.value) c.in_ok-obstacles.ensures.lists in
     all_in_extent c.args.frame (points_in c.args.cloud) c.inside.result c.deref.result.now c.inside.ensures.frame lists.are.each
 
-pub returns : goal.returns
-returns c =
-    let lists = subst (ListsObstacles c.args.frame (points_in c.args.cloud)) (sym c.deref.ensures.value) c.in_ok-obstacles.ensures in
+pub returns-clause-passes : goal.returns-clause-passes
+returns-clause-passes c =
+    let lists = subst (ListsObstacles c.args.frame (points_in c.args.cloud)) (sym c.deref.ensures.value) c.in_ok-obstacles.ensures.lists in
     subst (PassesEmpty c.args.frame (points_in c.args.cloud)) (sym c.answer.ensures)
     (found_passes c.args.frame (points_in c.args.cloud) c.inside.result c.deref.result.now c.of_area-none.result c.search-best.result c.inside.ensures.frame_in c.inside.ensures.extent c.inside.ensures.frame (few_points c.args.cloud) lists.are c.of_area-none.ensures c.search-best.ensures.restricted c.search-best.ensures.most)

@@ -5,11 +5,11 @@ use Rattle.empty_rectangle.proofs.Listing.{AreObstacles-permuted, AreObstacles-n
 use Rattle.empty_rectangle.proofs.obstacles.obstacles_in.Goals as goal
 use Rattle.empty_rectangle.proofs.obstacles.obstacles_in.Goals.{in-Some+in_ok-add_points, in_default}
 
-pub returns : goal.returns
-returns c =
+pub returns-clause-lists : goal.returns-clause-lists
+returns-clause-lists c =
     let points = points_in c.args.cloud in
     let are : AreObstacles c.args.frame points points c.match-cloud.obstacles.items = elim c.match-cloud.branch [
-      | in-Some+in_ok-add_points w ↦ rw (w.in-Some.is, w.obstacles-is) w.in_ok-add_points.ensures
+      | in-Some+in_ok-add_points w ↦ rw (w.in-Some.is, w.obstacles-is) w.in_ok-add_points.ensures.added
       | in_default w ↦ rw (w.in_default.is, w.obstacles-is, c.new-obstacles.ensures.items) (AreObstacles-none c.args.frame [])
     ] in
     record {

@@ -10,9 +10,12 @@ returns-clause-passes c =
     let points = points_of c.args.cloud in
     let a = strip_of c.args.a.now in (
       λ same. strip_passes points a c.args.cloud.limited c.has_size.ensures.lowest (c.is_half_within_limits.ensures.0 c.if-not-is_half_within_limits.false) (c.is_normal_within_limits.ensures.0 c.if-not-is_normal_within_limits.false)
-          (c.has_size.ensures.value.0 c.if-not-has_size.false) (c.holds_half.ensures.0 c.if-not-holds_half.false) (c.is_none_narrower.ensures.0 c.if-not-is_none_narrower.false) (c.are_in_span.ensures.0 same),
-      λ passes. c.are_in_span.ensures.1 passes.inside,
+          (c.has_size.ensures.value.0 c.if-not-has_size.false) (c.holds_half.ensures.0 c.if-not-holds_half.false) (c.is_none_narrower.ensures.0 c.if-not-is_none_narrower.false) (c.is_first.ensures.0 c.if-not-is_first.false) (c.is_tight.ensures.0 same),
+      λ passes. c.is_tight.ensures.1 passes.tight,
     )
 
 pub returns-clause-best : goal.returns-clause-best
 returns-clause-best c = λ same. c.passing_answers_are_best.ensures ask_strip (plane (points_of c.args.cloud)) (strip (strip_of c.args.a.now)) ((returns-clause-passes c).0 same)
+
+pub returns-clause-first : goal.returns-clause-first
+returns-clause-first c = λ same. c.passing_strips_are_first.ensures (points_of c.args.cloud) (strip_of c.args.a.now) ((returns-clause-passes c).0 same)

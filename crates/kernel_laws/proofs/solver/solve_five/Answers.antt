@@ -1,4 +1,4 @@
-use Rattle.std.proofs.Common.{◌≡◌, sym, ◌∙◌, subst, ℤ, pos, neg_ℤ, ◌-ℤ◌, ◌<ℤ◌, [], ◌∷◌, arith}
+use Rattle.std.proofs.Common.{◌≡◌, sym, ◌∙◌, subst, pos, neg_ℤ, ◌-ℤ◌, ◌<ℤ◌, [], ◌∷◌, arith}
 use Rattle.std.proofs.Math.Facts.{to_z-of_z}
 use Rattle.bounds_model.specs.Space.{vector, origin}
 use Rattle.bounds_model.specs.Slacks.{IsDependence}

@@ -1,9 +1,8 @@
-use Rattle.std.proofs.Common.{◌≡◌, refl, sym, ◌∙◌, ap, subst, ◌^◌, ℤ, pos, negsuc, neg_ℤ, ◌-ℤ◌, ◌*ℤ◌, ◌<ℤ◌, List, [], ◌∷◌, arith}
+use Rattle.std.proofs.Common.{◌≡◌, refl, sym, ◌∙◌, ap, subst, pos, negsuc, neg_ℤ, ◌-ℤ◌, ◌*ℤ◌, ◌<ℤ◌, List, [], ◌∷◌, arith}
 use Rattle.std.proofs.lemmas.Int.{ints}
 use Rattle.std.proofs.Math.Facts.{to_z-of_z}
-use Rattle.integers.specs.Size.{Size}
 use Rattle.integers.proofs.Sizes.{size_fits, size_more}
-use Rattle.integers.proofs.MachineArithmetic.{Given, given, with_inputs, codes, computes, size_within}
+use Rattle.integers.proofs.MachineArithmetic.{Given, given}
 use Rattle.bounds_model.specs.Space.{SpacePoint, vector, origin}
 use Rattle.bounds_model.specs.Slacks.{IsDependence}
 use Rattle.kernel_laws.specs.Limits.{IsVectorWithin}
@@ -13,7 +12,7 @@ use Rattle.kernel_laws.proofs.Repeats.{repeated_of_three}
 use Rattle.kernel_laws.proofs.Independence.{independent_of_three}
 use Rattle.kernel_laws.proofs.Three.{three_items, along_of_three, gram_answer, ball_answer, norm_answer, same_gram_weights, same_plane_weights, same_centre_weights, twice_square}
 use Rattle.kernel_laws.proofs.Items.{in_plane}
-use Rattle.kernel_laws.proofs.Products.{apart, height_of, same_reduction, LineNumbers, line_numbers, line_remainders, twice, below_from, above_from, square_from, not_one, some_height, twice_height, opposites}
+use Rattle.kernel_laws.proofs.Products.{minor_of, apart, height_of, same_reduction, LineNumbers, line_numbers, line_remainders, twice, below_from, above_from, square_from, not_one, some_height, twice_height, opposites}
 use Rattle.kernel_laws.proofs.solver.solve_three.Goals as goal
 
 -- two differences, each with its bounds
@@ -77,14 +76,10 @@ pub overflow_mul-normal : goal.overflow_mul-normal
 overflow_mul-normal g c = let h = twice (size_more c.cross-normal.ensures.within.z tt) in simp (to_z-of_z h.once) h.fits
 
 pub weights_in_plane-requires-clause-x : goal.weights_in_plane-requires-clause-x
-weights_in_plane-requires-clause-x g c =
-    let size : Size (2 ^ 64) c.minor-x.result = with_inputs (given c.right-r.ensures.size ∷ given c.right-s.ensures.size ∷ inputs c.less-u.ensures.within c.less-v.ensures.within) (λ xs h m n d e f i j k. simp (m, n, d, e, f, i, j, k, c.minor-x.ensures, codes) (size_within xs h _ tt)) in
-    simp (to_z-of_z (size_fits size tt)) size
+weights_in_plane-requires-clause-x g c = (minor_of c.right-r.ensures.size c.less-v.ensures.within.y c.right-s.ensures.size c.less-u.ensures.within.y c.minor-x.ensures).size_back
 
 pub weights_in_plane-requires-clause-y : goal.weights_in_plane-requires-clause-y
-weights_in_plane-requires-clause-y g c =
-    let size : Size (2 ^ 64) c.minor-y.result = with_inputs (given c.right-r.ensures.size ∷ given c.right-s.ensures.size ∷ inputs c.less-u.ensures.within c.less-v.ensures.within) (λ xs h m n d e f i j k. simp (m, n, d, e, f, i, j, k, c.minor-y.ensures, codes) (size_within xs h _ tt)) in
-    simp (to_z-of_z (size_fits size tt)) size
+weights_in_plane-requires-clause-y g c = (minor_of c.right-s.ensures.size c.less-u.ensures.within.x c.right-r.ensures.size c.less-v.ensures.within.x c.minor-y.ensures).size_back
 
 pub weights_in_plane-requires-clause-k : goal.weights_in_plane-requires-clause-k
 weights_in_plane-requires-clause-k g c = let h = twice (size_more c.cross-normal.ensures.within.z tt) in simp (to_z-of_z h.once, to_z-of_z h.fits) (twice_height c.cross-normal.ensures.within.z)
@@ -97,14 +92,12 @@ returns-then-SQUARE-eq1-clause-answer g c =
     let h = twice (size_more c.cross-normal.ensures.within.z tt) in
     let two : c.args.dim ≡ 2 = in_plane c.requires.dim c.if-dim-eq3.false in
     let one : g.T.Potential.SQUARE ≡ pos 1 = let e = c.SQUARE.ensures in let h = c.if-SQUARE-eq1.true in omega (arith, ints) in
-    let size_x : Size (2 ^ 64) c.minor-x.result = with_inputs (given c.right-r.ensures.size ∷ given c.right-s.ensures.size ∷ inputs c.less-u.ensures.within c.less-v.ensures.within) (λ xs h m n d e f i j k. simp (m, n, d, e, f, i, j, k, c.minor-x.ensures, codes) (size_within xs h _ tt)) in
-    let size_y : Size (2 ^ 64) c.minor-y.result = with_inputs (given c.right-r.ensures.size ∷ given c.right-s.ensures.size ∷ inputs c.less-u.ensures.within c.less-v.ensures.within) (λ xs h m n d e f i j k. simp (m, n, d, e, f, i, j, k, c.minor-y.ensures, codes) (size_within xs h _ tt)) in
-    let x_is : c.minor-x.result ≡ c.right-r.result *ℤ c.less-v.result.y -ℤ c.right-s.result *ℤ c.less-u.result.y = with_inputs (given c.right-r.ensures.size ∷ given c.right-s.ensures.size ∷ inputs c.less-u.ensures.within c.less-v.ensures.within) (λ xs h m n d e f i j k. simp (m, n, d, e, f, i, j, k, c.minor-x.ensures, codes) (computes xs h _ _ tt tt)) in
-    let y_is : c.minor-y.result ≡ c.right-s.result *ℤ c.less-u.result.x -ℤ c.right-r.result *ℤ c.less-v.result.x = with_inputs (given c.right-r.ensures.size ∷ given c.right-s.ensures.size ∷ inputs c.less-u.ensures.within c.less-v.ensures.within) (λ xs h m n d e f i j k. simp (m, n, d, e, f, i, j, k, c.minor-y.ensures, codes) (computes xs h _ _ tt tt)) in
-    let raw = simp (to_z-of_z h.once, to_z-of_z h.fits, to_z-of_z (size_fits size_x tt), to_z-of_z (size_fits size_y tt)) at c.weights_in_plane.ensures in
+    let in_x = minor_of c.right-r.ensures.size c.less-v.ensures.within.y c.right-s.ensures.size c.less-u.ensures.within.y c.minor-x.ensures in
+    let in_y = minor_of c.right-s.ensures.size c.less-u.ensures.within.x c.right-r.ensures.size c.less-v.ensures.within.x c.minor-y.ensures in
+    let raw = simp (to_z-of_z h.once, to_z-of_z h.fits, to_z-of_z (size_fits in_x.size tt), to_z-of_z (size_fits in_y.size tt)) at c.weights_in_plane.ensures in
     let z_is = height_of c.less-u.ensures.value c.less-v.ensures.value c.cross-normal.ensures.value in
     ball_answer g.T.Potential.SQUARE c.args.dim one two (vector_of c.args.a) (vector_of c.args.b) (vector_of c.args.c) (three_items g.T.Potential.SQUARE c.args.dim (vector_of c.args.a) (vector_of c.args.b) (vector_of c.args.c) c.requires.items) _
-    (same_reduction (same_centre_weights (vector_of c.args.a) (vector_of c.args.b) (vector_of c.args.c) c.less-u.ensures.value c.less-v.ensures.value c.right-r.ensures.value c.right-s.ensures.value x_is y_is (ap (λ n. pos 2 *ℤ n) z_is)) raw)
+    (same_reduction (same_centre_weights (vector_of c.args.a) (vector_of c.args.b) (vector_of c.args.c) c.less-u.ensures.value c.less-v.ensures.value c.right-r.ensures.value c.right-s.ensures.value in_x.value in_y.value (ap (λ n. pos 2 *ℤ n) z_is)) raw)
     (subst (λ n. pos 0 <ℤ (pos 2 *ℤ n *ℤ n)) z_is (twice_square c.cross-normal.result.z (some_height g.T.Potential.SQUARE c.args.dim (vector_of c.args.a) (vector_of c.args.b) (vector_of c.args.c) c.requires.items two c.less-u.ensures.value c.less-v.ensures.value c.cross-normal.ensures.value (λ e. let t = c.is_zero-2.ensures.1 e in let f = c.if-is_zero-2.false in absurd (cc)))))
 
 pub returns-then-normal-lt0-clause-answer : goal.returns-then-normal-lt0-clause-answer

@@ -9,7 +9,7 @@ use Rattle.min_annulus.specs.LinearForms.{squared_radius_of}
 use Rattle.min_annulus.proofs.MachineNumbers.{cast_fits, cast_value, back64, back128}
 use Rattle.min_annulus.proofs.SameRecords.{same_fraction}
 use Rattle.min_annulus.proofs.OneMore.{point_is}
-use Rattle.min_annulus.proofs.CommonFactors.{lowest_show, shown_weights}
+use Rattle.min_annulus.proofs.LowestPairs.{lowest_show, shown_weights}
 use Rattle.min_annulus.proofs.Passing.{annulus_passes, range_nonneg}
 use Rattle.min_annulus.proofs.answering.annulus_around.Goals as goal
 
@@ -20,7 +20,7 @@ pub overflow_cast-extremes : goal.overflow_cast-extremes
 overflow_cast-extremes c = cast_fits (c.args.extremes.high -ℤ c.args.extremes.low) (with_inputs (given c.requires.extremes.high_size ∷ given c.requires.extremes.low_size ∷ []) (λ xs h p q. simp (p, q, codes) (computes xs h _ _ tt tt))) (range_nonneg (points_of c.args.cloud) c.args.form c.args.extremes c.requires.extremes) (size_more (size_sub c.requires.extremes.high_size c.requires.extremes.low_size) tt)
 
 pub in_lowest_terms-requires : goal.in_lowest_terms-requires
-in_lowest_terms-requires c = shown_weights (points_of c.args.cloud) c.args.form c.args.extremes c.args.pairs.now.items c.requires.pairs
+in_lowest_terms-requires c = (omega arith, shown_weights (points_of c.args.cloud) c.args.form c.args.extremes c.args.pairs.now.items c.requires.pairs)
 
 pub returns-clause-passes : goal.returns-clause-passes
 returns-clause-passes c =

@@ -6,7 +6,7 @@ use Rattle.bounded_coords.specs.Clouds.{points_of}
 use Rattle.answers.specs.Answers.{quarter_fan_of, span_of}
 use Rattle.directions.proofs.SpanBounds.{AreBounds}
 use Rattle.min_rectangle.proofs.Cones.{cones_length, cone_read, is_cone_read}
-use Rattle.min_rectangle.proofs.Areas.{IsNotLargerAt, not_larger_there, not_larger_more, one_area, rectangle_passes}
+use Rattle.min_rectangle.proofs.Areas.{IsNotLargerAt, not_larger_there, not_larger_more, one_area, larger_before, rectangle_passes}
 use Rattle.min_rectangle.proofs.smallest.rectangle_of_fan.Goals as goal
 
 pub area_at-best-requires : goal.area_at-best-requires
@@ -31,9 +31,13 @@ loop-j-init c =
     let here = not_larger_there points fan first first c.area_at-best.ensures.area (omega arith) in
     record {
       best = c.area_at-best.ensures.area;
+      before = λ k l. absurd (none k c.area_at-best.ensures.direction l);
       seen = λ k l. subst (IsNotLargerAt points fan first) (c.area_at-best.ensures.direction ∙ zero_is k l) here;
     }
   where
+    none : (k : ℕ) {n : ℕ} → n ≡ 0 → k < n → ⊥
+    none k e l = omega arith
+
     zero_is : (k : ℕ) → k < 1 → 0 ≡ k
     zero_is k l = omega arith
 
@@ -48,6 +52,7 @@ loop-j-preserved c =
     let here = subst (IsNotLargerAt points fan better) c.area_at.ensures.direction (not_larger_there points fan better next c.area_at.ensures.area c.smaller-best.ensures.not_larger_b) in
     record {
       best = is_better;
+      before = larger_before points fan best next better c.loop-j.j c.requires c.loop-j.invariant.best c.area_at.ensures.area c.area_at.ensures.direction c.loop-j.invariant.seen c.loop-j.invariant.before c.smaller-best.ensures.one;
       seen = below_more _ _
           (λ k l. not_larger_more points fan best better k c.requires c.loop-j.invariant.best is_better c.smaller-best.ensures.not_larger_a (omega (arith, c.loop-j-test.true, c.len-j-end.ensures.count, cones_length c.args.fan)) (c.loop-j.invariant.seen k l))
           here;
@@ -86,4 +91,4 @@ returns c =
     let bounds_across = subst (λ (x : fans.QuarterCone). AreBounds points (quarter_turn x.direction) x.over x.under across) is turned in
     let all_seen = λ (k : ℕ) (l : k < length fan.cones). c.loop-j.invariant.seen k (omega (arith, l, c.loop-j-test.false, c.len-j-end.ensures.count, cones_length c.args.fan)) in
     subst (λ (x : fans.QuarterCone). PassesRectangle points (record { size = size; direction = x.direction; along = along; across = across; fan = fan })) (sym is)
-    (rectangle_passes points fan best size along across c.requires c.loop-j.invariant.best all_seen c.new.ensures.lowest c.new.ensures.value bounds bounds_across)
+    (rectangle_passes points fan best size along across c.requires c.loop-j.invariant.best all_seen c.loop-j.invariant.before c.new.ensures.lowest c.new.ensures.value bounds bounds_across)

@@ -1,6 +1,7 @@
 use Rattle.std.proofs.Common.{subst, ap, refl, ◌≡◌, ◌+◌, ◌-◌, length, [], arith}
 use Rattle.bounded_coords.specs.Clouds.{counted_points}
-use Rattle.p_centres.specs.Covers.{IsCover, IsRefuted}
+use Rattle.corner_squares.specs.Covers.{IsCover}
+use Rattle.p_centres.specs.Covers.{IsFirstRefuted}
 use Rattle.p_centres.proofs.Halving.{bracket_lowered, bracket_raised, room_for_tree, tree_steps}
 use Rattle.p_centres.proofs.sides.try_side.Goals as goal
 
@@ -24,5 +25,5 @@ returns-then-cover-clause-bracket g c =
 pub returns-clause-bracket : goal.returns-clause-bracket
 returns-clause-bracket g c =
     bracket_raised (counted_points c.args.cloud) c.args.p c.args.side c.cover.new.placed.items c.args.bracket.now _ c.requires.bracket c.requires.low c.requires.high refl refl refl
-    (subst (λ placed. IsRefuted (counted_points c.args.cloud) c.args.side (c.args.p - 1) placed c.cover.new.placed.items [] c.cover.new.leaves.items) c.new-squares.ensures
-    (subst (λ leaves. IsRefuted (counted_points c.args.cloud) c.args.side (c.args.p - 1) c.new-squares.result.items c.cover.new.placed.items leaves c.cover.new.leaves.items) c.new-leaves.ensures (c.if-cover.ensures.refuted refl)))
+    (subst (λ placed. IsFirstRefuted (counted_points c.args.cloud) c.args.side (c.args.p - 1) placed c.cover.new.placed.items [] c.cover.new.leaves.items) c.new-squares.ensures
+    (subst (λ leaves. IsFirstRefuted (counted_points c.args.cloud) c.args.side (c.args.p - 1) c.new-squares.result.items c.cover.new.placed.items leaves c.cover.new.leaves.items) c.new-leaves.ensures (c.if-cover.ensures.refuted refl)))

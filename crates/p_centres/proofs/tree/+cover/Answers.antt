@@ -4,13 +4,20 @@ use Rattle.integers.proofs.Lists.{popped}
 use Rattle.bounds_model.specs.Plane.{PlanePoint}
 use Rattle.corner_squares.specs.declared.square.Square.{Square}
 use Rattle.corner_squares.specs.declared.bounds.Bounds.{Bounds}
-use Rattle.p_centres.specs.Covers.{IsPlaced}
+use Rattle.corner_squares.specs.Covers.{IsPlaced}
 use Rattle.bounded_coords.specs.Clouds.{counted_points}
 use Rattle.corner_squares.specs.Squares.{left_over}
-use Rattle.corner_squares.specs.Extents.{IsBox}
+use Rattle.corner_squares.specs.Extents.{IsRestBox}
 use Rattle.corner_squares.specs.Trees.{nodes}
-use Rattle.p_centres.proofs.Covering.{cover_now, cover_by_more, placed_more, no_corner, corner_more, all_corners, room_for_leaves, nodes_are, some_nodes}
+use Rattle.corner_squares.proofs.Placing.{cover_now, cover_by_more, placed_more, no_corner, corner_more, all_corners, room_for_leaves}
+use Rattle.p_centres.specs.Covers.{IsFirstRefuted}
+use Rattle.p_centres.proofs.Nodes.{nodes_are, some_nodes}
 use Rattle.p_centres.proofs.tree.+cover.Goals as goal
+
+pub returns-then-depth-eq0-clause-refuted : goal.returns-then-depth-eq0-clause-refuted
+returns-then-depth-eq0-clause-refuted g t c = λ no.
+    subst (λ depth. IsFirstRefuted (counted_points c.args.cloud) c.args.side depth c.args.placed.now.items c.cover_rest.new.placed.items c.args.leaves.now.items c.cover_rest.new.leaves.items)
+    (sym c.if-depth-eq0.true) (c.cover_rest.ensures.refuted no)
 
 pub returns-in_default-clause-covered : goal.returns-in_default-clause-covered
 returns-in_default-clause-covered g t c = λ _.
@@ -31,8 +38,8 @@ loop-corner-init g t c = record {
 }
 
 -- the box is that of what the placed squares leave over
-whole_box : {points : List PlanePoint} {b : Bounds} (seen squares : List Square) → seen ≡ squares → IsBox points seen (length points) b → IsBox points squares (length points) b
-whole_box {points} {b} seen squares is box = subst (λ ss. IsBox points ss (length points) b) is box
+whole_box : {points : List PlanePoint} {b : Bounds} (seen squares : List Square) → seen ≡ squares → IsRestBox points seen b → IsRestBox points squares b
+whole_box {points} {b} seen squares is box = subst (λ ss. IsRestBox points ss b) is box
 
 room_for_square : (was depth now kept pushed : ℕ) → was + depth < 3 → depth ≢ 0 → kept ≡ was → pushed ≡ kept + 1 → pushed + (depth - 1) < 3
 room_for_square was depth now kept pushed h some e f = omega (arith, h, some, e, f)
@@ -44,7 +51,7 @@ cover-requires g t c κs within =
     let room : length c.push.new.self.items + (c.args.depth - 1) < 3 =
     room_for_square (length c.args.placed.now.items) c.args.depth 0 (length c.loop-corner.placed.items) (length c.push.new.self.items) c.requires.room some (ap length c.loop-corner.invariant.stays) c.push.ensures.len in
     let placed : All (IsPlaced c.args.side) c.push.new.self.items =
-    placed_more points c.args.side c.loop-corner.corner (length points) c.loop-corner.placed.items c.as_slice.result.now c.push.new.self.items c.in-Some.bounds c.corner_square.result
+    placed_more points c.args.side c.loop-corner.corner c.loop-corner.placed.items c.as_slice.result.now c.push.new.self.items c.in-Some.bounds c.corner_square.result
     (subst (All (IsPlaced c.args.side)) (sym c.loop-corner.invariant.stays) c.requires.placed) c.in-Some.ensures.found
     (record { left = c.corner_square.ensures.left; bottom = c.corner_square.ensures.bottom; wide = c.corner_square.ensures.side }) c.push.ensures.items in
     let leaf_room : length c.loop-corner.leaves.items + 4 ^ (c.args.depth - 1) ≤ 16 =
@@ -78,7 +85,7 @@ returns-then-cover-clause-steps g t c =
 pub loop-corner-preserved : goal.loop-corner-preserved
 loop-corner-preserved g t c =
     let points = counted_points c.args.cloud in
-    let refuted = c.if-cover.ensures.refuted refl in
+    let refuted = (c.if-cover.ensures.refuted refl).refuted in
     record {
       stays = popped c.loop-corner.placed.items c.push.new.self.items c.cover.new.placed.items c.pop.new.self.items c.corner_square.result c.push.ensures.items refuted.stays c.pop.ensures.rest ∙ c.loop-corner.invariant.stays;
       below = corner_more c.args.side (c.args.depth - 1) c.loop-corner.corner points c.args.placed.now.items c.push.new.self.items c.cover.new.placed.items c.in-Some.bounds c.corner_square.result c.args.leaves.now.items c.loop-corner.leaves.items c.cover.new.leaves.items
@@ -89,9 +96,11 @@ loop-corner-preserved g t c =
     }
 
 pub returns-clause-refuted : goal.returns-clause-refuted
-returns-clause-refuted g t c = λ _.
-    all_corners c.args.side c.args.depth c.loop-corner.corner (counted_points c.args.cloud) c.args.placed.now.items c.loop-corner.placed.items c.args.leaves.now.items c.loop-corner.leaves.items
-    c.if-depth-eq0.false (let some = c.loop-corner-test.false in let most = c.loop-corner.auto.corner-end in omega (arith, some, most)) c.loop-corner.invariant.stays c.loop-corner.invariant.below
+returns-clause-refuted g t c = λ _. record {
+  refuted = all_corners c.args.side c.args.depth c.loop-corner.corner (counted_points c.args.cloud) c.args.placed.now.items c.loop-corner.placed.items c.args.leaves.now.items c.loop-corner.leaves.items
+      c.if-depth-eq0.false (let some = c.loop-corner-test.false in let most = c.loop-corner.auto.corner-end in omega (arith, some, most)) c.loop-corner.invariant.stays c.loop-corner.invariant.below;
+  earliest = λ leaf. absurd (c.if-depth-eq0.false leaf);
+}
 
 pub returns-clause-steps : goal.returns-clause-steps
 returns-clause-steps g t c =

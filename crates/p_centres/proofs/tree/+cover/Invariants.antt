@@ -2,7 +2,7 @@ use Rattle.std.proofs.Common.{◌≡◌, ◌+◌, ◌-◌, ◌*◌, ◌≤◌, l
 use Rattle.bounded_coords.specs.Clouds.{counted_points}
 use Rattle.corner_squares.specs.Squares.{left_over}
 use Rattle.corner_squares.specs.Trees.{nodes}
-use Rattle.p_centres.proofs.Covering.{BelowFirst}
+use Rattle.corner_squares.proofs.Placing.{BelowFirst}
 use Rattle.p_centres.proofs.tree.+cover.Given as goal
 
 abbrev pub decreases-cover : goal.decreases-cover

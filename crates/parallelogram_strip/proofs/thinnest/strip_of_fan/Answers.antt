@@ -8,7 +8,7 @@ use Rattle.answers.specs.Answers.{half_fan_of, span_of}
 use Rattle.parallelogram_strip.proofs.FullTurn.{full_turn_of}
 use Rattle.parallelogram_strip.proofs.ConesRead.{around_first, around_named, around_short, cones_length}
 use Rattle.directions.proofs.SpanBounds.{AreBounds}
-use Rattle.parallelogram_strip.proofs.Widths.{IsNotThinnerAt, not_thinner_there, thinner_more, one_width, strip_passes}
+use Rattle.parallelogram_strip.proofs.Widths.{IsNotThinnerAt, not_thinner_there, thinner_more, one_width, thicker_before, strip_passes}
 use Rattle.parallelogram_strip.proofs.thinnest.strip_of_fan.Goals as goal
 
 pub width_at-best-requires : goal.width_at-best-requires
@@ -33,9 +33,13 @@ loop-j-init c =
     let here = not_thinner_there points fan first first c.width_at-best.ensures.width (omega arith) in
     record {
       best = c.width_at-best.ensures.width;
+      before = λ k l. absurd (none k c.width_at-best.ensures.direction l);
       seen = λ k l. subst (IsNotThinnerAt points fan first) (c.width_at-best.ensures.direction ∙ zero_is k l) here;
     }
   where
+    none : (k : ℕ) {n : ℕ} → n ≡ 0 → k < n → ⊥
+    none k e l = omega arith
+
     zero_is : (k : ℕ) → k < 1 → 0 ≡ k
     zero_is k l = omega arith
 
@@ -51,6 +55,7 @@ loop-j-preserved c =
     let here = subst (IsNotThinnerAt points fan better) c.width_at.ensures.direction (not_thinner_there points fan better next c.width_at.ensures.width c.thinner-best.ensures.not_wider_b) in
     record {
       best = is_better;
+      before = thicker_before points fan best next better c.loop-j.j turn c.loop-j.invariant.best c.width_at.ensures.width c.width_at.ensures.direction c.loop-j.invariant.seen c.loop-j.invariant.before c.thinner-best.ensures.one;
       seen = below_more _ _
           (λ k l. thinner_more points fan best better k turn c.loop-j.invariant.best is_better c.thinner-best.ensures.not_wider_a (omega (arith, c.loop-j-test.true, c.len-j-end.ensures.count, cones_length c.args.fan)) (c.loop-j.invariant.seen k l))
           here;
@@ -88,5 +93,5 @@ returns c =
     let span = span_of c.span.result in
     let is_cone = around_first c.args.fan best.direction c.at-cone.result c.at-cone.ensures in
     let bounds = subst (λ (cone : fans.HalfCone). AreBounds points cone.direction cone.high cone.low span) is_cone (record { is = c.span.ensures.bounds; short = c.span.ensures.short }) in
-    let passes = strip_passes points fan best size span c.requires c.loop-j.invariant.best (λ k l. c.loop-j.invariant.seen k (omega (arith, c.loop-j-test.false, c.len-j-end.ensures.count, cones_length c.args.fan))) c.new.ensures.lowest c.new.ensures.value bounds in
+    let passes = strip_passes points fan best size span c.requires c.loop-j.invariant.best (λ k l. c.loop-j.invariant.seen k (omega (arith, c.loop-j-test.false, c.len-j-end.ensures.count, cones_length c.args.fan))) c.loop-j.invariant.before c.new.ensures.lowest c.new.ensures.value bounds in
     subst (λ (cone : fans.HalfCone). PassesStrip points (record { size = size; direction = cone.direction; bounds = span; fan = fan })) (sym is_cone) passes

@@ -1,12 +1,10 @@
-use Rattle.std.proofs.Common.{◌≡◌, sym, subst, ap, ◌∙◌, ℕ, ◌+◌, ◌-◌, ◌*◌, ◌<◌, ◌≤◌, ◌^◌, arith, ◌+ℤ◌, to_z, w64, length, map}
-use Rattle.std.specs.Prelude.{drop}
-use Rattle.std.proofs.lemmas.List.{length-map}
+use Rattle.std.proofs.Common.{◌≡◌, sym, subst, ap, ◌∙◌, ℕ, ◌+◌, ◌-◌, ◌*◌, ◌<◌, ◌≤◌, ◌^◌, arith, ◌+ℤ◌, to_z, w64, length, map, List}
+use Rattle.std.specs.Prelude.{drop, slice_index_or}
+use Rattle.std.proofs.lemmas.List.{get_or-map, get_or_read, length-map}
 use Rattle.integers.specs.Size.{Size}
 use Rattle.integers.proofs.Sizes.{size_add, size_unsigned}
-use Rattle.bounds_model.specs.Plane.{point_at}
+use Rattle.bounds_model.specs.Plane.{PlanePoint, origin, point_at}
 use Rattle.bounds_model.specs.Kgon.{triangulated_area, twice_area}
-use Rattle.bounded_coords.specs.Clouds.{points_of}
-use Rattle.polygon_check.proofs.HullReads.{numbered_corner}
 use Rattle.polygon_check.proofs.Areas.{begins, one_more, ends, size_under, turn_of, machine_sum}
 use Rattle.polygon_check.proofs.polygons.chosen_area.Goals as goal
 
@@ -17,21 +15,28 @@ within h k = omega arith
 one_row : (i : ℕ) → i * 549755813888 + 549755813888 ≤ (i + 1) * 549755813888
 one_row i = omega arith
 
+-- the chosen corner that is read
+chosen_corner : (corners : List PlanePoint) (chosen : List ℕ) (i : ℕ) (p : PlanePoint) → i < length chosen → slice_index_or chosen i 0 < length corners → p ≡ slice_index_or corners (slice_index_or chosen i 0) p → p ≡ point_at (map (point_at corners) chosen) i
+chosen_corner corners chosen i p low inside is = get_or_read corners (slice_index_or chosen i 0) p inside is origin ∙ sym (get_or-map (point_at corners) chosen i 0 origin low)
+
 pub chosen-init : goal.chosen-init
 chosen-init c =
-    let ps = map (point_at (map (point_at (points_of c.args.cloud)) c.args.numbers.now)) c.args.chosen.now in
-    (omega arith, size_unsigned 0 (omega arith), begins ps (omega (arith, c.requires.some, length-map c.args.chosen.now (point_at (map (point_at (points_of c.args.cloud)) c.args.numbers.now)))))
+    let ps = map (point_at c.args.corners.now) c.args.chosen.now in
+    (omega arith, size_unsigned 0 (omega arith), begins ps (omega (arith, c.requires.some, length-map c.args.chosen.now (point_at c.args.corners.now))))
 
 pub chosen-preserved : goal.chosen-preserved
 chosen-preserved c =
-    let corners = map (point_at (points_of c.args.cloud)) c.args.numbers.now in
+    let corners = c.args.corners.now in
     let chosen = c.args.chosen.now in
     let ps = map (point_at corners) chosen in
     let i = c.chosen.i in
     let inv = c.chosen.invariant in
     let below : i < length chosen = omega (arith, c.chosen-test.true) in
-    let area = turn_of c.twice_area-area.ensures.area (c.corner-first.ensures ∙ sym (numbered_corner corners chosen 0 (omega (arith, c.requires.some))))
-    (c.corner-before.ensures ∙ sym (numbered_corner corners chosen (i - 1) (omega (arith, below)))) (c.corner-here.ensures ∙ sym (numbered_corner corners chosen i below)) in
+    let before : i - 1 < length chosen = omega (arith, below) in
+    let some : 0 < length chosen = omega (arith, c.requires.some) in
+    let area = turn_of c.twice_area-area.ensures.area (chosen_corner corners chosen 0 c.index-corners-chosen.result some (c.requires.chosen 0 0 some) c.index-corners-chosen.is)
+    (chosen_corner corners chosen (i - 1) c.index-corners-chosen-in-chosen.result before (c.requires.chosen (i - 1) 0 before) c.index-corners-chosen-in-chosen.is)
+    (chosen_corner corners chosen i c.index-corners-chosen-in-chosen-2.result below (c.requires.chosen i 0 below) c.index-corners-chosen-in-chosen-2.is) in
     let small = size_under (within below c.requires.few) inv.1 in
     let sum = machine_sum small c.twice_area-area.ensures.small in (
       omega arith,
@@ -42,6 +47,6 @@ chosen-preserved c =
 
 pub returns-clause-area : goal.returns-clause-area
 returns-clause-area c =
-    let corners = map (point_at (points_of c.args.cloud)) c.args.numbers.now in
+    let corners = c.args.corners.now in
     let ps = map (point_at corners) c.args.chosen.now in
     ends (point_at ps 0) ps c.chosen.i (to_z w64 c.chosen.area-bits) (twice_area ps) c.chosen.invariant.0 (omega (arith, c.chosen-test.false, length-map c.args.chosen.now (point_at corners))) c.chosen.invariant.2

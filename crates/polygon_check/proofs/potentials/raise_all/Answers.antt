@@ -1,13 +1,10 @@
-use Rattle.std.proofs.Common.{refl, arith}
-use Rattle.bounds_model.specs.KgonAnswer.{corner_points}
-use Rattle.bounded_coords.specs.Clouds.{points_of}
+use Rattle.std.proofs.Common.{refl, arith, below_more}
 use Rattle.answers.specs.Answers.{polygon_of}
 use Rattle.polygon_check.specs.PolygonLimits.{RaisesFrom}
-use Rattle.polygon_check.proofs.HullReads.{edges_more}
 use Rattle.polygon_check.proofs.potentials.raise_all.Goals as goal
 
 pub firsts-preserved : goal.firsts-preserved
-firsts-preserved c = edges_more (RaisesFrom (corner_points (points_of c.args.cloud) (polygon_of c.args.a.now)) (polygon_of c.args.a.now)) c.firsts.first c.firsts.invariant (c.raise_from.ensures.0 c.if-not-raise_from.false)
+firsts-preserved c = below_more (RaisesFrom c.args.corners.now (polygon_of c.args.a.now)) c.firsts.first c.firsts.invariant (c.raise_from.ensures.0 c.if-not-raise_from.false)
 
 pub returns-then-not-raise_from : goal.returns-then-not-raise_from
 returns-then-not-raise_from c = (λ yes. absurd (cc yes), λ all. let yes = c.raise_from.ensures.1 (all c.firsts.first (omega (arith, c.firsts-test.true, c.len-first-end.ensures.count))) in absurd (cc yes))

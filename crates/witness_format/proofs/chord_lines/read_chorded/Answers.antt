@@ -6,9 +6,9 @@ use Rattle.bounds_model.specs.AnswerText.LineFormats.{untitled}
 use Rattle.bounds_model.specs.AnswerText.Formats.{lines_at}
 use Rattle.bounds_model.specs.AnswerText.Kinds.{chorded_fields}
 use Rattle.witness_format.specs.Bodies.{chorded_values}
-use Rattle.witness_format.specs.Lines.{lines_left}
+use Rattle.answer_lines.specs.Lines.{lines_left}
 use Rattle.witness_format.proofs.ChordLines.{zip_push}
-use Rattle.witness_format.proofs.LineReadings.{one_more, lines_refused}
+use Rattle.answer_lines.proofs.LineReadings.{one_more, lines_refused}
 use Rattle.witness_format.proofs.chord_lines.read_chorded.Goals as goal
 
 pub loop-preserved : goal.loop-preserved

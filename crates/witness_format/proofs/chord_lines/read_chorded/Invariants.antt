@@ -4,8 +4,8 @@ use Rattle.bounds_model.specs.AnswerText.LineFormats.{untitled}
 use Rattle.bounds_model.specs.AnswerText.Formats.{lines_at}
 use Rattle.bounds_model.specs.AnswerText.Kinds.{chorded_fields}
 use Rattle.witness_format.specs.Bodies.{chorded_values}
-use Rattle.witness_format.specs.Lines.{lines_left}
-use Rattle.witness_format.proofs.LineReadings.{with_front}
+use Rattle.answer_lines.specs.Lines.{lines_left}
+use Rattle.answer_lines.proofs.LineReadings.{with_front}
 use Rattle.witness_format.proofs.chord_lines.read_chorded.Given as goal
 
 abbrev pub invariant-loop : goal.invariant-loop

@@ -1,6 +1,6 @@
 use Rattle.std.proofs.Common.{◌∙◌, ap, ◌+◌, ◌-◌, pos, map, Ok, arith}
-use Rattle.witness_format.specs.Judging.{seen}
-use Rattle.witness_format.specs.Lines.{words_left}
+use Rattle.answer_lines.specs.Judging.{seen}
+use Rattle.answer_lines.specs.Lines.{words_left}
 use Rattle.witness_format.specs.Rows.{naturals_behind}
 use Rattle.witness_format.proofs.RowReadings.{number_more}
 use Rattle.witness_format.proofs.potential_rows.add_naturals.Goals as goal

@@ -1,6 +1,6 @@
 use Rattle.std.proofs.Common.{◌≡◌, ◌+◌, ◌-◌, ◌≤◌, length, map, pos, Ok}
-use Rattle.witness_format.specs.Judging.{seen}
-use Rattle.witness_format.specs.Lines.{words_left}
+use Rattle.answer_lines.specs.Judging.{seen}
+use Rattle.answer_lines.specs.Lines.{words_left}
 use Rattle.witness_format.specs.Rows.{naturals_behind}
 use Rattle.witness_format.proofs.potential_rows.add_naturals.Given as goal
 

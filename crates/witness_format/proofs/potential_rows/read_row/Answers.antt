@@ -1,5 +1,5 @@
 use Rattle.std.proofs.Common.{map, pos}
-use Rattle.witness_format.specs.Lines.{words_left, lines_left}
+use Rattle.answer_lines.specs.Lines.{words_left, lines_left}
 use Rattle.witness_format.proofs.RowReadings.{row_reads}
 use Rattle.witness_format.proofs.potential_rows.read_row.Goals as goal
 

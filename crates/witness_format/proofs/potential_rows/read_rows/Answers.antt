@@ -1,6 +1,6 @@
 use Rattle.std.proofs.Common.{◌≡◌, ◌∙◌, sym, ap, ◌+◌, length, pos, map, arith}
 use Rattle.bounds_model.specs.AnswerText.Kinds.{triangle}
-use Rattle.witness_format.specs.Lines.{lines_left}
+use Rattle.answer_lines.specs.Lines.{lines_left}
 use Rattle.witness_format.specs.Rows.{widths_left, rows_behind}
 use Rattle.witness_format.proofs.RowReadings.{width_sum, few_numbers, none_before, row_read}
 use Rattle.witness_format.proofs.potential_rows.read_rows.Goals as goal

@@ -1,7 +1,7 @@
 use Rattle.std.proofs.Common.{◌≡◌, ◌+◌, ◌≤◌, length, map, pos}
 use Rattle.bounds_model.specs.AnswerText.Formats.{rows_at}
 use Rattle.bounds_model.specs.AnswerText.Kinds.{triangle}
-use Rattle.witness_format.specs.Lines.{lines_left}
+use Rattle.answer_lines.specs.Lines.{lines_left}
 use Rattle.witness_format.specs.Rows.{widths_left, rows_behind}
 use Rattle.witness_format.proofs.RowReadings.{width_sum}
 use Rattle.witness_format.proofs.potential_rows.read_rows.Given as goal

@@ -29,3 +29,12 @@ returns-in-Distance c = rw c.in-Distance.is c.push_distance.ensures
 
 pub returns-in-Centres : goal.returns-in-Centres
 returns-in-Centres c = rw c.in-Centres.is c.push_centres.ensures
+
+pub returns-in-Furthest : goal.returns-in-Furthest
+returns-in-Furthest c = rw c.in-Furthest.is c.push_furthest.ensures
+
+pub returns-in-Four : goal.returns-in-Four
+returns-in-Four c = rw c.in-Four.is c.push_four.ensures
+
+pub returns-in-Shell : goal.returns-in-Shell
+returns-in-Shell c = rw c.in-Shell.is c.push_shell.ensures

@@ -1,119 +1,36 @@
-use Prim.Native.Nat.{◌∣◌}
-use Rattle.std.proofs.Common.{◌≡◌, ◌∙◌, sym, subst, ◌*ℤ◌, pos, ◌<◌, [], ◌∷◌, FitsSigned, rules}
-use Rattle.std.proofs.lemmas.Int.{to_z-of_z}
-use Rattle.std.proofs.Math.Nat.{dvd_refl}
-use mir.Syntax.{w128}
-use Rattle.integers.proofs.Divisors.{gcd_all, gcd_all_one}
-use Rattle.exact_fractions.proofs.LowestForms.{gcd_of_three, divides_entry, dvd-first, dvd-rest, IsPlaneRatio-div, SamePlace-div, zero_scaled, quotient_by_one}
-use Rattle.bounds_model.specs.Plane.{PlaneRatio}
+use Rattle.exact_fractions.proofs.LowestPlaces.{plane_divisor, PlaneQuotients, plane_quotients}
 use Rattle.exact_fractions.proofs.plane.Homog2.new.Goals as goal
 
 pub quotient-requires-clause-divisor : goal.quotient-requires-clause-divisor
 quotient-requires-clause-divisor c =
-    let range_x : FitsSigned w128 c.args.x = c.ranges.x in
-    let range_y : FitsSigned w128 c.args.y = c.ranges.y in
-    let range_w : FitsSigned w128 c.args.w = c.ranges.w in
-    let whole : gcd_all (c.args.x ∷ c.args.y ∷ c.args.w ∷ []) ≡ c.gcd-divisor.result =
-    gcd_of_three c.args.x c.args.y c.args.w c.unsigned_abs.result c.unsigned_abs-2.result c.unsigned_abs-3.result c.gcd.result c.gcd-divisor.result
-    (simp to_z-of_z at c.unsigned_abs.ensures.value) (simp to_z-of_z at c.unsigned_abs-2.ensures.value) (simp to_z-of_z at c.unsigned_abs-3.ensures.value) c.gcd.ensures c.gcd-divisor.ensures in
-    let from_x : c.gcd-divisor.result ∣ gcd_all (c.args.x ∷ c.args.y ∷ c.args.w ∷ []) = subst (λ n. c.gcd-divisor.result ∣ n) (sym whole) (dvd_refl c.gcd-divisor.result) in
-    let from_y : c.gcd-divisor.result ∣ gcd_all (c.args.y ∷ c.args.w ∷ []) = dvd-rest c.gcd-divisor.result c.args.x (c.args.y ∷ c.args.w ∷ []) from_x in
-    let from_w : c.gcd-divisor.result ∣ gcd_all (c.args.w ∷ []) = dvd-rest c.gcd-divisor.result c.args.y (c.args.w ∷ []) from_y in
-    simp to_z-of_z (divides_entry c.gcd-divisor.result c.args.w c.args.x c.requires.some c.requires.w (dvd-first c.gcd-divisor.result c.args.w [] from_w) (dvd-first c.gcd-divisor.result c.args.x (c.args.y ∷ c.args.w ∷ []) from_x))
+    let r = c.requires in
+    (plane_divisor r.x r.y r.w r.some c.unsigned_abs.ensures.value c.unsigned_abs-2.ensures.value c.unsigned_abs-3.ensures.value c.gcd.ensures c.gcd-divisor.ensures).in_x
 
 pub quotient-requires-2-clause-divisor : goal.quotient-requires-2-clause-divisor
 quotient-requires-2-clause-divisor c =
-    let range_x : FitsSigned w128 c.args.x = c.ranges.x in
-    let range_y : FitsSigned w128 c.args.y = c.ranges.y in
-    let range_w : FitsSigned w128 c.args.w = c.ranges.w in
-    let whole : gcd_all (c.args.x ∷ c.args.y ∷ c.args.w ∷ []) ≡ c.gcd-divisor.result =
-    gcd_of_three c.args.x c.args.y c.args.w c.unsigned_abs.result c.unsigned_abs-2.result c.unsigned_abs-3.result c.gcd.result c.gcd-divisor.result
-    (simp to_z-of_z at c.unsigned_abs.ensures.value) (simp to_z-of_z at c.unsigned_abs-2.ensures.value) (simp to_z-of_z at c.unsigned_abs-3.ensures.value) c.gcd.ensures c.gcd-divisor.ensures in
-    let from_x : c.gcd-divisor.result ∣ gcd_all (c.args.x ∷ c.args.y ∷ c.args.w ∷ []) = subst (λ n. c.gcd-divisor.result ∣ n) (sym whole) (dvd_refl c.gcd-divisor.result) in
-    let from_y : c.gcd-divisor.result ∣ gcd_all (c.args.y ∷ c.args.w ∷ []) = dvd-rest c.gcd-divisor.result c.args.x (c.args.y ∷ c.args.w ∷ []) from_x in
-    let from_w : c.gcd-divisor.result ∣ gcd_all (c.args.w ∷ []) = dvd-rest c.gcd-divisor.result c.args.y (c.args.w ∷ []) from_y in
-    simp to_z-of_z (divides_entry c.gcd-divisor.result c.args.w c.args.y c.requires.some c.requires.w (dvd-first c.gcd-divisor.result c.args.w [] from_w) (dvd-first c.gcd-divisor.result c.args.y (c.args.w ∷ []) from_y))
+    let r = c.requires in
+    (plane_divisor r.x r.y r.w r.some c.unsigned_abs.ensures.value c.unsigned_abs-2.ensures.value c.unsigned_abs-3.ensures.value c.gcd.ensures c.gcd-divisor.ensures).in_y
 
 pub quotient-requires-3-clause-divisor : goal.quotient-requires-3-clause-divisor
 quotient-requires-3-clause-divisor c =
-    let range_x : FitsSigned w128 c.args.x = c.ranges.x in
-    let range_y : FitsSigned w128 c.args.y = c.ranges.y in
-    let range_w : FitsSigned w128 c.args.w = c.ranges.w in
-    let whole : gcd_all (c.args.x ∷ c.args.y ∷ c.args.w ∷ []) ≡ c.gcd-divisor.result =
-    gcd_of_three c.args.x c.args.y c.args.w c.unsigned_abs.result c.unsigned_abs-2.result c.unsigned_abs-3.result c.gcd.result c.gcd-divisor.result
-    (simp to_z-of_z at c.unsigned_abs.ensures.value) (simp to_z-of_z at c.unsigned_abs-2.ensures.value) (simp to_z-of_z at c.unsigned_abs-3.ensures.value) c.gcd.ensures c.gcd-divisor.ensures in
-    let from_x : c.gcd-divisor.result ∣ gcd_all (c.args.x ∷ c.args.y ∷ c.args.w ∷ []) = subst (λ n. c.gcd-divisor.result ∣ n) (sym whole) (dvd_refl c.gcd-divisor.result) in
-    let from_y : c.gcd-divisor.result ∣ gcd_all (c.args.y ∷ c.args.w ∷ []) = dvd-rest c.gcd-divisor.result c.args.x (c.args.y ∷ c.args.w ∷ []) from_x in
-    let from_w : c.gcd-divisor.result ∣ gcd_all (c.args.w ∷ []) = dvd-rest c.gcd-divisor.result c.args.y (c.args.w ∷ []) from_y in
-    simp to_z-of_z (divides_entry c.gcd-divisor.result c.args.w c.args.w c.requires.some c.requires.w (dvd-first c.gcd-divisor.result c.args.w [] from_w) (dvd-first c.gcd-divisor.result c.args.w ([]) from_w))
+    let r = c.requires in
+    (plane_divisor r.x r.y r.w r.some c.unsigned_abs.ensures.value c.unsigned_abs-2.ensures.value c.unsigned_abs-3.ensures.value c.gcd.ensures c.gcd-divisor.ensures).in_w
+
+-- the place of the three quotients
+abbrev place : (c : goal.After-quotient-3) → PlaneQuotients c.args.x c.args.y c.args.w c.quotient.result c.quotient-2.result c.quotient-3.result
+place c =
+    let r = c.requires in
+    let divisor = plane_divisor r.x r.y r.w r.some c.unsigned_abs.ensures.value c.unsigned_abs-2.ensures.value c.unsigned_abs-3.ensures.value c.gcd.ensures c.gcd-divisor.ensures in
+    plane_quotients divisor c.quotient.ensures c.quotient-2.ensures c.quotient-3.ensures
 
 pub invariant_of-result : goal.invariant_of-result
-invariant_of-result c =
-    let range_x : FitsSigned w128 c.args.x = c.ranges.x in
-    let range_y : FitsSigned w128 c.args.y = c.ranges.y in
-    let range_w : FitsSigned w128 c.args.w = c.ranges.w in
-    let whole : gcd_all (c.args.x ∷ c.args.y ∷ c.args.w ∷ []) ≡ c.gcd-divisor.result =
-    gcd_of_three c.args.x c.args.y c.args.w c.unsigned_abs.result c.unsigned_abs-2.result c.unsigned_abs-3.result c.gcd.result c.gcd-divisor.result
-    (simp to_z-of_z at c.unsigned_abs.ensures.value) (simp to_z-of_z at c.unsigned_abs-2.ensures.value) (simp to_z-of_z at c.unsigned_abs-3.ensures.value) c.gcd.ensures c.gcd-divisor.ensures in
-    let from_x : c.gcd-divisor.result ∣ gcd_all (c.args.x ∷ c.args.y ∷ c.args.w ∷ []) = subst (λ n. c.gcd-divisor.result ∣ n) (sym whole) (dvd_refl c.gcd-divisor.result) in
-    let from_y : c.gcd-divisor.result ∣ gcd_all (c.args.y ∷ c.args.w ∷ []) = dvd-rest c.gcd-divisor.result c.args.x (c.args.y ∷ c.args.w ∷ []) from_x in
-    let from_w : c.gcd-divisor.result ∣ gcd_all (c.args.w ∷ []) = dvd-rest c.gcd-divisor.result c.args.y (c.args.w ∷ []) from_y in
-    let positive : 0 < c.gcd-divisor.result = (divides_entry c.gcd-divisor.result c.args.w c.args.w c.requires.some c.requires.w (dvd-first c.gcd-divisor.result c.args.w [] from_w) (dvd-first c.gcd-divisor.result c.args.w [] from_w)).positive in
-    let is_x : pos c.gcd-divisor.result *ℤ c.quotient.result ≡ c.args.x = simp to_z-of_z at c.quotient.ensures in
-    let fits_x : FitsSigned w128 c.quotient.result = search rules in
-    let is_y : pos c.gcd-divisor.result *ℤ c.quotient-2.result ≡ c.args.y = simp to_z-of_z at c.quotient-2.ensures in
-    let fits_y : FitsSigned w128 c.quotient-2.result = search rules in
-    let is_w : pos c.gcd-divisor.result *ℤ c.quotient-3.result ≡ c.args.w = simp to_z-of_z at c.quotient-3.ensures in
-    let fits_w : FitsSigned w128 c.quotient-3.result = search rules in
-    simp to_z-of_z (IsPlaneRatio-div c.gcd-divisor.result c.args.x c.args.y c.args.w c.quotient.result c.quotient-2.result c.quotient-3.result positive whole c.requires.x c.requires.y c.requires.w c.requires.some is_x is_y is_w)
+invariant_of-result c = (place c).ratio
 
 pub returns-clause-lowest : goal.returns-clause-lowest
-returns-clause-lowest c =
-    let range_x : FitsSigned w128 c.args.x = c.ranges.x in
-    let range_y : FitsSigned w128 c.args.y = c.ranges.y in
-    let range_w : FitsSigned w128 c.args.w = c.ranges.w in
-    let whole : gcd_all (c.args.x ∷ c.args.y ∷ c.args.w ∷ []) ≡ c.gcd-divisor.result =
-    gcd_of_three c.args.x c.args.y c.args.w c.unsigned_abs.result c.unsigned_abs-2.result c.unsigned_abs-3.result c.gcd.result c.gcd-divisor.result
-    (simp to_z-of_z at c.unsigned_abs.ensures.value) (simp to_z-of_z at c.unsigned_abs-2.ensures.value) (simp to_z-of_z at c.unsigned_abs-3.ensures.value) c.gcd.ensures c.gcd-divisor.ensures in
-    let from_x : c.gcd-divisor.result ∣ gcd_all (c.args.x ∷ c.args.y ∷ c.args.w ∷ []) = subst (λ n. c.gcd-divisor.result ∣ n) (sym whole) (dvd_refl c.gcd-divisor.result) in
-    let from_y : c.gcd-divisor.result ∣ gcd_all (c.args.y ∷ c.args.w ∷ []) = dvd-rest c.gcd-divisor.result c.args.x (c.args.y ∷ c.args.w ∷ []) from_x in
-    let from_w : c.gcd-divisor.result ∣ gcd_all (c.args.w ∷ []) = dvd-rest c.gcd-divisor.result c.args.y (c.args.w ∷ []) from_y in
-    let positive : 0 < c.gcd-divisor.result = (divides_entry c.gcd-divisor.result c.args.w c.args.w c.requires.some c.requires.w (dvd-first c.gcd-divisor.result c.args.w [] from_w) (dvd-first c.gcd-divisor.result c.args.w [] from_w)).positive in
-    let is_x : pos c.gcd-divisor.result *ℤ c.quotient.result ≡ c.args.x = simp to_z-of_z at c.quotient.ensures in
-    let fits_x : FitsSigned w128 c.quotient.result = search rules in
-    let is_y : pos c.gcd-divisor.result *ℤ c.quotient-2.result ≡ c.args.y = simp to_z-of_z at c.quotient-2.ensures in
-    let fits_y : FitsSigned w128 c.quotient-2.result = search rules in
-    let is_w : pos c.gcd-divisor.result *ℤ c.quotient-3.result ≡ c.args.w = simp to_z-of_z at c.quotient-3.ensures in
-    let fits_w : FitsSigned w128 c.quotient-3.result = search rules in
-    simp to_z-of_z (IsPlaneRatio-div c.gcd-divisor.result c.args.x c.args.y c.args.w c.quotient.result c.quotient-2.result c.quotient-3.result positive whole c.requires.x c.requires.y c.requires.w c.requires.some is_x is_y is_w)
+returns-clause-lowest c = (place c).ratio
 
 pub returns-clause-place : goal.returns-clause-place
-returns-clause-place c =
-    let range_x : FitsSigned w128 c.args.x = c.ranges.x in
-    let range_y : FitsSigned w128 c.args.y = c.ranges.y in
-    let range_w : FitsSigned w128 c.args.w = c.ranges.w in
-    let is_x : pos c.gcd-divisor.result *ℤ c.quotient.result ≡ c.args.x = simp to_z-of_z at c.quotient.ensures in
-    let fits_x : FitsSigned w128 c.quotient.result = search rules in
-    let is_y : pos c.gcd-divisor.result *ℤ c.quotient-2.result ≡ c.args.y = simp to_z-of_z at c.quotient-2.ensures in
-    let fits_y : FitsSigned w128 c.quotient-2.result = search rules in
-    let is_w : pos c.gcd-divisor.result *ℤ c.quotient-3.result ≡ c.args.w = simp to_z-of_z at c.quotient-3.ensures in
-    let fits_w : FitsSigned w128 c.quotient-3.result = search rules in
-    simp to_z-of_z (SamePlace-div c.gcd-divisor.result c.args.x c.args.y (pos 0) c.args.w c.quotient.result c.quotient-2.result (pos 0) c.quotient-3.result is_x is_y (zero_scaled c.gcd-divisor.result) is_w)
+returns-clause-place c = (place c).place
 
 pub returns-clause-kept : goal.returns-clause-kept
-returns-clause-kept c lowest =
-    let range_x : FitsSigned w128 c.args.x = c.ranges.x in
-    let range_y : FitsSigned w128 c.args.y = c.ranges.y in
-    let range_w : FitsSigned w128 c.args.w = c.ranges.w in
-    let whole : gcd_all (c.args.x ∷ c.args.y ∷ c.args.w ∷ []) ≡ c.gcd-divisor.result =
-    gcd_of_three c.args.x c.args.y c.args.w c.unsigned_abs.result c.unsigned_abs-2.result c.unsigned_abs-3.result c.gcd.result c.gcd-divisor.result
-    (simp to_z-of_z at c.unsigned_abs.ensures.value) (simp to_z-of_z at c.unsigned_abs-2.ensures.value) (simp to_z-of_z at c.unsigned_abs-3.ensures.value) c.gcd.ensures c.gcd-divisor.ensures in
-    let one : c.gcd-divisor.result ≡ 1 = sym whole ∙ gcd_all_one (c.args.x ∷ c.args.y ∷ c.args.w ∷ []) lowest.lowest in
-    let x-is : c.quotient.result ≡ c.args.x = quotient_by_one c.gcd-divisor.result c.quotient.result c.args.x one (simp to_z-of_z at c.quotient.ensures) in
-    let y-is : c.quotient-2.result ≡ c.args.y = quotient_by_one c.gcd-divisor.result c.quotient-2.result c.args.y one (simp to_z-of_z at c.quotient-2.ensures) in
-    let w-is : c.quotient-3.result ≡ c.args.w = quotient_by_one c.gcd-divisor.result c.quotient-3.result c.args.w one (simp to_z-of_z at c.quotient-3.ensures) in
-    let fits_x : FitsSigned w128 c.quotient.result = search rules in
-    let fits_y : FitsSigned w128 c.quotient-2.result = search rules in
-    let fits_w : FitsSigned w128 c.quotient-3.result = search rules in
-    let same : ◌≡◌ {A = PlaneRatio} (record { x = c.quotient.result; y = c.quotient-2.result; w = c.quotient-3.result }) (record { x = c.args.x; y = c.args.y; w = c.args.w }) = λ i. record { x = x-is i; y = y-is i; w = w-is i } in
-    simp to_z-of_z same
+returns-clause-kept c lowest = (place c).kept lowest

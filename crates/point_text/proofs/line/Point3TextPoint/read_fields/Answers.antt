@@ -1,7 +1,7 @@
-use Rattle.std.proofs.Common.{ap, map, ◌∙◌, SFits, w64, rules}
+use Rattle.std.proofs.Common.{ap, map, subst, [], ◌∷◌, Some, SFits, w64, rules}
 use Rattle.std.proofs.lemmas.Int.{to_z-of_z}
-use Rattle.bounds_model.specs.PointText.{number, fields_of}
-use Rattle.point_text.specs.Lines.{numbers_of, uncommented}
+use Rattle.bounds_model.specs.PointText.{number, fields_of, space_meaning}
+use Rattle.point_text.specs.Lines.{Means, numbers_of, uncommented}
 use Rattle.point_text.proofs.Clamping.{three_numbers}
 use Rattle.point_text.proofs.LeadingFields.{space_more}
 use Rattle.point_text.proofs.line.Point3TextPoint.read_fields.Goals as goal
@@ -22,7 +22,9 @@ returns c =
     let fits_x : SFits w64 c.in-Some.x = search rules in
     let fits_y : SFits w64 c.in-Some-next_number.y = search rules in
     let fits_z : SFits w64 c.in-Some-next_number-2.z = search rules in
-    simp to_z-of_z at c.space_line.ensures
-    ∙ three_numbers c.in-Some.x c.in-Some-next_number.y c.in-Some-next_number-2.z x.0 y.0 z.0 (numbers_of (uncommented c.args.line.now)) (numbers_of (uncommented c.in-Some.rest.now))
+    let said : Means c.space_line.result (space_meaning (Some c.in-Some.x ∷ Some c.in-Some-next_number.y ∷ Some c.in-Some-next_number-2.z ∷ [])) = simp to_z-of_z at c.space_line.ensures in
+    subst (Means c.space_line.result)
+    (three_numbers c.in-Some.x c.in-Some-next_number.y c.in-Some-next_number-2.z x.0 y.0 z.0 (numbers_of (uncommented c.args.line.now)) (numbers_of (uncommented c.in-Some.rest.now))
     (numbers_of (uncommented c.in-Some-next_number.rest.now)) (numbers_of (uncommented c.in-Some-next_number-2.rest.now)) x.1 x.2 y.1 y.2 z.1 z.2
-    (ap (map number) (c.has_field.ensures.no c.if-has_field.false))
+    (ap (map number) (c.has_field.ensures.no c.if-has_field.false)))
+    said

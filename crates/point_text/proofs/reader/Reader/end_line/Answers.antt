@@ -8,7 +8,7 @@ use Rattle.point_text.proofs.Splits.{split_joined_all, split_parted}
 use Rattle.point_text.proofs.reader.Reader.end_line.Goals as goal
 
 pub returns-then-not-self-clause-stands : goal.returns-then-not-self-clause-stands
-returns-then-not-self-clause-stands c ask bytes is =
+returns-then-not-self-clause-stands c shape bytes is =
     let part = c.args.part.now in
     let none : c.args.self.now.begun ≡ false = grind (arith, common_steps) in
     let empty = is.begun none in
@@ -21,13 +21,13 @@ returns-then-not-self-clause-stands c ask bytes is =
       whole = is.whole ++ part ∷ [];
       last = [];
       lines = split_parted is_line_feed (bytes ++ part) 10 is.whole part joined refl;
-      judged = rw (map-append line_fields is.whole (part ∷ [])) (c.take_line.ensures.judged ask (map line_fields is.whole) is.judged);
+      judged = rw (map-append line_fields is.whole (part ∷ [])) (c.take_line.ensures.judged shape (map line_fields is.whole) is.judged);
       in_hand = rw empty at is.in_hand;
       begun = λ same. refl;
     }
 
 pub returns-clause-stands : goal.returns-clause-stands
-returns-clause-stands c ask bytes is =
+returns-clause-stands c shape bytes is =
     let part = c.args.part.now in
     let line = is.last ++ part in
     let size = length-append bytes part in
@@ -39,7 +39,7 @@ returns-clause-stands c ask bytes is =
       whole = is.whole ++ line ∷ [];
       last = [];
       lines = split_parted is_line_feed (bytes ++ part) 10 is.whole line joined refl;
-      judged = rw (map-append line_fields is.whole (line ∷ [])) (c.take.ensures.judged ask (map line_fields is.whole) (line_fields line) is.judged fields);
+      judged = rw (map-append line_fields is.whole (line ∷ [])) (c.take.ensures.judged shape (map line_fields is.whole) (line_fields line) is.judged fields);
       in_hand = c.new-self.ensures;
       begun = λ none. refl;
     }

@@ -26,6 +26,6 @@ pub go_on-requires-clause-within : goal.go_on-requires-clause-within
 go_on-requires-clause-within c = all_before (λ b. b == 10) c.lines.rest.now c.in_default.ensures.index
 
 pub returns-then-has_failed-clause-memory : goal.returns-then-has_failed-clause-memory
-returns-then-has_failed-clause-memory c ask bytes more is =
-    let read = reads_rest c.args.self.now c.lines.self c.go_on.new.self c.args.piece.now c.lines.rest.now c.lines.invariant c.go_on.ensures.stands ask bytes is in
-    failed_keeps c.go_on.new.self ask (bytes ++ c.args.piece.now) more (search rules) read
+returns-then-has_failed-clause-memory c shape bytes more is =
+    let read = reads_rest c.args.self.now c.lines.self c.go_on.new.self c.args.piece.now c.lines.rest.now c.lines.invariant c.go_on.ensures.stands shape bytes is in
+    failed_keeps c.go_on.new.self shape (bytes ++ c.args.piece.now) more (search rules) read

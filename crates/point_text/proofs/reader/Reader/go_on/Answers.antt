@@ -4,7 +4,7 @@ use Rattle.point_text.proofs.Splits.{split_joined_all}
 use Rattle.point_text.proofs.reader.Reader.go_on.Goals as goal
 
 pub returns-clause-stands : goal.returns-clause-stands
-returns-clause-stands c ask bytes is =
+returns-clause-stands c shape bytes is =
     let part = c.args.part.now in
     let more = length-append bytes part in
     record {

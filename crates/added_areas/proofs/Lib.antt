@@ -1,0 +1,2 @@
+pub mod AddedNumbers
+pub mod NumberedLists

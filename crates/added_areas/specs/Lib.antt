@@ -1,0 +1,2 @@
+pub mod PlaneVectors
+pub mod AddedRows

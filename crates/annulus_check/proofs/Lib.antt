@@ -1,4 +1,0 @@
-pub mod AnnulusPowers
-pub mod AnnulusNumbers
-pub mod AnnulusPairs
-pub mod AnnulusPassing

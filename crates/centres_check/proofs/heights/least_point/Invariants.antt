@@ -1,0 +1,13 @@
+use Rattle.bounds_model.specs.Numbers.{IsWithin}
+use Rattle.bounds_model.specs.Plane.{plane_limit}
+use Rattle.bounded_coords.specs.Clouds.{points_of}
+use Rattle.corner_squares.specs.LeastPoints.{point_of}
+use Rattle.corner_squares.proofs.LeastPlaces.{IsLeastOf}
+use Rattle.centres_check.proofs.heights.least_point.Given as goal
+
+abbrev pub invariant-points : goal.invariant-points
+invariant-points l = record {
+  least : IsLeastOf (points_of l.cloud) l.i (point_of l.least);
+  x : IsWithin plane_limit l.least.x;
+  y : IsWithin plane_limit l.least.y;
+}

@@ -1,0 +1,11 @@
+pub mod Keys
+pub mod Places
+pub mod Spans
+pub mod Windows
+pub mod Following
+pub mod HeightLists
+pub mod Halving
+pub mod LeafLists
+pub mod KeptLeaves
+pub mod Passing
+pub mod Starting

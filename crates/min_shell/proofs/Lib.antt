@@ -1,0 +1,16 @@
+pub mod Sides
+pub mod GeneralPosition
+pub mod Exchange
+pub mod Measure
+pub mod SameRecords
+pub mod MachineNumbers
+pub mod OneMore
+pub mod Starting
+pub mod WeightedLists
+pub mod Ending
+pub mod ExchangedTetrahedra
+pub mod LowestCentres
+pub mod Passing
+pub mod LowestPairs
+pub mod KeptAxes
+pub mod KeptDirections

@@ -1,0 +1,10 @@
+pub mod Vectors
+pub mod LinearForms
+pub mod Targets
+pub mod Extremes
+pub mod Vertices
+pub mod Bases
+pub mod Tetrahedra
+pub mod OpenCoordinates
+pub mod Witnesses
+pub mod Laws

@@ -1,0 +1,2 @@
+pub mod CommonFactors
+pub mod LowestSums

@@ -1,8 +1,0 @@
-use Rattle.std.proofs.Common.{ℕ, ◌<◌, pos, ◌≤ℤ◌}
-use Rattle.std.specs.Prelude.{slice_index_or}
-use Rattle.bounds_model.specs.Plane.{PlanePoint, turn}
-use Rattle.bounded_coords.specs.Clouds.{points_of}
-use Rattle.polygon_check.proofs.hulls.are_left.Given as goal
-
-abbrev pub invariant-loop-i : goal.invariant-loop-i
-invariant-loop-i l = (k : ℕ) (d : PlanePoint) → k < l.i → pos 0 ≤ℤ turn l.a l.b (slice_index_or (points_of l.cloud) k d)

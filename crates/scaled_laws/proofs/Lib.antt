@@ -1,0 +1,9 @@
+pub mod Scaling
+pub mod GrownNumbers
+pub mod LowestForms
+pub mod GrownObjects
+pub mod GrownCovers
+pub mod ClaimSizes
+pub mod ReportLaw
+pub mod SizeUnits
+pub mod RangesLaw

@@ -1,7 +1,0 @@
-use Rattle.std.proofs.Common.{append_assoc, rules}
-use Rattle.bounds_model.specs.AnswerText.Written.{values_words}
-use Rattle.witness_format.proofs.PrintedWords.{titled_line}
-use Rattle.witness_format.proofs.line_printing.push_titled.Goals as goal
-
-pub returns : goal.returns
-returns g c = rw (titled_line c.args.word.now (values_words g.T.Fields.FieldList.fields (g.T.Fields.FieldList.values (g.T.Line.parts c.args.value.now)))) (search (rules, append_assoc))
