@@ -6,10 +6,10 @@ use Rattle.bounds_tool.proofs.command.best_report.Goals as goal
 
 pub returns-clause-best : goal.returns-clause-best
 returns-clause-best g c =
-    let passes : PassesAt (asked c.args.ask.now) c.args.points.now (report_of record {scale = c.scale.result; answer = c.in_ok-answer.answer}) = search rules in
-    c.passing_reports_are_best.ensures (asked c.args.ask.now) c.args.points.now (report_of record {scale = c.scale.result; answer = c.in_ok-answer.answer}) passes
+    let passes : PassesAt (asked c.args.ask.now) c.args.points.now (report_of record { scale = c.scale.result; answer = c.in_ok-answer.answer }) = search rules in
+    c.passing_reports_are_best.ensures (asked c.args.ask.now) c.args.points.now (report_of record { scale = c.scale.result; answer = c.in_ok-answer.answer }) passes
 
 pub returns-clause-ranges : goal.returns-clause-ranges
 returns-clause-ranges g c =
-    let passes : PassesAt (asked c.args.ask.now) c.args.points.now (report_of record {scale = c.scale.result; answer = c.in_ok-answer.answer}) = search rules in
-    c.passing_reports_keep_ranges.ensures (asked c.args.ask.now) c.args.points.now (report_of record {scale = c.scale.result; answer = c.in_ok-answer.answer}) passes
+    let passes : PassesAt (asked c.args.ask.now) c.args.points.now (report_of record { scale = c.scale.result; answer = c.in_ok-answer.answer }) = search rules in
+    c.passing_reports_keep_ranges.ensures (asked c.args.ask.now) c.args.points.now (report_of record { scale = c.scale.result; answer = c.in_ok-answer.answer }) passes
