@@ -52,10 +52,12 @@ fn reads_end_where_the_bytes_end(rt: HostRuntime) -> Result<(), Fail> {
     files.add("a", b"12345")?;
     files.open("a")?;
     let mut buf = [b'-'; 3];
-    for (count, holds) in [(3, b"123"), (2, b"453"), (0, b"453")] {
-        assert_eq!(rt; files.read(&mut buf)?, count);
-        assert_eq!(rt; buf.as_slice(), holds.as_slice());
-    }
+    assert_eq!(rt; files.read(&mut buf)?, 3);
+    assert_eq!(rt; buf.as_slice(), b"123".as_slice());
+    assert_eq!(rt; files.read(&mut buf)?, 2);
+    assert_eq!(rt; buf.as_slice(), b"453".as_slice());
+    assert_eq!(rt; files.read(&mut buf)?, 0);
+    assert_eq!(rt; buf.as_slice(), b"453".as_slice());
     Ok(())
 }
 

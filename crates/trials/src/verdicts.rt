@@ -170,22 +170,16 @@ fn potentials_past_the_rows(rt: HostRuntime) -> Result<(), Fail> {
     Ok(())
 }
 
-/// Whether the answer passes. What follows of a yes is no test's subject, so no clause says it.
-fn passes(alloc: Global, ask: &Ask, sets: Sets<'_>, answer: &Answer) -> Result<bool, OutOfMemory>
-    requires { IsValid (asked ask.now) }
+/// Whether the circle of the origin alone passes. What follows of a yes is no test's subject, so no clause says it.
+fn is_circle_taken(alloc: Global, ask: Ask, sets: Sets<'_>) -> Result<bool, OutOfMemory>
+    requires { IsValid (asked ask) }
 {
-    check(alloc, ask, sets, answer)
+    check(alloc, &ask, sets, &Answer::Circle(circle(1)))
 }
 
-#[test]
-fn kinds_and_sets(rt: HostRuntime) -> Result<(), Fail> {
-    let plane = [flat(&rt, 0, 0)];
-    let space = [solid(&rt, 0, 0, 0)];
-    let flat = Cloud2::from_slice(&plane).expect(&rt, "a point");
-    let solid_one = Cloud3::from_slice(&space).expect(&rt, "a point");
-    let frame = Frame::new(0, 0, 4, 4).expect(&rt, "a frame");
-    let circle = Answer::Circle(circle(1));
-    let rectangle = Answer::Empty(EmptyAnswer {
+/// The rectangle of the whole frame from (0, 0) to (4, 4).
+fn whole_frame() -> EmptyAnswer {
+    EmptyAnswer {
         size: Frac::new(16, 1),
         l: 0,
         b: 0,
@@ -195,16 +189,41 @@ fn kinds_and_sets(rt: HostRuntime) -> Result<(), Fail> {
         bottom: Blocker::Side,
         right: Blocker::Side,
         top: Blocker::Side,
-    });
+    }
+}
+
+/// Whether the rectangle of the whole frame passes.
+fn is_frame_taken(alloc: Global, ask: Ask, sets: Sets<'_>) -> Result<bool, OutOfMemory>
+    requires { IsValid (asked ask) }
+{
+    check(alloc, &ask, sets, &Answer::Empty(whole_frame()))
+}
+
+#[test]
+fn a_circle_answers_its_kind_and_sets_alone(rt: HostRuntime) -> Result<(), Fail> {
     let alloc = rt.alloc();
-    let empty = Ask::Empty(frame);
-    assert!(rt; passes(alloc, &Ask::Circle, Sets::Plane(flat), &circle)?);
-    assert!(rt; !passes(alloc, &Ask::Circle, Sets::Space(solid_one), &circle)?);
-    assert!(rt; !passes(alloc, &Ask::Circle, Sets::Bare, &circle)?);
-    assert!(rt; !passes(alloc, &Ask::Sphere, Sets::Space(solid_one), &circle)?);
-    assert!(rt; !passes(alloc, &Ask::Circle, Sets::Plane(flat), &rectangle)?);
-    assert!(rt; passes(alloc, &empty, Sets::Plane(flat), &rectangle)?);
-    assert!(rt; passes(alloc, &empty, Sets::Bare, &rectangle)?);
-    assert!(rt; !passes(alloc, &empty, Sets::Two(solid_one, solid_one), &rectangle)?);
+    let plane = [flat(&rt, 0, 0)];
+    let space = [solid(&rt, 0, 0, 0)];
+    let one = Cloud2::from_slice(&plane).expect(&rt, "a point");
+    let other = Cloud3::from_slice(&space).expect(&rt, "a point");
+    assert!(rt; is_circle_taken(alloc, Ask::Circle, Sets::Plane(one))?);
+    assert!(rt; !is_circle_taken(alloc, Ask::Circle, Sets::Space(other))?);
+    assert!(rt; !is_circle_taken(alloc, Ask::Circle, Sets::Bare)?);
+    assert!(rt; !is_circle_taken(alloc, Ask::Sphere, Sets::Space(other))?);
+    Ok(())
+}
+
+#[test]
+fn an_empty_rectangle_answers_its_kind_and_sets_alone(rt: HostRuntime) -> Result<(), Fail> {
+    let alloc = rt.alloc();
+    let plane = [flat(&rt, 0, 0)];
+    let space = [solid(&rt, 0, 0, 0)];
+    let one = Cloud2::from_slice(&plane).expect(&rt, "a point");
+    let other = Cloud3::from_slice(&space).expect(&rt, "a point");
+    let frame = Frame::new(0, 0, 4, 4).expect(&rt, "a frame");
+    assert!(rt; !is_frame_taken(alloc, Ask::Circle, Sets::Plane(one))?);
+    assert!(rt; is_frame_taken(alloc, Ask::Empty(frame), Sets::Plane(one))?);
+    assert!(rt; is_frame_taken(alloc, Ask::Empty(frame), Sets::Bare)?);
+    assert!(rt; !is_frame_taken(alloc, Ask::Empty(frame), Sets::Two(other, other))?);
     Ok(())
 }
