@@ -1,5 +1,5 @@
-// Counts the calls that take memory, and fails the one that FAIL_ALLOC numbers, from 1. It stands for the part of the same purpose
-// that `rt try --fail-alloc N` links in, which has its number as a constant, so that one build serves for each number.
+// Counts the calls that take memory, and fails the one that FAIL_ALLOC numbers, from 1. It is linked in the place of those calls
+// (docs/TESTING.md, "Memory"). `rt try --fail-alloc N` has the number as a constant, and so builds the program for each number anew.
 #include <stdlib.h>
 
 typedef struct {

@@ -36,9 +36,17 @@ QUESTIONS = [
     ('centres', ['--p', '1'], shapes.PLANE),
     ('centres', ['--p', '2'], shapes.PLANE),
     ('centres', ['--p', '3'], shapes.PLANE),
+    ('centres', ['--p', '4'], shapes.PLANE),
     ('kgon', ['--k', '4'], shapes.FEW_CORNERS),
     ('kgon', ['--k', '12'], shapes.FEW_CORNERS),
+    ('furthest', [], shapes.PLANE),
+    ('shell', [], shapes.SPACE),
 ]
+
+
+def most_points(options):
+    """How many points a set of this question may have."""
+    return 1000 if options == ['--p', '4'] else 10000
 
 
 def once(command):
@@ -89,6 +97,7 @@ class Figures:
 
 def measure(program, question, sizes, runs, folder):
     kind, options, makers = question
+    sizes = [size for size in sizes if size <= most_points(options)]
     words = ' '.join([kind] + options)
     if subprocess.run([program, kind], capture_output=True).stderr == b'bounds: usage: unknown command\n':
         print(f'The program does not know `{kind}`.\n')

@@ -3,9 +3,9 @@
     python3 bench/refused_allocations.py PROGRAM
     python3 bench/refused_allocations.py --rows ROWS
 
-PROGRAM is `bounds`, and ROWS the program `rows`, each as `rt try --fail-alloc N` builds it, with `fail_alloc.c` linked in the place of
-the part that counts (docs/TESTING.md, "Memory"). PROGRAM answers one question of each kind over real files, and
-judges each answer. ROWS runs the questions over files and sinks that never fail.
+PROGRAM is `bounds`, and ROWS the program `rows`, each linked with `fail_alloc.c` in the place of the call that gives memory
+(docs/TESTING.md, "Memory"). PROGRAM answers one question of each kind over real files, and judges each answer. ROWS runs the
+questions over files and sinks that never fail.
 
 Each run has to end with status 6, no output and the line that says so, or as it ends with all memory. With ROWS it may also be the
 program `rows` that wants memory for its own table. Any other end is printed, and counts.
@@ -87,7 +87,8 @@ def checking(words):
 def table(words, points):
     """A table of one row, over files and sinks that never fail."""
     head = 'answer 2 ' if points.startswith('scale ') else 'answer 1 '
-    lines = ['row refused', 'words ' + words, 'over sure', 'file a ' + points.replace('\n', '\\n'), 'begins ' + head + words.split()[0] + '\\n']
+    kind = 'centres4' if '--p 4' in words else words.split()[0]
+    lines = ['row refused', 'words ' + words, 'over sure', 'file a ' + points.replace('\n', '\\n'), 'begins ' + head + kind + '\\n']
     return '\n'.join(lines) + '\n'
 
 

@@ -3,18 +3,19 @@
     python3 bench/refused_memory.py
     python3 bench/refused_memory.py PROGRAM
 
-A limit on the address space makes the system refuse memory, at a place that depends on the limit. Each run has to end in one of these
-ways, and under a higher limit in none that stands further up here:
+A limit on the address space makes the system refuse memory, at a place that depends on the limit. The addresses are the same at each
+run, so that the place is. Each run has to end in one of these ways, and under a higher limit in none that stands further up here:
 
 - the system can't load the program;
-- the system refuses to give it its words, and it ends with status 7 before the run begins, with no line;
-- it ends with status 6, no output and the line that says so;
+- it ends with status 6, no output and the line that says so, also where its words are refused;
 - it ends with status 0 and the whole output.
 
-Any other end is printed, and counts.
+Where the limit lets the stack not grow, the system ends the program by SIGSEGV, with no output: no contract speaks of the stack. Such
+ends are counted apart, as `no stack`, under any limit. Any other end is printed, and counts.
 """
 
 import collections
+import ctypes
 import os
 import resource
 import signal
@@ -23,19 +24,23 @@ import sys
 import tempfile
 
 import shapes
-from measure import PROGRAM, QUESTIONS
+from measure import PROGRAM, QUESTIONS, most_points
 
+LIBC = ctypes.CDLL(None)
 OUT_OF_MEMORY = b'bounds: out of memory\n'
 # The status that the loader of shared libraries ends with.
 NOT_LOADED = 127
 # The ways to end, in the order of the limits under which they come.
-WAYS = ['not loaded', 'not begun', 'out of memory', 'done']
+WAYS = ['not loaded', 'out of memory', 'done']
+# Linux's flag for a process whose addresses are not drawn by lot.
+ADDR_NO_RANDOMIZE = 0x0040000
 
 
 def run(command, limit):
     """The status, output and error output of a run whose address space has so many bytes."""
 
     def refuse():
+        LIBC.personality(ADDR_NO_RANDOMIZE)
         resource.setrlimit(resource.RLIMIT_AS, (limit, limit))
 
     try:
@@ -52,11 +57,10 @@ def ending(result, whole):
         return 'done'
     if (status, out, err) == (6, b'', OUT_OF_MEMORY):
         return 'out of memory'
-    if (status, out, err) == (7, b'', b''):
-        return 'not begun'
-    # The system ends a program that it can't load by one of two signals.
-    if out == b'' and (status == NOT_LOADED or err == b'' and -status in (signal.SIGKILL, signal.SIGSEGV)):
+    if out == b'' and (status == NOT_LOADED or err == b'' and -status == signal.SIGKILL):
         return 'not loaded'
+    if (out, err) == (b'', b'') and -status == signal.SIGSEGV:
+        return 'no stack'
     return f'wrong: status {status}, {len(out)} bytes, {err!r}'
 
 
@@ -70,6 +74,7 @@ def endings(command, whole):
             end = f'wrong: {end} under a higher limit than {WAYS[furthest]}'
         elif end in WAYS:
             furthest = WAYS.index(end)
+        # An end of another name is wrong by its own words, or `no stack`.
         seen[end] += 1
     return seen
 
@@ -80,7 +85,7 @@ def main():
     with tempfile.TemporaryDirectory() as folder:
         points, answer = os.path.join(folder, 'points'), os.path.join(folder, 'answer')
         for kind, options, makers in QUESTIONS:
-            made = next(iter(makers.values()))(10000)
+            made = next(iter(makers.values()))(most_points(options))
             with open(points, 'w') as file:
                 file.write(shapes.text(*made) if isinstance(made, tuple) else shapes.text(made))
             solving = [program, kind, points] + options
