@@ -1,5 +1,5 @@
 -- The points strictly inside a frame as obstacles, listed and sorted.
-use Rattle.std.proofs.Common.{◌≡◌, sym, ap, ◌∙◌, subst, ℕ, ◌+◌, List, [], ◌∷◌, ◌++◌, take, All, Any, Some, arith}
+use Rattle.std.proofs.Common.{◌≡◌, sym, ap, ◌∙◌, subst, ℕ, ◌+◌, ◌<◌, List, [], ◌∷◌, ◌++◌, length, take, All, Any, Some, arith}
 use Rattle.std.specs.Prelude.{slice_get}
 use Rattle.std.specs.List.Sorted.{IsPermutation}
 use Rattle.std.proofs.lemmas.List.Elements.{All-more, All-push, All-weaker, All-nil, Contains-append_left}
@@ -70,3 +70,9 @@ all_in_extent frame points extent obstacles of each = All-weaker (IsObstacleOf f
 -- a point that is strictly inside the frame is one of the list
 pub has_point_inside : (frame : Box) (points : List PlanePoint) (i : ℕ) (p : PlanePoint) → slice_get points i ≡ Some p → IsStrictlyInside frame p → HasPointInside frame points
 has_point_inside frame points i p is inside = (i, slice_get_within points i p is, subst (IsStrictlyInside frame) (sym (get_or_from_slice_get points i p origin is)) inside)
+
+-- where there is an obstacle, a point is strictly inside the frame
+pub point_of_obstacle : (frame : Box) (points : List PlanePoint) (obstacles : List Obstacle) → All (IsObstacleOf frame points) obstacles → 0 < length obstacles → HasPointInside frame points
+point_of_obstacle frame points obstacles each some =
+    let first = each 0 (record { x = 0; y = 0; number = 0 }) some in
+    (_, first.below, first.inside)

@@ -1,5 +1,5 @@
 -- A restricted rectangle that no gap exceeds passes the checker.
-use Rattle.std.proofs.Common.{◌≡◌, ◌⊎◌, inl, inr, refl, sym, ap, ◌∙◌, subst, ℕ, ◌-◌, ◌^◌, ◌≤◌, leb→le, eqb, IsTrue, eq-eqb, eqb-true, le_refl, le_antisymm, ℤ, pos, ◌+ℤ◌, ◌*ℤ◌, ◌↔◌, List, length, All, Option, Some, None, arith}
+use Rattle.std.proofs.Common.{◌≡◌, ◌⊎◌, inl, inr, refl, sym, ap, ◌∙◌, subst, ℕ, ◌-◌, ◌^◌, ◌≤◌, eqb, IsTrue, eq-eqb, eqb-true, le_refl, le_antisymm, ℤ, pos, ◌+ℤ◌, ◌*ℤ◌, ◌↔◌, List, length, All, Option, Some, None, arith}
 use Rattle.std.proofs.lemmas.Int.{ints}
 use Rattle.std.proofs.lemmas.Nat.{mul-le}
 use Rattle.std.proofs.lemmas.List.Elements.{All-contains}

@@ -4,7 +4,7 @@ use Rattle.std.proofs.Math.Nat.{lt_of_mul-lt-mul_left}
 use Rattle.std.specs.List.{AllWithin}
 use Rattle.std.specs.List.Sorted.{IsNonDecreasingBy}
 use Rattle.std.proofs.lemmas.Nat.{mul-le}
-use Rattle.std.proofs.lemmas.List.{get_or_default}
+use Rattle.std.proofs.lemmas.List.{get_or_default, get_or-map}
 use Rattle.std.proofs.lemmas.List.Elements.{All-from_get_or, AllWithin-more, at_read, All-contains}
 use Rattle.empty_rectangle.specs.declared.obstacles.Obstacle.{Obstacle}
 use Rattle.empty_rectangle.specs.declared.obstacles.Extent.{Extent}
@@ -12,7 +12,7 @@ use Rattle.empty_rectangle.specs.declared.rectangles.RestingSide.{RestingSide}
 use Rattle.empty_rectangle.specs.declared.rectangles.Rectangle.{Rectangle}
 use Rattle.empty_rectangle.specs.declared.rectangles.Window.{Window}
 use Rattle.empty_rectangle.specs.declared.sweep.Seed.{Seed}
-use Rattle.empty_rectangle.specs.Rectangles.{IsInExtent, Enters, NoneEnters, IsBetween, IsFree, side, vertical, level, RestsVertical, RestsLevel, IsRestricted, rectangle_in, Larger, Narrows, IsSeed, IsThrough, Covers}
+use Rattle.empty_rectangle.specs.Rectangles.{columns, IsStrictlyBetween, IsInExtent, Enters, NoneEnters, IsBetween, IsFree, side, vertical, level, RestsVertical, RestsLevel, IsRestricted, rectangle_in, Larger, Narrows, IsSeed, IsThrough, Covers}
 
 -- a number is below another, or not
 pub by_order : {P : Type 0} (a b : ℕ) → (a < b → P) → (b ≤ a → P) → P
@@ -73,6 +73,12 @@ Scanned-on obstacles extent seed start i k window best s none = record {
   restricted = s.restricted;
   grown = s.grown;
 }
+
+-- obstacles whose x are not between the sides
+pub NoneEnters-beside : (obstacles : List Obstacle) (xs : List ℕ) (left bottom right i k : ℕ) → xs ≡ columns obstacles → k ≤ length obstacles → AllWithin (λ x. ¬ IsStrictlyBetween left right x) xs i k → NoneEnters obstacles left bottom right i k
+NoneEnters-beside obstacles xs left bottom right i k are within none = λ j d low below enters.
+    let at : get_or xs j 0 ≡ (get_or obstacles j d).x = ap (λ l. get_or l j 0) are ∙ get_or-map (λ s. s.x) obstacles j d 0 (omega (arith, below, within)) in
+    none j 0 low below (subst (IsStrictlyBetween left right) (sym at) (record { after_left = enters.after_left; before_right = enters.before_right }))
 
 -- ---- a rectangle in the window
 

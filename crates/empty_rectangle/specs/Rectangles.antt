@@ -1,6 +1,6 @@
 -- Obstacles in a frame, rectangles between them, and the rectangles that grow from a seed. All numbers are distances from the frame's
 -- left side and from its bottom.
-use Rattle.std.specs.Prelude.{◌≡◌, ◌⊎◌, ℕ, ◌+◌, ◌-◌, ◌*◌, ◌≤◌, ◌<◌, List, length, All, Contains}
+use Rattle.std.specs.Prelude.{◌≡◌, ◌⊎◌, ℕ, ◌+◌, ◌-◌, ◌*◌, ◌≤◌, ◌<◌, List, map, length, All, Contains}
 use Rattle.std.specs.List.{AllWithin, HoldsAt}
 use Rattle.answers.specs.declared.empty_rectangles.Blocker.TheVariants.{Side, Point}
 use Rattle.empty_rectangle.specs.declared.obstacles.Obstacle.{Obstacle}
@@ -24,6 +24,15 @@ pub record IsExtent (extent : Extent) : Type 0 where
   pub width : extent.width ≤ 400000
   pub height : extent.height ≤ 400000
 
+-- the x is strictly between those of two vertical sides
+pub record IsStrictlyBetween (left right x : ℕ) : Type 0 where
+  pub after_left : left < x
+  pub before_right : x < right
+
+-- the x of the obstacles, in their order
+abbrev pub columns : List Obstacle → List ℕ
+columns obstacles = map (λ s. s.x) obstacles
+
 -- the obstacle is strictly between two vertical sides, and above a bottom
 pub record Enters (left bottom right : ℕ) (s : Obstacle) : Type 0 where
   pub after_left : left < s.x
@@ -38,6 +47,13 @@ NoneEnters obstacles left bottom right from to = AllWithin (λ s. ¬ Enters left
 pub record IsNextEntering (obstacles : List Obstacle) (left bottom right from k : ℕ) : Type 0 where
   pub after : from ≤ k
   pub below : k < length obstacles
+  pub earlier : NoneEnters obstacles left bottom right from k
+  pub enters : HoldsAt (Enters left bottom right) obstacles k
+
+-- the obstacle at k is the first one from an index on, and before another, that is strictly between the sides and above the bottom
+pub record IsFirstEntering (obstacles : List Obstacle) (left bottom right from to k : ℕ) : Type 0 where
+  pub after : from ≤ k
+  pub before : k < to
   pub earlier : NoneEnters obstacles left bottom right from k
   pub enters : HoldsAt (Enters left bottom right) obstacles k
 

@@ -5,7 +5,7 @@ ghost use Rattle.answers.specs.Answers.{empty_of};
 ghost use Rattle.empty_rectangle.specs.Points.{points_in, HasPointInside};
 ghost use Rattle.empty_rectangle.specs.Answers.{answer_of};
 
-use crate::obstacles::{Extent, obstacles_in};
+use crate::obstacles::{Extent, columns_of, obstacles_in};
 use crate::rectangles::Rectangle;
 use crate::search::search;
 use answers::EmptyAnswer;
@@ -26,8 +26,9 @@ pub fn largest(
     ensures memory { OnErr result (HasPointInside frame (points_in cloud.entry)) }
 {
     let obstacles = obstacles_in(alloc, cloud, frame)?;
+    let xs = columns_of(alloc, &obstacles)?;
     let none = Rectangle::of_area(0);
-    let best = search(&obstacles, Extent::inside(frame), none, u64::MAX);
+    let best = search(&obstacles, &xs, Extent::inside(frame), none, u64::MAX);
     Ok(answer(frame, best))
 }
 
@@ -45,8 +46,9 @@ pub fn is_none_larger(
     ensures memory { OnErr result (HasPointInside frame (points_in cloud.entry)) }
 {
     let obstacles = obstacles_in(alloc, cloud, frame)?;
+    let xs = columns_of(alloc, &obstacles)?;
     let none = Rectangle::of_area(area);
-    let best = search(&obstacles, Extent::inside(frame), none, area);
+    let best = search(&obstacles, &xs, Extent::inside(frame), none, area);
     Ok(best.area == area)
 }
 

@@ -1,8 +1,8 @@
 //! The points strictly inside the frame, in order of y.
-ghost use Rattle.std.specs.Prelude.{◌≡◌, ◌↔◌, [], IsSome, IfSome, IfOk, OnOk, OnErr};
+ghost use Rattle.std.specs.Prelude.{◌≡◌, ◌↔◌, ◌<◌, [], length, IsSome, IfSome, IfOk, OnOk, OnErr};
 ghost use Rattle.bounds_model.specs.EmptyRectangle.{IsFrame, IsStrictlyInside};
 ghost use Rattle.bounded_coords.specs.Clouds.{points_of};
-ghost use Rattle.empty_rectangle.specs.Rectangles.{vertical, level, IsExtent};
+ghost use Rattle.empty_rectangle.specs.Rectangles.{vertical, level, columns, IsExtent};
 ghost use Rattle.empty_rectangle.specs.Points.{points_in, HasPointInside, IsExtentOf, IsObstacleAt, AreObstacles, ListsObstacles};
 
 use crate::rectangles::RestingSide;
@@ -116,4 +116,19 @@ pub(crate) fn obstacles_in(
     }
     obstacles.sort_unstable_by_key(|s| s.y);
     Ok(obstacles)
+}
+
+/// The x of the obstacles, in their order. Memory is wanted only where there is one.
+pub(crate) fn columns_of(alloc: Global, obstacles: &[Obstacle]) -> Result<Vec<u32>, OutOfMemory>
+    ensures columns { IfOk result (λ xs. xs.items ≡ columns obstacles.now) }
+    ensures wants { OnErr result (0 < length obstacles.now) }
+{
+    let mut xs = Vec::new(alloc);
+    'columns: for i in 0..obstacles.len() {
+        match xs.push(obstacles[i].x) {
+            Ok(()) => {}
+            Err(_) => return Err(OutOfMemory),
+        }
+    }
+    Ok(xs)
 }

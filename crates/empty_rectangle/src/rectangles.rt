@@ -1,6 +1,6 @@
 //! Rectangles between obstacles, each side of which rests on an obstacle or on the frame: Orlowski's restricted rectangles.
 ghost use Rattle.std.specs.Prelude.{◌≡◌, ◌<◌, ◌≤◌, ◌↔◌, IsTrue};
-ghost use Rattle.empty_rectangle.specs.Rectangles.{side, Enters, rectangle_in, Larger, Narrows};
+ghost use Rattle.empty_rectangle.specs.Rectangles.{side, IsStrictlyBetween, Enters, rectangle_in, Larger, Narrows};
 
 use crate::obstacles::Obstacle;
 use answers::Blocker;
@@ -71,14 +71,22 @@ pub(crate) struct Window {
 }
 
 impl Window {
-    /// Whether the obstacle is strictly between the sides, and above `bottom`. One comparison tells the first, since a processor
-    /// cannot foretell on which side of a window an obstacle stands.
+    /// Whether an x is strictly between the sides. One comparison tells it, since a processor cannot foretell on which side of a window
+    /// an obstacle stands.
+    pub(crate) fn is_around(self, x: u32) -> bool
+        requires { self.left.at < self.right.at }
+        ensures { IsTrue result ↔ IsStrictlyBetween self.left.at self.right.at x }
+    {
+        let width = self.right.at - self.left.at;
+        x.wrapping_sub(self.left.at + 1) < width - 1
+    }
+
+    /// Whether the obstacle is strictly between the sides, and above `bottom`.
     pub(crate) fn is_entered(self, bottom: u32, obstacle: Obstacle) -> bool
         requires { self.left.at < self.right.at }
         ensures { IsTrue result ↔ Enters self.left.at bottom self.right.at obstacle }
     {
-        let width = self.right.at - self.left.at;
-        obstacle.x.wrapping_sub(self.left.at + 1) < width - 1 && bottom < obstacle.y
+        self.is_around(obstacle.x) && bottom < obstacle.y
     }
 
     /// The rectangle between the sides from `bottom` to `top`.

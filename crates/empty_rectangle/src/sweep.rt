@@ -1,7 +1,8 @@
 //! The rectangles that grow upwards from one seed.
-ghost use Rattle.std.specs.Prelude.{◌≡◌, ◌⊎◌, ◌≤◌, ◌<◌, length, All, MatchOption};
+ghost use Rattle.std.specs.Prelude.{◌≡◌, ◌⊎◌, ◌+◌, ◌≤◌, ◌<◌, length, All, MatchOption, IsFalse};
+ghost use Rattle.std.specs.List.{AllWithin};
 ghost use Rattle.std.specs.List.Sorted.{IsNonDecreasingBy};
-ghost use Rattle.empty_rectangle.specs.Rectangles.{IsInExtent, IsExtent, NoneEnters, IsNextEntering, IsSeed, Covers, IsRestricted};
+ghost use Rattle.empty_rectangle.specs.Rectangles.{columns, IsStrictlyBetween, IsInExtent, IsExtent, NoneEnters, IsNextEntering, IsFirstEntering, IsSeed, Covers, IsRestricted};
 ghost use Rattle.empty_rectangle.specs.Seeds.{corner, above, beside};
 
 use crate::obstacles::{Extent, Obstacle};
@@ -60,14 +61,16 @@ impl Seed {
 
 /// The largest rectangle that grows from the seed, where it is larger than `best`, and else `best`. A window around the column
 /// begins as wide as the frame, and each obstacle in it, from the lowest up, ends one rectangle and narrows the window. The obstacles
-/// before `from` are not above the seed.
+/// before `from` are not above the seed; `xs` are the x of all, in their order.
 pub(crate) fn sweep_up(
     obstacles: &[Obstacle],
+    xs: &[u32],
     from: usize,
     extent: Extent,
     seed: Seed,
     best: Rectangle,
 ) -> Rectangle
+    requires columns { xs.now ≡ columns obstacles.now }
     requires sorted { IsNonDecreasingBy (λ s. s.y) obstacles.now }
     requires inside { All (IsInExtent extent) obstacles.now }
     requires extent { IsExtent extent }
@@ -87,7 +90,7 @@ pub(crate) fn sweep_up(
         return best;
     }
     let mut passed = from;
-    'rise: while let Some(k) = next_entering(obstacles, passed, window, seed.bottom.at) {
+    'rise: while let Some(k) = next_entering(obstacles, xs, passed, window, seed.bottom.at) {
         let obstacle = obstacles[k];
         let ended = window.rectangle(seed.bottom, obstacle.level());
         best = best.or(ended, seed.least);
@@ -104,15 +107,71 @@ pub(crate) fn sweep_up(
     best.or(window.rectangle(seed.bottom, ceiling), seed.least)
 }
 
+/// So many obstacles are compared with a window at once.
+const RUN: usize = 32;
+
 /// The index in the order of the first obstacle from `from` on that is in the window, above `bottom`. Nearly all steps of a search
-/// are made here, so that this loop holds nothing but what it compares.
-fn next_entering(obstacles: &[Obstacle], from: usize, window: Window, bottom: u32) -> Option<usize>
-    requires { window.left.at < window.right.at }
+/// are made here, and most obstacles are beside the window: so runs of them are passed over by their x alone. The next one is looked
+/// at by itself, since on a staircase it is the one.
+fn next_entering(
+    obstacles: &[Obstacle],
+    xs: &[u32],
+    from: usize,
+    window: Window,
+    bottom: u32,
+) -> Option<usize>
+    requires columns { xs.now ≡ columns obstacles.now }
+    requires start { from ≤ length obstacles.now }
+    requires wide { window.left.at < window.right.at }
     ensures { MatchOption result
         (NoneEnters obstacles.now window.left.at bottom window.right.at from (length obstacles.now))
         (IsNextEntering obstacles.now window.left.at bottom window.right.at from) }
 {
-    'seek: for k in from..obstacles.len() {
+    if from < obstacles.len() && window.is_entered(bottom, obstacles[from]) {
+        return Some(from);
+    }
+    let mut passed = from;
+    'runs: while obstacles.len() - passed >= RUN {
+        if is_run_met(xs, passed, window) {
+            if let Some(k) = first_entering(obstacles, passed, passed + RUN, window, bottom) {
+                return Some(k);
+            }
+        }
+        passed += RUN;
+    }
+    first_entering(obstacles, passed, obstacles.len(), window, bottom)
+}
+
+/// Whether an x of the run that begins at `from` is strictly between the sides of the window. It looks at all of them and turns
+/// nowhere, so that a compiler makes vector instructions of it.
+fn is_run_met(xs: &[u32], from: usize, window: Window) -> bool
+    requires within { from + RUN ≤ length xs.now }
+    requires wide { window.left.at < window.right.at }
+    ensures { IsFalse result → AllWithin (λ x. ¬ IsStrictlyBetween window.left.at window.right.at x) xs.now from (from + RUN) }
+{
+    let mut is_met = false;
+    'run: for k in from..from + RUN {
+        is_met |= window.is_around(xs[k]);
+    }
+    is_met
+}
+
+/// The index of the first obstacle from `from` on, and before `to`, that is in the window, above `bottom`.
+fn first_entering(
+    obstacles: &[Obstacle],
+    from: usize,
+    to: usize,
+    window: Window,
+    bottom: u32,
+) -> Option<usize>
+    requires order { from ≤ to }
+    requires within { to ≤ length obstacles.now }
+    requires wide { window.left.at < window.right.at }
+    ensures { MatchOption result
+        (NoneEnters obstacles.now window.left.at bottom window.right.at from to)
+        (IsFirstEntering obstacles.now window.left.at bottom window.right.at from to) }
+{
+    'seek: for k in from..to {
         if window.is_entered(bottom, obstacles[k]) {
             return Some(k);
         }

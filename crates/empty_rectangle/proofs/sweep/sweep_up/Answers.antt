@@ -18,6 +18,7 @@ returns-then-whole-best-clause-covers c =
 
 pub rise-init : goal.rise-init
 rise-init c = record {
+  below = c.requires.seed.start;
   scanned = subst (λ right. Scanned c.args.obstacles.now c.args.extent c.args.seed c.args.best c.args.from (record { left = c.args.seed.left; right = right }) c.args.best) (sym c.side.ensures)
       (Scanned-start c.args.obstacles.now c.args.extent c.args.from c.args.seed c.args.best c.requires.seed);
 }
@@ -31,7 +32,7 @@ rise-preserved c =
     let offered = Offered-read obstacles c.args.extent c.args.from c.args.seed c.args.best k c.rise.window c.rise.best c.or-best.result c.rectangle-ended.result none c.requires.sorted c.requires.inside c.requires.seed scanned next.below (next.enters none) (c.rectangle-ended.ensures ∙ ap (rectangle_in c.rise.window c.args.seed.bottom) c.level.ensures) c.or-best.ensures in
     let rest = Scanned-beside obstacles c.args.extent c.args.seed c.args.best k c.rise.window c.beside-window.result c.rise.best c.or-best.result (get_or obstacles k none) scanned offered next.below
     (get_or_default obstacles k none (get_or obstacles k none) next.below) (next.enters none) c.if-obstacle-seed.false c.beside-window.ensures in
-    record { scanned = rest }
+    record { below = omega (arith, next.below); scanned = rest }
 
 pub returns-then-obstacle-seed-clause-covers : goal.returns-then-obstacle-seed-clause-covers
 returns-then-obstacle-seed-clause-covers c =
