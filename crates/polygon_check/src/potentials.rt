@@ -35,16 +35,32 @@ fn raise_from(corners: &[Point2], a: &KgonAnswer, first: u32) -> bool
 {
     let vectors = vectors_from(corners, first as usize);
     let rows = rows(a, first);
+    let mut areas = ArrayVec::new();
     'lasts: for last in first + 1..a.corners.len() {
-        if !raise_to(vectors.as_slice(), a, rows.as_slice(), first, last) {
+        if !raise_to(
+            vectors.as_slice(),
+            a,
+            rows.as_slice(),
+            first,
+            last,
+            &mut areas,
+        ) {
             return false;
         }
     }
     true
 }
 
-/// Whether the triangles with this first and this last corner do.
-fn raise_to(vectors: &[PlaneVector], a: &KgonAnswer, rows: &[i64], first: u32, last: u32) -> bool
+/// Whether the triangles with this first and this last corner do. Their areas are put in the place of those that stand in `areas`, whose
+/// room serves for all last corners.
+fn raise_to(
+    vectors: &[PlaneVector],
+    a: &KgonAnswer,
+    rows: &[i64],
+    first: u32,
+    last: u32,
+    areas: &mut ArrayVec<i64, MOST_CORNERS>,
+) -> bool
     requires vectors { length vectors.now ≡ length a.now.corners }
     requires short { All IsShort vectors.now }
     requires table { IsTable (polygon_of a.now) }
@@ -53,25 +69,29 @@ fn raise_to(vectors: &[PlaneVector], a: &KgonAnswer, rows: &[i64], first: u32, l
     requires below { last < length a.now.corners }
     ensures { IsTrue result ↔ RaisesTo (map vector_of vectors.now) (polygon_of a.now) first last }
 {
-    let areas = areas(vectors, first as usize, last as usize);
+    put_areas(areas, vectors, first as usize, last as usize);
     let width = (a.corners.len() - 1 - first) as usize;
     are_raised(areas.as_slice(), rows, a.layers as usize, width)
 }
 
-/// Twice the areas of the triangles with this first and this last corner, one for each corner between them.
-fn areas(vectors: &[PlaneVector], first: usize, last: usize) -> ArrayVec<i64, MOST_CORNERS>
+/// Puts twice the areas of the triangles with this first and this last corner, one for each corner between them, in the place of others.
+fn put_areas(
+    areas: &mut ArrayVec<i64, MOST_CORNERS>,
+    vectors: &[PlaneVector],
+    first: usize,
+    last: usize,
+)
     requires few { length vectors.now ≤ 128 }
     requires short { All IsShort vectors.now }
     requires rising { first < last }
     requires below { last < length vectors.now }
-    ensures { AreAreas (map vector_of vectors.now) first last result.items }
+    ensures { AreAreas (map vector_of vectors.now) first last areas.new.items }
 {
     let to = vectors[last];
-    let mut areas = ArrayVec::new();
+    areas.clear();
     'middles: for middle in first + 1..last {
         areas.push(area(vectors[middle], to));
     }
-    areas
 }
 
 /// Whether the potentials of the last corner are above those of each corner before it by at least the area, from each layer to the next.

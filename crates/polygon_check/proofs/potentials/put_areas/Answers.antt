@@ -5,7 +5,7 @@ use Rattle.added_areas.specs.PlaneVectors.{vector_of}
 use Rattle.added_areas.proofs.AddedNumbers.{read_vector}
 use Rattle.polygon_check.specs.PotentialRows.{Adds}
 use Rattle.polygon_check.proofs.RowLists.{adds-more}
-use Rattle.polygon_check.proofs.potentials.areas.Goals as goal
+use Rattle.polygon_check.proofs.potentials.put_areas.Goals as goal
 
 pub middles-preserved : goal.middles-preserved
 middles-preserved c =

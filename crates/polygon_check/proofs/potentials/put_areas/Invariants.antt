@@ -2,7 +2,7 @@ use Rattle.std.proofs.Common.{◌≡◌, ◌+◌, ◌^◌, [], length, map}
 use Rattle.bounds_model.specs.Plane.{point_at, cross}
 use Rattle.added_areas.specs.PlaneVectors.{vector_of}
 use Rattle.polygon_check.specs.PotentialRows.{Adds}
-use Rattle.polygon_check.proofs.potentials.areas.Given as goal
+use Rattle.polygon_check.proofs.potentials.put_areas.Given as goal
 
 abbrev pub invariant-middles : goal.invariant-middles
 invariant-middles l =
