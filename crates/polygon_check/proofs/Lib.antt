@@ -1,6 +1,6 @@
+pub mod Above
 pub mod Areas
 pub mod EarlierPotentials
-pub mod Greatest
 pub mod PassedOver
 pub mod PassingPolygons
 pub mod ReadPotentials
