@@ -36,7 +36,7 @@ QUESTIONS = [
     ('centres', ['--p', '1'], shapes.PLANE),
     ('centres', ['--p', '2'], shapes.PLANE),
     ('centres', ['--p', '3'], shapes.PLANE),
-    ('centres', ['--p', '4'], shapes.PLANE),
+    ('centres', ['--p', '4'], shapes.SQUARES),
     ('kgon', ['--k', '4'], shapes.FEW_CORNERS),
     ('kgon', ['--k', '12'], shapes.FEW_CORNERS),
     ('furthest', [], shapes.PLANE),

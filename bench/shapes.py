@@ -101,6 +101,43 @@ def grid(count):
     return [(step * (i % side) - PLANE_LIMIT, step * (i // side) - PLANE_LIMIT) for i in range(count)]
 
 
+def disc(count):
+    """Points drawn from a disc."""
+    rng, points = generator('disc', count), []
+    while len(points) < count:
+        x, y = rng.randint(-PLANE_LIMIT, PLANE_LIMIT), rng.randint(-PLANE_LIMIT, PLANE_LIMIT)
+        if x * x + y * y <= PLANE_LIMIT * PLANE_LIMIT:
+            points.append((x, y))
+    return points
+
+
+def boxes(count, places, reach):
+    """Points of so many small boxes."""
+    rng = generator(f'boxes {places}', count)
+    most = PLANE_LIMIT - reach
+    middles = [(rng.randint(-most, most), rng.randint(-most, most)) for _ in range(places)]
+    return [(x + rng.randint(-reach, reach), y + rng.randint(-reach, reach)) for x, y in (middles[i % places] for i in range(count))]
+
+
+def two_columns(count):
+    rng = generator('columns', count)
+    return [(rng.choice([-150000, 150000]), rng.randint(-PLANE_LIMIT, PLANE_LIMIT)) for _ in range(count)]
+
+
+def cross(count):
+    """Points of the two axes."""
+    rng = generator('cross', count)
+    ends = [rng.randint(-PLANE_LIMIT, PLANE_LIMIT) for _ in range(count)]
+    return [(end, 0) if i % 2 else (0, end) for i, end in enumerate(ends)]
+
+
+def frame(count):
+    """Points of the sides of a square."""
+    rng = generator('frame', count)
+    ends = [(rng.randint(-PLANE_LIMIT, PLANE_LIMIT), rng.choice([-PLANE_LIMIT, PLANE_LIMIT])) for _ in range(count)]
+    return [(along, side) if i % 2 else (side, along) for i, (along, side) in enumerate(ends)]
+
+
 def space_uniform(count):
     return uniform(count, 3, SPACE_LIMIT)
 
@@ -180,6 +217,23 @@ PLANE = {
     'a falling staircase': falling_stairs,
     'five clusters': clusters,
     'a grid': grid,
+}
+
+# Where four squares are asked for.
+SQUARES = {
+    'random': uniform,
+    'random in a disc': disc,
+    'rounded from a circle': rounded_circle,
+    'on a circle, repeated': cocircular,
+    'a convex polygon': polygon,
+    '100 boxes': lambda count: boxes(count, 100, 3000),
+    '20 boxes': lambda count: boxes(count, 20, 8000),
+    '4 boxes': lambda count: boxes(count, 4, 20000),
+    'five clusters': clusters,
+    'a falling staircase': falling_stairs,
+    'a cross': cross,
+    'two columns': two_columns,
+    'a frame': frame,
 }
 
 # The hull may have 128 corners at most where a k-gon is asked for.
