@@ -11,14 +11,15 @@ use Rattle.bounds_model.specs.Plane.{PlanePoint, point_at, squared_length}
 use Rattle.bounds_model.specs.AnnulusAnswer.{pair_sum, weighted_differences}
 use Rattle.min_annulus.specs.declared.pairs.Pair.{Pair}
 use Rattle.min_annulus.specs.declared.linear_forms.LinearForm.{LinearForm}
-use Rattle.min_annulus.specs.declared.extremes.Extremes.{Extremes}
+use Rattle.pair_weights.specs.declared.extremes.Extremes.{Extremes}
 use Rattle.min_annulus.specs.DifferenceVectors.{difference_of, IsDifference, dot}
 use Rattle.min_annulus.specs.LinearForms.{level, middle_form}
 use Rattle.min_annulus.specs.Pairs.{IsPair}
-use Rattle.min_annulus.specs.Extremes.{AreExtremes}
+use Rattle.pair_weights.specs.Extremes.{AreExtremes}
 use Rattle.min_annulus.specs.Lines.{AreCollinear}
 use Rattle.min_annulus.specs.Witnesses.{ShowSize, weighted}
-use Rattle.min_annulus.proofs.WeightedLists.{total_two, all_two, count_two, all_one, count_one}
+use Rattle.pair_weights.proofs.WeightedLists.{all_one}
+use Rattle.min_annulus.proofs.WeightedLists.{total_two, all_two, count_two, count_one}
 
 -- ---- by plain numbers: e = (ex, ey) is the whole difference, u = (ux, uy) the one to a point, and e - u the rest
 
@@ -250,8 +251,8 @@ two_show points first last e whole done left right line extremes hw w1 w2 hd d1 
 pub one_shows : (points : List PlanePoint) (f : LinearForm) (e : Extremes) (pair : Pair) → IsPair points pair → pair.first ≡ pair.second → e.high ≡ e.low → ShowSize points f e (weighted pair (pos 1))
 one_shows points f e pair is same flat = record {
   count = count_one pair (pos 1) (omega (arith, ints));
-  numbers = all_one (λ pair. (pair.first < length points) × (pair.second < length points)) pair (pos 1) (λ _. (is.first, is.second));
-  weights = all_one (λ pair. (pos 1 ≤ℤ pair.weight) × (pair.weight ≤ℤ pos (2 ^ 42))) pair (pos 1) (λ h. (h, omega (arith, ints)));
+  numbers = all_one (λ pair. (pair.first < length points) × (pair.second < length points)) pair.first pair.second (pos 1) (λ _. (is.first, is.second));
+  weights = all_one (λ pair. (pos 1 ≤ℤ pair.weight) × (pair.weight ≤ℤ pos (2 ^ 42))) pair.first pair.second (pos 1) (λ h. (h, omega (arith, ints)));
   weight_limit = omega (arith, ints);
   balanced_x = sum_is (λ p. p.x);
   balanced_y = sum_is (λ p. p.y);

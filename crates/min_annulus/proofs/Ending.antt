@@ -10,12 +10,12 @@ use Rattle.bounds_model.specs.AnnulusAnswer.{WeightedPair, pair_sum, weighted_di
 use Rattle.min_annulus.specs.declared.difference_vectors.DifferenceVector.{DifferenceVector}
 use Rattle.min_annulus.specs.declared.pairs.Pair.{Pair}
 use Rattle.min_annulus.specs.declared.linear_forms.LinearForm.{LinearForm}
-use Rattle.min_annulus.specs.declared.extremes.Extremes.{Extremes}
+use Rattle.pair_weights.specs.declared.extremes.Extremes.{Extremes}
 use Rattle.min_annulus.specs.declared.target_triangle.Triangle.{Triangle}
 use Rattle.min_annulus.specs.DifferenceVectors.{difference_of, IsDifference, IsAround, cross, area}
 use Rattle.min_annulus.specs.LinearForms.{level, rise, form_through}
 use Rattle.min_annulus.specs.Pairs.{IsPair}
-use Rattle.min_annulus.specs.Extremes.{AreExtremes}
+use Rattle.pair_weights.specs.Extremes.{AreExtremes}
 use Rattle.min_annulus.specs.Triangles.{IsTriangle}
 use Rattle.min_annulus.specs.Witnesses.{ShowSize, weighted}
 use Rattle.min_annulus.proofs.Target.{has_origin}

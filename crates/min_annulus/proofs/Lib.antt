@@ -8,7 +8,7 @@ pub mod WeightedLists
 pub mod Ending
 pub mod ExchangedTriangles
 pub mod MachineNumbers
-pub mod OneMore
+pub mod NumberedPoints
 pub mod Starting
 pub mod CollinearPoints
 pub mod Sorting

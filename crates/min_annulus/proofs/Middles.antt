@@ -6,11 +6,11 @@ use Rattle.bounds_model.specs.Numbers.{IsWithin, EachBelow}
 use Rattle.bounds_model.specs.Plane.{PlanePoint, PlaneRatio, point_at, origin, plane_limit, IsInPlane, IsBefore, IsLeastPoint, IsGreatestPoint}
 use Rattle.bounds_model.specs.Space.{SamePlace, flat_ratio}
 use Rattle.min_annulus.specs.declared.pairs.Pair.{Pair}
-use Rattle.min_annulus.specs.declared.extremes.Extremes.{Extremes}
+use Rattle.pair_weights.specs.declared.extremes.Extremes.{Extremes}
 use Rattle.min_annulus.specs.DifferenceVectors.{difference_of, cross}
 use Rattle.min_annulus.specs.LinearForms.{level, order_form, across_form, middle_form, centre_of}
 use Rattle.min_annulus.specs.Pairs.{IsPair}
-use Rattle.min_annulus.specs.Extremes.{AreExtremes}
+use Rattle.pair_weights.specs.Extremes.{AreExtremes}
 use Rattle.min_annulus.specs.Lines.{rank, HasMiddle}
 use Rattle.min_annulus.proofs.SameRecords.{same_place}
 use Rattle.min_annulus.proofs.Sorting.{rank_is, across_is, ends_pair}

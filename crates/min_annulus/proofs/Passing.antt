@@ -15,9 +15,9 @@ use Rattle.bounds_model.specs.Fractions.{Fraction, SameValue}
 use Rattle.bounds_model.specs.Ranges.{IsFraction, IsPlaneRatio, number_limit, point_limit}
 use Rattle.bounds_model.specs.AnnulusAnswer.{WeightedPair, AnnulusAnswer, PassesAnnulus, IsPairInRange, power, squared_radius_at, pair_sum, weighted_differences}
 use Rattle.min_annulus.specs.declared.linear_forms.LinearForm.{LinearForm}
-use Rattle.min_annulus.specs.declared.extremes.Extremes.{Extremes}
+use Rattle.pair_weights.specs.declared.extremes.Extremes.{Extremes}
 use Rattle.min_annulus.specs.LinearForms.{IsLinearForm, level, centre_of, squared_radius_of}
-use Rattle.min_annulus.specs.Extremes.{AreExtremes}
+use Rattle.pair_weights.specs.Extremes.{AreExtremes}
 use Rattle.min_annulus.specs.Witnesses.{ShowSize}
 use Rattle.min_annulus.proofs.LowestCentres.{denominator_le, numerators_le}
 

@@ -6,11 +6,11 @@ use Rattle.integers.proofs.Order.{le_antisymm_ℤ}
 use Rattle.bounds_model.specs.Plane.{PlanePoint, point_at}
 use Rattle.min_annulus.specs.declared.difference_vectors.DifferenceVector.{DifferenceVector}
 use Rattle.min_annulus.specs.declared.pairs.Pair.{Pair}
-use Rattle.min_annulus.specs.declared.extremes.Extremes.{Extremes}
+use Rattle.pair_weights.specs.declared.extremes.Extremes.{Extremes}
 use Rattle.min_annulus.specs.DifferenceVectors.{difference_of, cross, IsAhead}
 use Rattle.min_annulus.specs.LinearForms.{level, order_form, across_form}
 use Rattle.min_annulus.specs.Pairs.{IsPair}
-use Rattle.min_annulus.specs.Extremes.{AreExtremes}
+use Rattle.pair_weights.specs.Extremes.{AreExtremes}
 use Rattle.min_annulus.specs.Lines.{AreCollinear, rank}
 
 plain_rank : (s x y : ℤ) → pos 0 *ℤ s -ℤ (neg_ℤ (pos (2 ^ 19)) *ℤ x +ℤ neg_ℤ (pos 1) *ℤ y) ≡ pos (2 ^ 19) *ℤ x +ℤ y

@@ -1,18 +1,17 @@
 -- Weighted pairs that show the size of an annulus.
-use Rattle.std.specs.Prelude.{◌≡◌, ◌^◌, ◌<◌, zero, suc, ℤ, pos, negsuc, ◌-ℤ◌, ◌*ℤ◌, ◌≤ℤ◌, List, [], ◌∷◌, All, length}
+use Rattle.std.specs.Prelude.{◌≡◌, ◌^◌, ◌<◌, ℤ, pos, ◌-ℤ◌, ◌*ℤ◌, ◌≤ℤ◌, List, All, length}
 use Rattle.bounds_model.specs.Numbers.{HasCount}
 use Rattle.bounds_model.specs.Plane.{PlanePoint, squared_length}
 use Rattle.bounds_model.specs.AnnulusAnswer as model
 use Rattle.bounds_model.specs.AnnulusAnswer.{pair_sum, weighted_differences}
 use Rattle.min_annulus.specs.declared.pairs.Pair.{Pair}
 use Rattle.min_annulus.specs.declared.linear_forms.LinearForm.{LinearForm}
-use Rattle.min_annulus.specs.declared.extremes.Extremes.{Extremes}
+use Rattle.pair_weights.specs.declared.extremes.Extremes.{Extremes}
+use Rattle.pair_weights.specs.WeightedLists.{listed}
 
 -- a pair as it is listed with a weight: not at all, if there is none
 abbrev pub weighted : Pair → ℤ → List model.WeightedPair
-weighted pair (pos zero) = []
-weighted pair (pos (suc n)) = record { first = pair.first; second = pair.second; weight = pos (suc n) } ∷ []
-weighted pair (negsuc n) = []
+weighted pair w = listed pair.first pair.second w
 
 -- the pairs are balanced, and their weighted value is the size of the annulus
 pub record ShowSize (points : List PlanePoint) (form : LinearForm) (extremes : Extremes) (pairs : List model.WeightedPair) : Type 0 where

@@ -9,12 +9,12 @@ ghost use Rattle.pair_weights.specs.CommonFactors.{HaveLowestWeights};
 ghost use Rattle.answers.specs.Answers.{annulus_of, pair_of};
 ghost use Rattle.min_annulus.specs.Witnesses.{ShowSize};
 
-use crate::extremes::Extremes;
 use crate::linear_forms::LinearForm;
 use answers::{AnnulusAnswer, WeightedPair};
 use arrayvec::ArrayVec;
 use bounded_coords::Cloud2;
 use exact_fractions::Frac;
+use pair_weights::extremes::Extremes;
 use pair_weights::in_lowest_terms;
 
 /// The annulus around a form's centre, from its nearest to its farthest point, with pairs that show its size to be least.

@@ -6,13 +6,13 @@ ghost use Rattle.pair_weights.specs.CommonFactors.{HaveLowestWeights};
 ghost use Rattle.min_annulus.specs.Lines.{AreCollinear, IsMiddle};
 
 use crate::answering::annulus_around;
-use crate::extremes::Extremes;
+use crate::extremes::extremes_of;
 use crate::linear_forms::LinearForm;
 use crate::pairs::Pair;
-use crate::weighted_pairs::push;
 use answers::AnnulusAnswer;
 use arrayvec::ArrayVec;
 use bounded_coords::Cloud2;
+use pair_weights::push_weighted;
 
 /// The annulus around the middle between the least and the greatest of points on one line. The outer circle goes through these two,
 /// the inner one through a point nearest to the middle.
@@ -23,17 +23,28 @@ pub(crate) fn collinear_annulus(cloud: Cloud2<'_>, least: u32, greatest: u32) ->
     ensures weights { HaveLowestWeights result.pairs.items }
 {
     let form = LinearForm::around_middle(cloud.at(least), cloud.at(greatest));
-    let extremes = Extremes::of(cloud, form);
+    let extremes = extremes_of(cloud, form);
     let mut pairs = ArrayVec::new();
     if extremes.high == extremes.low {
-        push(&mut pairs, Pair::of(cloud, extremes.near, extremes.near), 1);
+        let same = Pair::of(cloud, extremes.near, extremes.near);
+        push_weighted(&mut pairs, same.first, same.second, 1);
         return annulus_around(cloud, form, extremes, &pairs);
     }
     let whole = Pair::of(cloud, greatest, least);
     let done = Pair::of(cloud, extremes.near, least);
     let left = Pair::of(cloud, least, extremes.near);
     let right = Pair::of(cloud, greatest, extremes.near);
-    push(&mut pairs, left, whole.difference.dot(right.difference));
-    push(&mut pairs, right, whole.difference.dot(done.difference));
+    push_weighted(
+        &mut pairs,
+        left.first,
+        left.second,
+        whole.difference.dot(right.difference),
+    );
+    push_weighted(
+        &mut pairs,
+        right.first,
+        right.second,
+        whole.difference.dot(done.difference),
+    );
     annulus_around(cloud, form, extremes, &pairs)
 }

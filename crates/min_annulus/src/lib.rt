@@ -5,7 +5,6 @@
 //! - `target_triangle`: three pairs around the target, on the way to the best annulus
 //! - `collinear`: points on one line
 //! - `answering`: the annulus as an answer
-//! - `weighted_pairs`: pairs, listed with weights
 //! - `pairs`: pairs of points by their numbers
 //! - `difference_vectors`: their differences, lifted by the differences of the squared lengths
 //! - `linear_forms`: linear forms on lifted points, such as the squared distance from a centre
@@ -22,6 +21,5 @@ mod linear_forms;
 mod pairs;
 mod smallest_annulus;
 mod target_triangle;
-mod weighted_pairs;
 
 pub use smallest_annulus::annulus;

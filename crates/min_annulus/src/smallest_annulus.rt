@@ -8,7 +8,7 @@ ghost use Rattle.min_annulus.specs.Triangles.{IsTriangle};
 
 use crate::answering::annulus_around;
 use crate::collinear::collinear_annulus;
-use crate::extremes::Extremes;
+use crate::extremes::extremes_of;
 use crate::linear_forms::LinearForm;
 use crate::pairs::Pair;
 use crate::target_triangle::Triangle;
@@ -23,9 +23,9 @@ pub fn annulus(cloud: Cloud2<'_>) -> AnnulusAnswer
     ensures middle { HasMiddle (points_of cloud.entry) result.center }
     ensures weights { HaveLowestWeights result.pairs.items }
 {
-    let order = Extremes::of(cloud, LinearForm::order());
+    let order = extremes_of(cloud, LinearForm::order());
     let whole = Pair::of(cloud, order.far, order.near);
-    let across = Extremes::of(cloud, LinearForm::across(whole.difference));
+    let across = extremes_of(cloud, LinearForm::across(whole.difference));
     if across.high == across.low {
         return collinear_annulus(cloud, order.near, order.far);
     }
@@ -42,7 +42,7 @@ fn settle(cloud: Cloud2<'_>, start: Triangle) -> AnnulusAnswer
     let mut triangle = start;
     'exchange: loop {
         let form = triangle.form();
-        let extremes = Extremes::of(cloud, form);
+        let extremes = extremes_of(cloud, form);
         let pair = Pair::of(cloud, extremes.far, extremes.near);
         // The form has one value at the three vertices, so any of them stands for its plane.
         if form.over(pair.difference) <= form.over(triangle.a.difference) {

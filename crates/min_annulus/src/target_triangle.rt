@@ -9,10 +9,10 @@ ghost use Rattle.answers.specs.Answers.{pair_of};
 
 use crate::linear_forms::LinearForm;
 use crate::pairs::Pair;
-use crate::weighted_pairs::push;
 use answers::WeightedPair;
 use arrayvec::ArrayVec;
 use bounded_coords::Cloud2;
+use pair_weights::push_weighted;
 
 /// Three pairs whose difference vectors turn left around the target, a point that no line through two difference vectors meets.
 #[derive(Clone, Copy)]
@@ -83,19 +83,22 @@ impl Triangle {
         ensures { map pair_of result.items ≡ origin_weights self }
     {
         let mut pairs = ArrayVec::new();
-        push(
+        push_weighted(
             &mut pairs,
-            self.a,
+            self.a.first,
+            self.a.second,
             self.b.difference.cross(self.c.difference),
         );
-        push(
+        push_weighted(
             &mut pairs,
-            self.b,
+            self.b.first,
+            self.b.second,
             self.c.difference.cross(self.a.difference),
         );
-        push(
+        push_weighted(
             &mut pairs,
-            self.c,
+            self.c.first,
+            self.c.second,
             self.a.difference.cross(self.b.difference),
         );
         pairs

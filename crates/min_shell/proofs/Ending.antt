@@ -13,13 +13,13 @@ use Rattle.min_shell.specs.declared.lifted_vectors.Normal.{Normal}
 use Rattle.min_shell.specs.declared.vertices.Vertex.{Vertex}
 use Rattle.min_shell.specs.declared.targets.Target.{Target}
 use Rattle.min_shell.specs.declared.linear_forms.LinearForm.{LinearForm}
-use Rattle.min_shell.specs.declared.extremes.Extremes.{Extremes}
+use Rattle.pair_weights.specs.declared.extremes.Extremes.{Extremes}
 use Rattle.min_shell.specs.declared.tetrahedra.Tetrahedron.{Tetrahedron}
 use Rattle.min_shell.specs.Vectors.{difference_of, IsVector, dot, volume}
 use Rattle.min_shell.specs.LinearForms.{level, rise}
 use Rattle.min_shell.specs.Targets.{IsTarget}
 use Rattle.min_shell.specs.Vertices.{IsPair, IsAside, IsSettled}
-use Rattle.min_shell.specs.Extremes.{AreExtremes}
+use Rattle.pair_weights.specs.Extremes.{AreExtremes}
 use Rattle.min_shell.specs.Tetrahedra.{IsTetrahedron, form_through, origin_weights}
 use Rattle.min_shell.specs.Witnesses.{ShowSize, weighted}
 use Rattle.min_shell.proofs.GeneralPosition.{has_origin, volume_size}

@@ -4,7 +4,7 @@ pub mod Exchange
 pub mod Measure
 pub mod SameRecords
 pub mod MachineNumbers
-pub mod OneMore
+pub mod NumberedPoints
 pub mod Starting
 pub mod WeightedLists
 pub mod Ending

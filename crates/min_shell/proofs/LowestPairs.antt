@@ -16,7 +16,7 @@ use Rattle.answers.specs.Answers.{pair_of}
 use Rattle.pair_weights.specs.CommonFactors.{HaveSomeWeight, AreInLowestTerms, times}
 use Rattle.pair_weights.proofs.LowestSums.{sum_times, differences_times, no_more, none_of, same_value, lighter}
 use Rattle.min_shell.specs.declared.linear_forms.LinearForm.{LinearForm}
-use Rattle.min_shell.specs.declared.extremes.Extremes.{Extremes}
+use Rattle.pair_weights.specs.declared.extremes.Extremes.{Extremes}
 use Rattle.min_shell.specs.Witnesses.{ShowSize}
 
 -- pairs in lowest terms show what the pairs do

@@ -17,9 +17,9 @@ use Rattle.bounds_model.specs.Ranges.{IsFraction, IsSpaceRatio, IsNumber, number
 use Rattle.bounds_model.specs.AnnulusAnswer.{WeightedPair, IsPairInRange, pair_sum}
 use Rattle.bounds_model.specs.ShellAnswer.{ShellAnswer, PassesShell, power, weighted_differences}
 use Rattle.min_shell.specs.declared.linear_forms.LinearForm.{LinearForm}
-use Rattle.min_shell.specs.declared.extremes.Extremes.{Extremes}
+use Rattle.pair_weights.specs.declared.extremes.Extremes.{Extremes}
 use Rattle.min_shell.specs.LinearForms.{IsLinearForm, level, centre_of}
-use Rattle.min_shell.specs.Extremes.{AreExtremes}
+use Rattle.pair_weights.specs.Extremes.{AreExtremes}
 use Rattle.min_shell.specs.Witnesses.{ShowSize}
 use Rattle.min_shell.proofs.LowestCentres.{denominator_le, numerators_le}
 

@@ -1,18 +1,17 @@
 -- Weighted pairs that show the size of a shell.
-use Rattle.std.specs.Prelude.{◌≡◌, ◌^◌, ◌<◌, zero, suc, ℤ, pos, negsuc, ◌-ℤ◌, ◌*ℤ◌, ◌≤ℤ◌, List, [], ◌∷◌, All, length}
+use Rattle.std.specs.Prelude.{◌≡◌, ◌^◌, ◌<◌, ℤ, pos, ◌-ℤ◌, ◌*ℤ◌, ◌≤ℤ◌, List, All, length}
 use Rattle.bounds_model.specs.Numbers.{HasCount}
 use Rattle.bounds_model.specs.Space.{SpacePoint, squared_length}
 use Rattle.bounds_model.specs.AnnulusAnswer.{WeightedPair, pair_sum}
 use Rattle.bounds_model.specs.ShellAnswer.{weighted_differences}
 use Rattle.min_shell.specs.declared.vertices.Vertex.{Vertex}
 use Rattle.min_shell.specs.declared.linear_forms.LinearForm.{LinearForm}
-use Rattle.min_shell.specs.declared.extremes.Extremes.{Extremes}
+use Rattle.pair_weights.specs.declared.extremes.Extremes.{Extremes}
+use Rattle.pair_weights.specs.WeightedLists.{listed}
 
 -- a vertex as it is listed with a weight: not at all, if there is none
 abbrev pub weighted : Vertex → ℤ → List WeightedPair
-weighted v (pos zero) = []
-weighted v (pos (suc n)) = record { first = v.first; second = v.second; weight = pos (suc n) } ∷ []
-weighted v (negsuc n) = []
+weighted v w = listed v.first v.second w
 
 -- the pairs are balanced, and their weighted value is the size of the shell
 pub record ShowSize (points : List SpacePoint) (form : LinearForm) (extremes : Extremes) (pairs : List WeightedPair) : Type 0 where

@@ -12,13 +12,13 @@ ghost use Rattle.pair_weights.specs.CommonFactors.{HaveLowestWeights};
 ghost use Rattle.min_shell.specs.Witnesses.{ShowSize};
 ghost use Rattle.min_shell.specs.OpenCoordinates.{IsZeroWhereDetermined};
 
-use crate::extremes::Extremes;
 use crate::lifted_vectors::squared_length;
 use crate::linear_forms::LinearForm;
 use answers::{ShellAnswer, WeightedPair};
 use arrayvec::ArrayVec;
 use bounded_coords::{Cloud3, Point3};
 use exact_fractions::{Frac, Homog3};
+use pair_weights::extremes::Extremes;
 use pair_weights::in_lowest_terms;
 
 /// The shell around a form's centre, from its nearest to its farthest point, with pairs that show its size to be least.

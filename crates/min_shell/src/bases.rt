@@ -8,7 +8,7 @@ ghost use Rattle.min_shell.specs.Vertices.{IsSettled};
 ghost use Rattle.min_shell.specs.Tetrahedra.{IsTetrahedron};
 ghost use Rattle.min_shell.specs.OpenCoordinates.{AreFlat, x_axis, y_axis, z_axis, KeepsAxes, KeepsDirections};
 
-use crate::extremes::Extremes;
+use crate::extremes::extremes_of;
 use crate::linear_forms::LinearForm;
 use crate::targets::Target;
 use crate::tetrahedra::Tetrahedron;
@@ -62,7 +62,7 @@ impl Basis {
         ensures remains { AreFlat (points_of cloud.entry) (cross self.second.vector self.third.vector) → result.third ≡ self.first }
     {
         let normal = self.second.vector.cross(self.third.vector);
-        let extremes = Extremes::of(cloud, LinearForm::of_normal(normal));
+        let extremes = extremes_of(cloud, LinearForm::of_normal(normal));
         if extremes.high == extremes.low {
             return Basis {
                 first: self.second,

@@ -11,7 +11,6 @@
 //! - `linear_forms`: linear forms on lifted points, such as the squared distance from a centre
 //! - `extremes`: the points where a form is greatest and least
 //! - `answering`: the shell around a form's centre
-//! - `weighted_pairs`: vertices, listed with weights
 //! - `laws`: why the walk to the best shell ends
 #![tactic(auto)]
 
@@ -25,6 +24,5 @@ mod smallest_shell;
 mod targets;
 mod tetrahedra;
 mod vertices;
-mod weighted_pairs;
 
 pub use smallest_shell::shell;

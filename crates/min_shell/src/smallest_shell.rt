@@ -9,7 +9,7 @@ ghost use Rattle.min_shell.specs.OpenCoordinates.{IsZeroWhereDetermined, KeepsDi
 
 use crate::answering::shell_around;
 use crate::bases::Basis;
-use crate::extremes::Extremes;
+use crate::extremes::extremes_of;
 use crate::targets::Target;
 use crate::tetrahedra::Tetrahedron;
 use crate::vertices::Vertex;
@@ -40,7 +40,7 @@ fn settle(cloud: Cloud3<'_>, target: Target, start: Tetrahedron) -> ShellAnswer
     let mut tetrahedron = start;
     'exchange: loop {
         let form = tetrahedron.form();
-        let extremes = Extremes::of(cloud, form);
+        let extremes = extremes_of(cloud, form);
         let pair = Vertex::of(cloud, extremes.far, extremes.near);
         if form.over(pair.vector) <= form.over(tetrahedron.d.vector) {
             return shell_around(cloud, form, extremes, &tetrahedron.weighted());

@@ -9,9 +9,9 @@ ghost use Rattle.answers.specs.Answers.{pair_of};
 use crate::linear_forms::LinearForm;
 use crate::targets::Target;
 use crate::vertices::Vertex;
-use crate::weighted_pairs::push;
 use answers::WeightedPair;
 use arrayvec::ArrayVec;
+use pair_weights::push_weighted;
 
 /// Four vertices with the target strictly inside. The last is a pair of points.
 #[derive(Clone, Copy)]
@@ -130,10 +130,10 @@ impl Tetrahedron {
     {
         let (a, b, c, d) = (self.a.vector, self.b.vector, self.c.vector, self.d.vector);
         let mut pairs = ArrayVec::new();
-        push(&mut pairs, self.a, b.cross(c).dot(d));
-        push(&mut pairs, self.b, a.cross(d).dot(c));
-        push(&mut pairs, self.c, a.cross(b).dot(d));
-        push(&mut pairs, self.d, a.cross(c).dot(b));
+        push_weighted(&mut pairs, self.a.first, self.a.second, b.cross(c).dot(d));
+        push_weighted(&mut pairs, self.b.first, self.b.second, a.cross(d).dot(c));
+        push_weighted(&mut pairs, self.c.first, self.c.second, a.cross(b).dot(d));
+        push_weighted(&mut pairs, self.d.first, self.d.second, a.cross(c).dot(b));
         pairs
     }
 }

@@ -1,2 +1,4 @@
 pub mod CommonFactors
 pub mod LowestSums
+pub mod OneMore
+pub mod WeightedLists

@@ -1,1 +1,3 @@
 pub mod CommonFactors
+pub mod Extremes
+pub mod WeightedLists

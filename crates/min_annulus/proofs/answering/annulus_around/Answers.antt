@@ -8,7 +8,7 @@ use Rattle.bounded_coords.specs.Clouds.{points_of}
 use Rattle.min_annulus.specs.LinearForms.{squared_radius_of}
 use Rattle.min_annulus.proofs.MachineNumbers.{cast_fits, cast_value, back64, back128}
 use Rattle.min_annulus.proofs.SameRecords.{same_fraction}
-use Rattle.min_annulus.proofs.OneMore.{point_is}
+use Rattle.min_annulus.proofs.NumberedPoints.{point_is}
 use Rattle.min_annulus.proofs.LowestPairs.{lowest_show, shown_weights}
 use Rattle.min_annulus.proofs.Passing.{annulus_passes, range_nonneg}
 use Rattle.min_annulus.proofs.answering.annulus_around.Goals as goal

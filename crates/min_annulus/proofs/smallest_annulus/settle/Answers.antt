@@ -10,14 +10,14 @@ use Rattle.min_annulus.proofs.smallest_annulus.settle.Goals as goal
 pub form-form-requires : goal.form-form-requires
 form-form-requires c = of_points (points_of c.args.cloud) c.exchange.triangle c.exchange.invariant
 
-pub of-extremes-requires : goal.of-extremes-requires
-of-extremes-requires c = c.form-form.ensures.form
+pub extremes_of-extremes-requires : goal.extremes_of-extremes-requires
+extremes_of-extremes-requires c = c.form-form.ensures.form
 
 pub of-pair-requires-clause-first : goal.of-pair-requires-clause-first
-of-pair-requires-clause-first c = c.of-extremes.ensures.extremes.far
+of-pair-requires-clause-first c = c.extremes_of-extremes.ensures.extremes.far
 
 pub of-pair-requires-clause-second : goal.of-pair-requires-clause-second
-of-pair-requires-clause-second c = c.of-extremes.ensures.extremes.near
+of-pair-requires-clause-second c = c.extremes_of-extremes.ensures.extremes.near
 
 pub over-requires-clause-form : goal.over-requires-clause-form
 over-requires-clause-form c = c.form-form.ensures.form
@@ -41,14 +41,14 @@ pub annulus_around-requires-clause-some : goal.annulus_around-requires-clause-so
 annulus_around-requires-clause-some c = some_area c.form-form.result c.exchange.triangle.a.difference c.exchange.triangle.b.difference c.exchange.triangle.c.difference c.form-form.ensures.value c.exchange.invariant.around
 
 pub annulus_around-requires-clause-extremes : goal.annulus_around-requires-clause-extremes
-annulus_around-requires-clause-extremes c = c.of-extremes.ensures.extremes
+annulus_around-requires-clause-extremes c = c.extremes_of-extremes.ensures.extremes
 
 pub annulus_around-requires-clause-pairs : goal.annulus_around-requires-clause-pairs
 annulus_around-requires-clause-pairs c =
     let fits : SFits w128 c.over.result = search rules in
     let fits_a : SFits w128 c.over-in-exchange.result = search rules in
-    settled (points_of c.args.cloud) c.exchange.triangle c.form-form.result c.of-extremes.result c.of-pair.result _ c.form-form.ensures.value c.exchange.invariant
-    c.of-extremes.ensures.extremes c.of-pair.ensures.pair c.of-pair.ensures.first c.of-pair.ensures.second
+    settled (points_of c.args.cloud) c.exchange.triangle c.form-form.result c.extremes_of-extremes.result c.of-pair.result _ c.form-form.ensures.value c.exchange.invariant
+    c.extremes_of-extremes.ensures.extremes c.of-pair.ensures.pair c.of-pair.ensures.first c.of-pair.ensures.second
     (at_most c.if-over.true (to_z-of_z fits) (to_z-of_z fits_a) c.over.ensures c.over-in-exchange.ensures)
     c.weighted.ensures
 

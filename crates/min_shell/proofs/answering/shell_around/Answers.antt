@@ -9,7 +9,7 @@ use Rattle.bounds_model.specs.ShellAnswer.{power}
 use Rattle.min_shell.specs.LinearForms.{centre_of}
 use Rattle.min_shell.proofs.MachineNumbers.{cast_fits, cast_value, cast_limit, back64, back128}
 use Rattle.min_shell.proofs.SameRecords.{same_fraction}
-use Rattle.min_shell.proofs.OneMore.{point_is}
+use Rattle.min_shell.proofs.NumberedPoints.{point_is}
 use Rattle.min_shell.proofs.LowestPairs.{lowest_show, shown_weights}
 use Rattle.min_shell.proofs.Passing.{shell_passes, range_nonneg, centre_sizes}
 use Rattle.min_shell.proofs.KeptDirections.{same_zero}

@@ -39,8 +39,8 @@ pub shell_around-requires-clause-pairs : goal.shell_around-requires-clause-pairs
 shell_around-requires-clause-pairs c =
     let fits : SFits w128 c.over.result = search rules in
     let fits_d : SFits w128 c.over-in-exchange.result = search rules in
-    settled (points_of c.args.cloud) c.args.target c.exchange.tetrahedron c.form-form.result c.of-extremes.result c.of-pair.result _ c.form-form.ensures.value c.requires.target c.exchange.invariant.0
-    c.of-extremes.ensures.extremes c.of-pair.ensures.pair c.of-pair.ensures.first c.of-pair.ensures.second
+    settled (points_of c.args.cloud) c.args.target c.exchange.tetrahedron c.form-form.result c.extremes_of-extremes.result c.of-pair.result _ c.form-form.ensures.value c.requires.target c.exchange.invariant.0
+    c.extremes_of-extremes.ensures.extremes c.of-pair.ensures.pair c.of-pair.ensures.first c.of-pair.ensures.second
     (at_most c.if-over.true (to_z-of_z fits) (to_z-of_z fits_d) c.over.ensures c.over-in-exchange.ensures)
     c.weighted.ensures
 

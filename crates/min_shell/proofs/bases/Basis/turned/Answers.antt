@@ -6,7 +6,7 @@ use Rattle.bounds_model.specs.Space.{point_at}
 use Rattle.bounded_coords.specs.Clouds.{points_of}
 use Rattle.min_shell.specs.Vectors.{cross}
 use Rattle.min_shell.specs.LinearForms.{level, normal_form}
-use Rattle.min_shell.specs.Extremes.{AreExtremes}
+use Rattle.pair_weights.specs.Extremes.{AreExtremes}
 use Rattle.min_shell.proofs.MachineNumbers.{same_bits, wide_of}
 use Rattle.min_shell.proofs.Starting.{basis_turned, first_aside, none_along, some_along, pair_flat, settled_first, settled_second}
 use Rattle.min_shell.proofs.bases.Basis.turned.Goals as goal
@@ -25,9 +25,9 @@ returns-then-extremes-clause-third c =
     let points = points_of c.args.cloud in
     let form_is = c.of_normal.ensures.value ∙ ap normal_form c.cross-normal.ensures.value in
     inr (first_aside points c.args.self c.requires
-    (none_along points (cross c.args.self.second.vector c.args.self.third.vector) c.of-extremes.result
-    (subst (λ f. AreExtremes (λ i. level f (point_at points i)) (length points) c.of-extremes.result) form_is c.of-extremes.ensures.extremes)
-    (same_bits c.of-extremes.ensures.extremes.high_size c.of-extremes.ensures.extremes.low_size c.if-extremes.true)))
+    (none_along points (cross c.args.self.second.vector c.args.self.third.vector) c.extremes_of-extremes.result
+    (subst (λ f. AreExtremes (λ i. level f (point_at points i)) (length points) c.extremes_of-extremes.result) form_is c.extremes_of-extremes.ensures.extremes)
+    (same_bits c.extremes_of-extremes.ensures.extremes.high_size c.extremes_of-extremes.ensures.extremes.low_size c.if-extremes.true)))
 
 pub returns-clause-basis : goal.returns-clause-basis
 returns-clause-basis c =
@@ -37,8 +37,8 @@ returns-clause-basis c =
       first = c.requires.second;
       second = c.requires.third;
       third = c.of.ensures.pair.within;
-      positive = some_along points (cross c.args.self.second.vector c.args.self.third.vector) c.of-extremes.result c.of.result
-          (subst (λ f. AreExtremes (λ i. level f (point_at points i)) (length points) c.of-extremes.result) form_is c.of-extremes.ensures.extremes)
+      positive = some_along points (cross c.args.self.second.vector c.args.self.third.vector) c.extremes_of-extremes.result c.of.result
+          (subst (λ f. AreExtremes (λ i. level f (point_at points i)) (length points) c.extremes_of-extremes.result) form_is c.extremes_of-extremes.ensures.extremes)
           c.of.ensures.pair c.of.ensures.first c.of.ensures.second (λ same. c.if-extremes.false (ap (of_z w128) same));
     }
 
@@ -54,7 +54,7 @@ returns-clause-remains c flat =
     let form_is = c.of_normal.ensures.value ∙ ap normal_form c.cross-normal.ensures.value in
     let normal = cross c.args.self.second.vector c.args.self.third.vector in
     absurd (clash (pair_flat points normal c.of.result flat c.of.ensures.pair)
-    (some_along points normal c.of-extremes.result c.of.result (subst (λ f. AreExtremes (λ i. level f (point_at points i)) (length points) c.of-extremes.result) form_is c.of-extremes.ensures.extremes)
+    (some_along points normal c.extremes_of-extremes.result c.of.result (subst (λ f. AreExtremes (λ i. level f (point_at points i)) (length points) c.extremes_of-extremes.result) form_is c.extremes_of-extremes.ensures.extremes)
     c.of.ensures.pair c.of.ensures.first c.of.ensures.second (λ same. c.if-extremes.false (ap (of_z w128) same))))
   where
     clash : {z : ℤ} → z ≡ pos 0 → pos 0 <ℤ z → ⊥

@@ -2,8 +2,8 @@ use Rattle.bounds_model.specs.Plane.{IsInPlane, point_at}
 use Rattle.bounds_model.specs.Numbers.{EachBelow}
 use Rattle.bounded_coords.specs.Clouds.{points_of}
 use Rattle.min_annulus.specs.LinearForms.{level}
-use Rattle.min_annulus.specs.Extremes.{AreExtremes}
-use Rattle.min_annulus.proofs.extremes.Extremes.of.Given as goal
+use Rattle.pair_weights.specs.Extremes.{AreExtremes}
+use Rattle.min_annulus.proofs.extremes.extremes_of.Given as goal
 
 abbrev pub invariant-loop-i : goal.invariant-loop-i
 invariant-loop-i l =
